@@ -1,46 +1,32 @@
 -- What the loaded rows tell of the history, and what a command's reply and delta make of it.
 use Rattle.std.proofs.Common.{◌≡◌, ℕ, ◌+◌, ◌==◌, List, [], ◌∷◌, ◌++◌, Option, Some, None, Bool, true, false, cond, not, ◌&&◌, refl, sym, ap, ◌∙◌, subst, ⊎_elim, length, map, arith}
+use Rattle.std.proofs.lemmas.{Bool.cases_Bool, Bool.Decides.nat_tests, Map.Text.is_eq-slice_cmp}
+use Rattle.std.{proofs.lemmas.Slice.Eq.bytes_eq-Decides, specs.BTreeMap.is_at, specs.Cmp.unsigned_tied}
+use Rattle.std.specs.{Cmp.Lexicographic.slice_cmp, List.AllByRecursion, List.list_all, Ordering.nat_cmp}
 use Rattle.std.specs.Prelude.{is_some, nat_lt, option_map, unwrap_or, MatchOption}
-use Rattle.std.specs.List.{AllByRecursion, list_all}
 use Rattle.std.specs.Str.{bytes_eq}
-use Rattle.std.specs.Cmp.Lexicographic.{slice_cmp}
-use Rattle.std.proofs.lemmas.Map.Text.{is_eq-slice_cmp}
-use Rattle.std.specs.Ordering.{nat_cmp}
-use Rattle.std.specs.Cmp.{unsigned_tied}
-use Rattle.std.specs.BTreeMap.{is_at}
-use Rattle.std.proofs.lemmas.Bool.{cases_Bool}
-use Rattle.std.proofs.lemmas.Bool.Decides.{nat_tests}
-use Rattle.std.proofs.lemmas.Slice.Eq.{bytes_eq-Decides}
-use Rattle.review_table.specs.Rows.{change_of, after_change}
 use Rattle.review_names.specs.Names.{administrators, registered_users}
+use Rattle.review_table.specs.Rows.{change_of, after_change}
+use Rattle.review_words.specs.History.{Entry, entry_of, account_count, name_of, name_taken, is_account, is_admin, is_listed, listed_members, file_text, is_project, project_count, bases, base_count, least_open}
 use Rattle.review_words.specs.declared.command.Command.{Command}
 use Rattle.review_words.specs.declared.command.Command.TheVariants.{CreateAccount, PutGroup, PutProject, RecordBase}
-use Rattle.review_words.specs.declared.reply.Reply.{Reply}
-use Rattle.review_words.specs.declared.reply.Reply.TheVariants.{Done, Refused}
-use Rattle.review_words.specs.declared.reply.Answer.TheVariants as made
 use Rattle.review_words.specs.declared.reply.Refusal.{Refusal}
 use Rattle.review_words.specs.declared.reply.Refusal.TheVariants.{UnknownCaller, NotAdmin, NoProject, NoAccount, CommitKnown, NameTaken, Limit}
-use Rattle.review_words.specs.History.{Entry, entry_of, account_count, name_of, name_taken, is_account, is_admin, is_listed, listed_members, file_text, is_project, project_count, bases, base_count, least_open}
-use Rattle.review_rows.specs.declared.rows.Rows.{Rows}
-use Rattle.review_rows.specs.declared.rows.Delta.{Delta}
-use Rattle.review_rows.specs.declared.rows.PlaceKey.{PlaceKey}
-use Rattle.review_rows.specs.Rows.{Key, AccountKey, MemberKey, FileKey, BaseKey, PartKey, OddKey, Row, AccountRow, FileRow, BaseRow, APart, Count, Projects, BasesOf, ClosedEpochs, member_cmp, account_change, member_change, edited, after, count_after, after_put, count_put, place_cmp, ChangesNothing}
-use Rattle.review_rows.proofs.Puts.{at_place_of, no_base, no_base_more, no_file, no_project}
-use Rattle.review_rows.specs.declared.rows.Want.TheVariants as want
-use Rattle.review_rows.specs.Known.{known, Agrees, IsKnown, is_so, is_there, members_of, at_place}
-use Rattle.review_rows.specs.Steps.{OfCommand, command_wants}
-use Rattle.review_rows.proofs.Asked.{all_asked}
-use Rattle.review_rows.specs.Answer.{IsAnswerBy, IsOutcome, first_refusal, refused_by, checks}
-use Rattle.review_rows.specs.Changes.{Reading, is_known, own_of, placed}
-use Rattle.review_rows.specs.declared.rows.StoredFile.{StoredFile}
-use Rattle.review_rows.proofs.Lined.{there_is}
+use Rattle.review_words.specs.declared.reply.Reply.{Reply, TheVariants.Done, TheVariants.Refused}
 use Rattle.review_project.specs.Reading.{named_parent}
-use Rattle.review_rows.specs.Files.{File}
+use Rattle.review_rows.proofs.{Asked.all_asked, Lined.there_is, Placing.placed_more, Placing.place_is_free}
+use Rattle.review_rows.proofs.Puts.{at_place_of, no_base, no_base_more, no_file, no_project}
+use Rattle.review_rows.specs.Answer.{IsAnswerBy, IsOutcome, first_refusal, refused_by, checks}
+use Rattle.review_rows.specs.{Changes.Reading, Changes.is_known, Changes.own_of, Changes.placed, Files.File}
+use Rattle.review_rows.specs.Known.{known, Agrees, IsKnown, is_so, is_there, members_of, at_place}
+use Rattle.review_rows.specs.Rows.{Key, AccountKey, MemberKey, FileKey, BaseKey, PartKey, OddKey, Row, AccountRow, FileRow, BaseRow, APart, Count, Projects, BasesOf, ClosedEpochs, member_cmp, account_change, member_change, edited, after, count_after, after_put, count_put, place_cmp, ChangesNothing}
+use Rattle.review_rows.specs.Steps.{OfCommand, command_wants}
 use Rattle.review_rows.specs.View.{view, fact, counted, AreEnough, IsDecided}
+use Rattle.review_rows.specs.declared.rows.{Delta.Delta, PlaceKey.PlaceKey, Rows.Rows, StoredFile.StoredFile}
+use Rattle.review_account_decisions.proofs.{Members.members_after, Told.account_told, Told.member_told, Told.held_told}
 use Rattle.review_account_decisions.specs.Decisions.{IsEmpty, added, dropped, is_held, member_of}
-use Rattle.review_account_decisions.proofs.Members.{members_after}
-use Rattle.review_account_decisions.proofs.Told.{account_told, member_told, held_told}
-use Rattle.review_rows.proofs.Placing.{placed_more, place_is_free}
+use Rattle.review_words.specs.declared.reply.Answer.TheVariants as made
+use Rattle.review_rows.specs.declared.rows.Want.TheVariants as want
 
 -- all that a command asks beside the caller was asked
 pub asked_beside : {reading : Reading} {file : Option File} (h : List Entry) (caller : ℕ) (command : Command) (rows : Rows) → AreEnough reading h caller (OfCommand command) file rows → AllByRecursion (IsKnown rows) (command_wants command)

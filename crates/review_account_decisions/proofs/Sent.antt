@@ -2,16 +2,13 @@
 use Rattle.std.proofs.Common.{◌≡◌, ℕ, List, Some, ◌||◌, ap, ◌∙◌}
 use Rattle.std.specs.Prelude.{is_some}
 use Rattle.review_words.specs.History.{Entry}
-use Rattle.review_rows.specs.Changes.{Reading, is_known, is_sent}
-use Rattle.review_rows.specs.Known.{known, IsKnown, holder_of}
-use Rattle.review_rows.specs.View.{view}
-use Rattle.review_rows.specs.declared.rows.Base.{Base}
-use Rattle.review_rows.specs.declared.rows.Rows.{Rows}
-use Rattle.review_rows.specs.declared.rows.Want.TheVariants as want
-use Rattle.review_rows.proofs.Asked.{found_of}
-use Rattle.review_account_decisions.proofs.Told.{Agree, base_told}
+use Rattle.review_rows.{proofs.Asked.found_of, specs.Changes.Reading, specs.Changes.is_known, specs.Changes.is_sent}
+use Rattle.review_rows.specs.{Known.known, Known.IsKnown, Known.holder_of, View.view}
+use Rattle.review_rows.specs.declared.rows.{Base.Base, Rows.Rows}
 use Rattle.review_change_laws.proofs.Sent.{sent_is}
+use Rattle.review_account_decisions.proofs.Told.{Agree, base_told}
 use Rattle.review_account_decisions.specs.Commits.{known_in}
+use Rattle.review_rows.specs.declared.rows.Want.TheVariants as want
 
 sent_told : (reading : Reading) (h : List Entry) (rows : Rows) (base : Base) → Agree reading h rows → IsKnown rows (want.ChangeOf base) →
     is_some (holder_of (known rows (want.ChangeOf base))) ≡ is_sent reading h base.project base.branch base.commit

@@ -1,15 +1,10 @@
 //! Decisions on branches.
 ghost use Rattle.std.specs.Prelude.{◌≡◌, List, Option, IfOk, IfErr, true, None};
-ghost use Rattle.review_words.specs.Texts.{IsStored};
 ghost use Rattle.review_words.specs.History.{Entry, is_account};
-ghost use Rattle.review_words.specs.declared.command.Command.TheVariants.{RecordBase};
+ghost use Rattle.review_words.specs.{Texts.IsStored, declared.command.Command.TheVariants.RecordBase};
 ghost use Rattle.review_words.specs.declared.reply.NotTaken.TheVariants.{Memory};
-ghost use Rattle.review_rows.specs.Rows.{HasNoEffect};
-ghost use Rattle.review_rows.specs.Steps.{OfCommand};
-ghost use Rattle.review_rows.specs.Changes.{Reading};
-ghost use Rattle.review_rows.specs.Files.{File};
-ghost use Rattle.review_rows.specs.View.{AreEnough, IsDecided};
-ghost use Rattle.review_rows.specs.Decisions.{NamesEachOnce};
+ghost use Rattle.review_rows.specs.{Changes.Reading, Decisions.NamesEachOnce, Files.File, Rows.HasNoEffect};
+ghost use Rattle.review_rows.specs.{Steps.OfCommand, View.AreEnough, View.IsDecided};
 
 use crate::callers::is_admin;
 use crate::commits::is_known;

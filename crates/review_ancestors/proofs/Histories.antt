@@ -1,37 +1,28 @@
 -- The files of every history are sound, and each request leaves effective files what they had of labels and values.
 use Rattle.std.proofs.Common.{◌≡◌, ◌∙◌, ℕ, ◌<◌, List, [], ◌∷◌, Option, Some, None, true, false, cond, not, refl, sym, ap, subst, arith}
-use Rattle.std.specs.Prelude.{◌&&◌, ◌||◌, nat_lt, is_some, is_none}
-use Rattle.std.proofs.lemmas.Bool.Decides.{nat_tests}
+use Rattle.std.proofs.lemmas.{Bool.Decides.nat_tests, Slice.Eq.bytes_eq-Decides}
 use Rattle.std.specs.Option.{option_map_or}
-use Rattle.std.specs.Str.{bytes_eq}
-use Rattle.std.proofs.lemmas.Slice.Eq.{bytes_eq-Decides}
+use Rattle.std.specs.{Prelude.◌&&◌, Prelude.◌||◌, Prelude.nat_lt, Prelude.is_some, Prelude.is_none, Str.bytes_eq}
 use Rattle.review_words.specs.History.{Entry, accepted, if_done, is_project}
 use Rattle.review_words.specs.declared.command.Command.{Command}
 use Rattle.review_words.specs.declared.command.Command.TheVariants.{CreateAccount, PutGroup, PutProject, RecordBase, CreateChange, OnChange, Submit, CloseEpoch}
 use Rattle.review_words.specs.declared.reply.Reply.{Reply}
 use Rattle.review_words.specs.declared.reply.Reply.TheVariants.{Done, Refused, IdentityReused, EpochClosed, NotTaken}
-use Rattle.review_project.specs.Expressions.{names_unknown_label}
-use Rattle.review_project.specs.Inherited.{inherit, inherits_unknown_label}
+use Rattle.review_project.specs.{Expressions.names_unknown_label, Inherited.inherit, Inherited.inherits_unknown_label}
 use Rattle.review_project.specs.Reading.{IsRead, named_parent}
-use Rattle.review_project.specs.Rights.{covers}
-use Rattle.review_project.specs.Trees.{ExprTree, file_trees}
-use Rattle.review_project.specs.View.{FileView}
+use Rattle.review_project.specs.{Rights.covers, Trees.ExprTree, Trees.file_trees, View.FileView}
 use Rattle.review_file.proofs.SoundLabels.{known_labels}
 use Rattle.review_inheritance.proofs.Alike.{covers_alike, inherit_alike, inherits_alike}
-use Rattle.review_inheritance.proofs.Covered.{covers_itself}
-use Rattle.review_inheritance.proofs.Trees.{OneFile}
-use Rattle.review_rows.specs.declared.rows.StoredFile.{StoredFile}
+use Rattle.review_inheritance.proofs.{Covered.covers_itself, Trees.OneFile}
+use Rattle.review_rows.proofs.{Lined.there_is, Readings.IsDoneBy, Readings.done_of}
 use Rattle.review_rows.specs.Answer.{IsHistory, file_with, is_same_parent}
 use Rattle.review_rows.specs.Changes.{IsReadRight, Reading, Reads, depth, file_of, own_of, placed}
-use Rattle.review_rows.specs.Files.{File}
-use Rattle.review_rows.specs.Lines.{most_depth}
-use Rattle.review_rows.proofs.Readings.{IsDoneBy, done_of}
-use Rattle.review_ancestors.specs.Ends.{ends, ends_above}
+use Rattle.review_rows.specs.{Files.File, Lines.most_depth, declared.rows.StoredFile.StoredFile}
 use Rattle.review_ancestors.proofs.Accepted.{IsAcceptable, acceptable, parent_named}
 use Rattle.review_ancestors.proofs.Ending.{Files, begins, ends_short}
 use Rattle.review_ancestors.proofs.Growing.{IsPutAgain, OwnKnown, eff, eff_known, eff_ordered}
 use Rattle.review_ancestors.proofs.Kept.{AreSoundFiles, Grow, IsFirst, files_put, first_grows, first_sound, again_grows, again_sound, eff_same, own_after, parent_ends, putting}
-use Rattle.review_rows.proofs.Lined.{there_is}
+use Rattle.review_ancestors.specs.Ends.{ends, ends_above}
 
 -- two descriptions of what projects have are one
 same_files : (reading : Reading) (own new : Files) → ((q : List ℕ) → new q ≡ own q) → new ≡ own

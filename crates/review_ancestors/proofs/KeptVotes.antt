@@ -1,22 +1,17 @@
 -- Effective files keep what they had, over many requests.
 use Rattle.std.proofs.Common.{◌≡◌, ℕ, List, [], ◌∷◌, ◌++◌, Some, None, Bool, true, false, refl, sym, ap, ◌∙◌}
-use Rattle.std.specs.Prelude.{◌&&◌}
-use Rattle.std.specs.List.{list_any}
-use Rattle.std.specs.Option.{option_map_or}
-use Rattle.std.specs.Ordering.{int_eq}
+use Rattle.std.specs.{List.list_any, Option.option_map_or, Ordering.int_eq, Prelude.◌&&◌}
 use Rattle.review_words.specs.History.{Entry, accepted, file_text, is_project}
 use Rattle.review_words.specs.declared.changes.Given.{Given}
 use Rattle.review_project.specs.Rights.{covers}
 use Rattle.review_inheritance.proofs.Covered.{OrderedLabels, covers_found, covers_itself, covers_through, label_name, values_through}
-use Rattle.review_inheritance.proofs.Named.{named}
-use Rattle.review_inheritance.proofs.Trees.{OneFile}
+use Rattle.review_inheritance.proofs.{Named.named, Trees.OneFile}
 use Rattle.review_rows.specs.Answer.{IsHistory, is_value_of}
 use Rattle.review_rows.specs.Changes.{Reading, Reads, file_of, own_of}
-use Rattle.review_rows.specs.Files.{File}
-use Rattle.review_rows.specs.Lines.{most_depth}
+use Rattle.review_rows.specs.{Files.File, Lines.most_depth}
+use Rattle.review_change_laws.proofs.Projects.{text_stays}
 use Rattle.review_ancestors.proofs.Growing.{eff_ordered}
 use Rattle.review_ancestors.proofs.Histories.{files_grow, lines_end, sound_files}
-use Rattle.review_change_laws.proofs.Projects.{text_stays}
 
 -- the labels of an effective file are in order
 pub file_ordered : OneFile → (reading : Reading) (h : List Entry) → IsHistory h → Reads reading h → (project : List ℕ) → is_project h project ≡ true → OrderedLabels (file_of reading h project).labels

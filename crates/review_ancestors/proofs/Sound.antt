@@ -3,13 +3,11 @@ use Rattle.std.proofs.Common.{◌≡◌, ℕ, List, ◌++◌, true, sym, subst}
 use Rattle.review_words.specs.History.{Entry, is_project}
 use Rattle.review_project.specs.Rights.{covers}
 use Rattle.review_inheritance.proofs.Trees.{OneFile}
-use Rattle.review_rows.specs.Answer.{IsHistory}
+use Rattle.review_rows.{proofs.Readings.reading_of, specs.Answer.IsHistory}
 use Rattle.review_rows.specs.Changes.{Reading, Reads, file_of}
-use Rattle.review_rows.proofs.Readings.{reading_of}
 use Rattle.review_ancestors.proofs.Histories.{labels_known, lines_end}
+use Rattle.review_ancestors.proofs.{KeptVotes.labels_stay, Standing.votes_stand}
 use Rattle.review_ancestors.specs.Sound.{AreSoundProjects}
-use Rattle.review_ancestors.proofs.KeptVotes.{labels_stay}
-use Rattle.review_ancestors.proofs.Standing.{votes_stand}
 
 -- what was kept, of a history that is these requests after those
 kept_of : OneFile → (h : List Entry) → IsHistory h → (reading : Reading) → Reads reading h → (later before : List Entry) → h ≡ later ++ before → (project : List ℕ) → is_project before project ≡ true →

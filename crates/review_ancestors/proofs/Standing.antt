@@ -1,24 +1,16 @@
 -- Each vote is on a label of the file, with a value of it.
 use Rattle.std.proofs.Common.{◌≡◌, ℕ, ℤ, pos, ◌+◌, ◌==◌, ◌&&◌, List, [], ◌∷◌, ◌++◌, length, Option, Some, None, Bool, true, false, cond, refl, ap, ◌∙◌, subst, eqb-true}
-use Rattle.std.specs.Prelude.{option_map}
-use Rattle.std.specs.List.{AllByRecursion}
-use Rattle.std.specs.Str.{bytes_eq}
 use Rattle.std.proofs.lemmas.Slice.Eq.{bytes_eq-Decides}
+use Rattle.std.specs.{List.AllByRecursion, Prelude.option_map, Str.bytes_eq}
 use Rattle.review_words.specs.History.{Entry, accepted, if_done, is_project}
-use Rattle.review_words.specs.declared.changes.Given.{Given}
-use Rattle.review_words.specs.declared.changes.Review.{Review as ReviewOf}
-use Rattle.review_words.specs.declared.command.ChangeCommand.{ChangeCommand}
-use Rattle.review_words.specs.declared.command.ChangeCommand.TheVariants as on
-use Rattle.review_words.specs.declared.command.Command.{Command}
+use Rattle.review_words.specs.declared.changes.{Given.Given, Review.Review as ReviewOf}
+use Rattle.review_words.specs.declared.command.{ChangeCommand.ChangeCommand, Command.Command}
 use Rattle.review_words.specs.declared.command.Command.TheVariants.{CreateAccount, PutGroup, PutProject, RecordBase, CreateChange, OnChange, Submit, CloseEpoch}
-use Rattle.review_words.specs.declared.reply.Answer.{Answer}
-use Rattle.review_words.specs.declared.reply.Refusal.{Refusal}
-use Rattle.review_words.specs.declared.reply.Reply.{Reply}
+use Rattle.review_words.specs.declared.reply.{Answer.Answer, Refusal.Refusal, Reply.Reply}
 use Rattle.review_words.specs.declared.reply.Reply.TheVariants.{Done, Refused, IdentityReused, EpochClosed, NotTaken}
-use Rattle.review_inheritance.proofs.Named.{all_true}
-use Rattle.review_inheritance.proofs.Trees.{OneFile}
 use Rattle.review_changes.specs.Change.{Change, Setting, after, begun, copying, current, given_or, reviewed, vote_by}
 use Rattle.review_changes.specs.Votes.{voted}
+use Rattle.review_inheritance.proofs.{Named.all_true, Trees.OneFile}
 use Rattle.review_rows.proofs.Readings.{IsDoneBy, done_of}
 use Rattle.review_rows.specs.Answer.{IsAnswerBy, IsHistory, given_checks, is_value_of, request_checks}
 use Rattle.review_rows.specs.Changes.{Reading, Reads, change, change_by, change_count, file_of, setting_of, submitted}
@@ -26,9 +18,9 @@ use Rattle.review_rows.specs.Files.{File}
 use Rattle.review_change_laws.proofs.Joining.{joining_keeps}
 use Rattle.review_change_laws.proofs.Projects.{has_project, project_stays, text_stays}
 use Rattle.review_change_laws.proofs.Sound.{Passes, checks_pass, done_passes}
-use Rattle.review_ancestors.proofs.Histories.{files_grow}
+use Rattle.review_ancestors.proofs.{Histories.files_grow, KeptVotes.file_ordered, KeptVotes.value_stays}
 use Rattle.review_ancestors.specs.Sound.{AreOfLabels}
-use Rattle.review_ancestors.proofs.KeptVotes.{file_ordered, value_stays}
+use Rattle.review_words.specs.declared.command.ChangeCommand.TheVariants as on
 
 -- a vote is on a label of a file, with a value of it, where there is one
 abbrev IsOf : File → List ℕ → ℤ → Type 0

@@ -1,14 +1,11 @@
 -- What may be relied on of projects and of votes.
 use Rattle.std.specs.Prelude.{◌≡◌, ◌++◌, ℕ, List, Some, true, false}
 use Rattle.review_words.specs.History.{Entry, is_project}
-use Rattle.review_project.specs.Expressions.{names_unknown_label}
-use Rattle.review_project.specs.Rights.{covers}
-use Rattle.review_changes.specs.Change.{Change}
-use Rattle.review_changes.specs.Votes.{voted}
+use Rattle.review_project.specs.{Expressions.names_unknown_label, Rights.covers}
+use Rattle.review_changes.specs.{Change.Change, Votes.voted}
 use Rattle.review_rows.specs.Answer.{is_value_of}
 use Rattle.review_rows.specs.Changes.{Reading, Reads, change, file_of, own_of}
-use Rattle.review_rows.specs.Files.{File}
-use Rattle.review_rows.specs.Lines.{most_depth}
+use Rattle.review_rows.specs.{Files.File, Lines.most_depth}
 use Rattle.review_ancestors.specs.Ends.{ends}
 
 -- Each vote that stands on a change is on a label of the file, with a value of it.

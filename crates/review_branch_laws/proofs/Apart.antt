@@ -1,25 +1,20 @@
 -- Patch sets in one branch have commits of their own, which are no bases of it.
 use Rattle.std.proofs.Common.{◌≡◌, ℕ, List, [], ◌∷◌, Option, Some, None, Bool, true, false, ◌&&◌, ◌||◌, refl, sym, ap, ◌∙◌, ⊎_elim, ◌⊎◌, inl, inr}
-use Rattle.std.specs.List.{list_any}
-use Rattle.std.specs.Str.{bytes_eq}
-use Rattle.std.proofs.lemmas.Bool.{cases_Bool, and_parts}
-use Rattle.std.proofs.lemmas.Slice.Eq.{bytes_eq-Decides}
+use Rattle.std.proofs.lemmas.{Bool.cases_Bool, Bool.and_parts, Slice.Eq.bytes_eq-Decides}
+use Rattle.std.specs.{List.list_any, Str.bytes_eq}
 use Rattle.review_words.specs.History.{Entry, accepted, bases, if_done, is_account, is_base, with_base}
 use Rattle.review_words.specs.declared.command.Command.{Command}
 use Rattle.review_words.specs.declared.command.Command.TheVariants.{CreateAccount, PutGroup, PutProject, RecordBase, CreateChange, OnChange, Submit, CloseEpoch}
-use Rattle.review_words.specs.declared.reply.Answer.{Answer}
-use Rattle.review_words.specs.declared.reply.Refusal.TheVariants.{UnknownCaller}
-use Rattle.review_words.specs.declared.reply.Reply.{Reply}
+use Rattle.review_words.specs.declared.reply.{Answer.Answer, Refusal.TheVariants.UnknownCaller, Reply.Reply}
 use Rattle.review_words.specs.declared.reply.Reply.TheVariants.{Done, Refused, IdentityReused, EpochClosed, NotTaken}
 use Rattle.review_changes.specs.declared.rows.PatchRow.{PatchRow}
 use Rattle.review_rows.proofs.Readings.{IsDoneBy, done_of}
 use Rattle.review_rows.specs.Answer.{IsAnswerBy, IsHistory, checks}
 use Rattle.review_rows.specs.Changes.{Reading, Reads, change, is_known, is_sent}
 use Rattle.review_change_laws.proofs.Sound.{all_pass, done_passes}
-use Rattle.review_branch_laws.specs.Patches.{HasPatch}
-use Rattle.review_branch_laws.proofs.Passing.{or_true}
-use Rattle.review_branch_laws.proofs.Patches.{known_parts, one_more_base, patch_sent}
+use Rattle.review_branch_laws.proofs.{Passing.or_true, Patches.known_parts, Patches.one_more_base, Patches.patch_sent}
 use Rattle.review_branch_laws.proofs.Sending.{Came, IsSentNow, came, from_not, place_sent}
+use Rattle.review_branch_laws.specs.Patches.{HasPatch}
 
 -- what is sent is known
 patch_known : (reading : Reading) (h : List Entry) (project branch : List ℕ) (n k : ℕ) (p : PatchRow) → HasPatch project branch k p (change reading h n) → is_known reading h project branch p.commit ≡ true

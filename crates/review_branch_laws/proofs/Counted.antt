@@ -1,21 +1,17 @@
 -- How many changes a history has at most, and the numbers of changes.
 use Rattle.std.proofs.Common.{◌≡◌, ℕ, ◌<◌, ◌≤◌, ◌∷◌, List, [], Some, sym, ap, ◌∙◌, arith}
-use Rattle.std.specs.Prelude.{is_some, nat_le}
 use Rattle.std.proofs.lemmas.Bool.{and_parts, ltb-true, leb-true}
+use Rattle.std.specs.Prelude.{is_some, nat_le}
 use Rattle.review_names.specs.Forms.{most_changes}
-use Rattle.review_words.specs.declared.command.Command.{Command}
+use Rattle.review_words.specs.{History.Entry, History.if_done, History.is_account, declared.command.Command.Command}
 use Rattle.review_words.specs.declared.command.Command.TheVariants.{CreateAccount, PutGroup, PutProject, RecordBase, CloseEpoch, CreateChange, OnChange, Submit}
-use Rattle.review_words.specs.declared.reply.Answer.{Answer}
-use Rattle.review_words.specs.declared.reply.Refusal.TheVariants.{UnknownCaller}
-use Rattle.review_words.specs.declared.reply.Reply.{Reply}
+use Rattle.review_words.specs.declared.reply.{Answer.Answer, Refusal.TheVariants.UnknownCaller, Reply.Reply}
 use Rattle.review_words.specs.declared.reply.Reply.TheVariants.{Done, Refused, IdentityReused, EpochClosed, NotTaken}
-use Rattle.review_words.specs.History.{Entry, if_done, is_account}
 use Rattle.review_changes.specs.Change.{Change}
 use Rattle.review_rows.proofs.Readings.{IsDoneBy, done_of}
 use Rattle.review_rows.specs.Answer.{IsAnswerBy, IsHistory, checks}
 use Rattle.review_rows.specs.Changes.{Reading, Reads, change, change_count, change_counted}
-use Rattle.review_change_laws.proofs.Sound.{all_pass, done_passes}
-use Rattle.review_change_laws.proofs.There.{change_there}
+use Rattle.review_change_laws.proofs.{Sound.all_pass, Sound.done_passes, There.change_there}
 
 made : (reading : Reading) (h : List Entry) (caller : ℕ) (command : Command) (a : Answer) → IsAnswerBy reading h caller command (Done a) → change_count h ≤ most_changes →
     change_counted (Some command) (change_count h) ≤ most_changes

@@ -1,15 +1,13 @@
 -- Each change has a current patch set.
 use Rattle.std.proofs.Common.{◌≡◌, ℕ, ◌+◌, ◌==◌, List, [], ◌∷◌, length, Option, Some, None, Bool, true, false, cond, refl, subst}
 use Rattle.std.specs.Prelude.{option_map}
-use Rattle.review_words.specs.History.{Entry, accepted}
-use Rattle.review_words.specs.declared.command.Command.{Command}
+use Rattle.review_words.specs.{History.Entry, History.accepted, declared.command.Command.Command}
 use Rattle.review_words.specs.declared.command.Command.TheVariants.{CreateAccount, PutGroup, PutProject, RecordBase, CloseEpoch, CreateChange, OnChange, Submit}
 use Rattle.review_changes.specs.Change.{Change, after, begun, current_patch, of_number}
 use Rattle.review_changes.specs.declared.rows.PatchRow.{PatchRow}
 use Rattle.review_rows.specs.Changes.{Reading, change, change_by, change_count, setting_of, submitted}
 use Rattle.review_change_laws.proofs.Joining.{joining_keeps}
-use Rattle.review_branch_laws.proofs.Numbers.{last_of, number_within}
-use Rattle.review_branch_laws.proofs.Patches.{patches_kept}
+use Rattle.review_branch_laws.proofs.{Numbers.last_of, Numbers.number_within, Patches.patches_kept}
 
 -- it has a first patch set
 abbrev pub HasFirst : Change → Type 0

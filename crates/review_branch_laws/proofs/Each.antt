@@ -1,22 +1,17 @@
 -- What holds of every change of a history.
 use Rattle.std.proofs.Common.{◌≡◌, ℕ, ◌+◌, ◌==◌, List, [], ◌∷◌, length, Option, Some, None, Bool, true, false, cond, refl, sym, ap, subst, ◌∙◌, eqb-true}
-use Rattle.std.specs.Prelude.{option_map}
-use Rattle.std.specs.List.{AllByRecursion}
-use Rattle.review_words.specs.History.{Entry, accepted, if_done}
-use Rattle.review_words.specs.declared.changes.NewChange.{NewChange}
-use Rattle.review_words.specs.declared.command.ChangeCommand.{ChangeCommand}
-use Rattle.review_words.specs.declared.command.Command.{Command}
+use Rattle.std.specs.{List.AllByRecursion, Prelude.option_map}
+use Rattle.review_words.specs.{History.Entry, History.accepted, History.if_done, declared.changes.NewChange.NewChange}
+use Rattle.review_words.specs.declared.command.{ChangeCommand.ChangeCommand, Command.Command}
 use Rattle.review_words.specs.declared.command.Command.TheVariants.{CreateAccount, PutGroup, PutProject, RecordBase, CloseEpoch, CreateChange, OnChange, Submit}
-use Rattle.review_words.specs.declared.reply.Answer.{Answer}
-use Rattle.review_words.specs.declared.reply.Reply.{Reply}
+use Rattle.review_words.specs.declared.reply.{Answer.Answer, Reply.Reply}
 use Rattle.review_words.specs.declared.reply.Reply.TheVariants.{Done, Refused, IdentityReused, EpochClosed, NotTaken}
 use Rattle.review_changes.specs.Change.{Change, after, begun, joined_at}
 use Rattle.review_rows.proofs.Readings.{IsDoneBy, done_of}
 use Rattle.review_rows.specs.Answer.{IsAnswerBy, IsHistory, request_checks}
 use Rattle.review_rows.specs.Changes.{Reading, Reads, change, change_by, change_count, setting_of, submitted}
 use Rattle.review_rows.specs.Submits.{is_merged}
-use Rattle.review_change_laws.proofs.Joining.{joining_keeps}
-use Rattle.review_change_laws.proofs.Sound.{Passes, checks_pass, done_passes}
+use Rattle.review_change_laws.proofs.{Joining.joining_keeps, Sound.Passes, Sound.checks_pass, Sound.done_passes}
 use Rattle.review_branch_laws.proofs.Placed.{merged_stays}
 
 -- It holds of a new change, and stays where a change joins its branch, and where a request changes it whose checks pass.

@@ -1,14 +1,11 @@
 -- The patch set that has a commit, where one has.
 use Rattle.std.proofs.Common.{◌≡◌, ℕ, zero, suc, ◌+◌, ◌<◌, ◌≤◌, List, [], ◌∷◌, Option, Some, None, true, false, cond, refl, sym, ap, subst, ◌∙◌, ⊎_elim, arith}
-use Rattle.std.specs.Prelude.{slice_get}
-use Rattle.std.specs.Str.{bytes_eq}
-use Rattle.std.proofs.lemmas.Bool.{cases_Bool, cases_lt}
-use Rattle.std.proofs.lemmas.Slice.Eq.{bytes_eq-Decides}
+use Rattle.std.proofs.lemmas.{Bool.cases_Bool, Bool.cases_lt, Slice.Eq.bytes_eq-Decides}
+use Rattle.std.specs.{Prelude.slice_get, Str.bytes_eq}
 use Rattle.review_words.specs.History.{Entry}
 use Rattle.review_chain.specs.declared.links.Standing.{Standing}
 use Rattle.review_chain.specs.declared.links.Standing.TheVariants.{InBranch, PatchSet, Nowhere}
-use Rattle.review_changes.specs.Change.{Change, of_number}
-use Rattle.review_changes.specs.declared.rows.PatchRow.{PatchRow}
+use Rattle.review_changes.specs.{Change.Change, Change.of_number, declared.rows.PatchRow.PatchRow}
 use Rattle.review_rows.specs.Changes.{Reading, change, is_for}
 use Rattle.review_rows.specs.Submits.{patch_for, patch_of, sent_or, sent_up_to}
 use Rattle.review_branch_laws.specs.Patches.{HasPatch}

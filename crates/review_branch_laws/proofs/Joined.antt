@@ -1,36 +1,24 @@
 -- Which changes joined a branch: those for it that are merged, each once.
 use Rattle.std.proofs.Common.{◌≡◌, ◌⊎◌, inl, inr, ℕ, ◌+◌, ◌<◌, ◌≤◌, ◌==◌, List, [], ◌∷◌, ◌++◌, length, Option, Some, None, Bool, true, false, cond, ◌&&◌, refl, sym, ap, subst, ◌∙◌, arith}
-use Rattle.std.specs.Prelude.{is_some, nat_le}
-use Rattle.std.specs.List.{All, AllByRecursion, Contains, IsDistinct}
-use Rattle.std.proofs.lemmas.Bool.{and_parts, and_from, leb-true}
-use Rattle.std.proofs.lemmas.Bool.Decides.{nat_tests}
-use Rattle.std.proofs.lemmas.List.{append-nil}
-use Rattle.std.proofs.lemmas.List.Elements.{All-from_recursion}
-use Rattle.std.proofs.lemmas.Map.Keys.{IsDistinct-cons}
-use Rattle.std.proofs.lemmas.Map.Steps.{length-le_from_distinct_below}
-use Rattle.review_words.specs.History.{Entry, accepted, if_done}
-use Rattle.review_words.specs.declared.command.Command.{Command}
+use Rattle.std.proofs.lemmas.Bool.{and_parts, and_from, leb-true, Decides.nat_tests}
+use Rattle.std.proofs.lemmas.List.{append-nil, Elements.All-from_recursion}
+use Rattle.std.proofs.lemmas.Map.{Keys.IsDistinct-cons, Steps.length-le_from_distinct_below}
+use Rattle.std.specs.{List.All, List.AllByRecursion, List.Contains, List.IsDistinct, Prelude.is_some, Prelude.nat_le}
+use Rattle.review_words.specs.{History.Entry, History.accepted, History.if_done, declared.command.Command.Command}
 use Rattle.review_words.specs.declared.command.Command.TheVariants.{CreateAccount, PutGroup, PutProject, RecordBase, CloseEpoch, CreateChange, OnChange, Submit}
-use Rattle.review_words.specs.declared.reply.Answer.{Answer}
-use Rattle.review_words.specs.declared.reply.Reply.{Reply}
+use Rattle.review_words.specs.declared.reply.{Answer.Answer, Reply.Reply}
 use Rattle.review_words.specs.declared.reply.Reply.TheVariants.{Done, Refused, IdentityReused, EpochClosed, NotTaken}
-use Rattle.review_words.specs.declared.shown.State.{State}
-use Rattle.review_words.specs.declared.shown.State.TheVariants.{New, Merged, Abandoned}
+use Rattle.review_words.specs.declared.shown.State.{State, TheVariants.New, TheVariants.Merged, TheVariants.Abandoned}
 use Rattle.review_chain.proofs.Fronts.{chain_distinct}
 use Rattle.review_changes.specs.Change.{Change}
-use Rattle.review_rows.proofs.Readings.{IsDoneBy, done_of}
-use Rattle.review_rows.specs.Answer.{IsHistory}
+use Rattle.review_rows.{proofs.Readings.IsDoneBy, proofs.Readings.done_of, specs.Answer.IsHistory}
 use Rattle.review_rows.specs.Changes.{Reading, Reads, change, change_count, is_for, is_made_for, joined, joined_by, joined_in, place_in}
 use Rattle.review_rows.specs.Submits.{branch_after, is_merged}
 use Rattle.review_change_laws.proofs.There.{change_there, is_up_to}
-use Rattle.review_branch_laws.specs.Accepted.{IsAccepted}
-use Rattle.review_branch_laws.specs.Joined.{HasJoined}
-use Rattle.review_branch_laws.specs.Places.{place_of}
-use Rattle.review_branch_laws.proofs.Accepted.{submit_accepted}
-use Rattle.review_branch_laws.proofs.Linked.{for_branch, is_for_branch}
-use Rattle.review_branch_laws.proofs.Made.{made_for}
+use Rattle.review_branch_laws.proofs.{Accepted.submit_accepted, Linked.for_branch, Linked.is_for_branch, Made.made_for}
 use Rattle.review_branch_laws.proofs.Placed.{not_placed, placed, unmerged}
 use Rattle.review_branch_laws.proofs.Places.{all_placed, any_of, contained_get, contains_placed, distinct_append, each_weaker, get_placed}
+use Rattle.review_branch_laws.specs.{Accepted.IsAccepted, Joined.HasJoined, Places.place_of}
 
 pub state_merged : (s : State) → is_merged s ≡ true → s ≡ Merged
 state_merged New e = absurd (cc)

@@ -2,11 +2,9 @@
 use Rattle.std.proofs.Common.{◌≡◌, ℕ, List, [], ◌∷◌, None, Some, true, inl, inr}
 use Rattle.review_words.specs.History.{Entry, accepted}
 use Rattle.review_changes.specs.declared.rows.PatchRow.{PatchRow}
-use Rattle.review_rows.specs.Answer.{IsHistory}
-use Rattle.review_rows.specs.Changes.{Reading, Reads, change, is_known}
+use Rattle.review_rows.specs.{Answer.IsHistory, Changes.Reading, Changes.Reads, Changes.change, Changes.is_known}
+use Rattle.review_branch_laws.proofs.{Patches.known_stays, Sending.Came, Sending.came}
 use Rattle.review_branch_laws.specs.Patches.{HasPatch}
-use Rattle.review_branch_laws.proofs.Patches.{known_stays}
-use Rattle.review_branch_laws.proofs.Sending.{Came, came}
 
 -- What a patch set stands on is known in its branch: it was when the patch set was sent, and what is known stays so.
 pub parents_known : (reading : Reading) (h : List Entry) (project branch : List ℕ) (n k : ℕ) (p : PatchRow) → IsHistory h → Reads reading h → HasPatch project branch k p (change reading h n) →

@@ -1,23 +1,18 @@
 -- What is known in a branch stays known.
 use Rattle.std.proofs.Common.{◌≡◌, ℕ, zero, suc, ◌+◌, ◌==◌, List, [], ◌∷◌, ◌++◌, length, Option, Some, None, Bool, true, false, cond, ◌&&◌, ◌||◌, refl, sym, ap, ◌∙◌, ⊎_elim, ◌⊎◌, inl, inr, eqb-true, arith}
-use Rattle.std.specs.Prelude.{is_some, option_map, slice_get}
-use Rattle.std.specs.List.{list_any}
-use Rattle.std.specs.Str.{bytes_eq}
-use Rattle.std.proofs.lemmas.Bool.{cases_Bool, and_parts, and_from}
-use Rattle.std.proofs.lemmas.Bool.Decides.{nat_tests}
+use Rattle.std.proofs.lemmas.Bool.{cases_Bool, and_parts, and_from, Decides.nat_tests}
 use Rattle.std.proofs.lemmas.Slice.Eq.{bytes_eq-Decides}
+use Rattle.std.specs.{List.list_any, Prelude.is_some, Prelude.option_map, Prelude.slice_get, Str.bytes_eq}
 use Rattle.review_words.specs.History.{Entry, accepted, bases, is_base, with_base}
-use Rattle.review_words.specs.declared.command.ChangeCommand.{ChangeCommand}
-use Rattle.review_words.specs.declared.command.ChangeCommand.TheVariants as on
-use Rattle.review_words.specs.declared.command.Command.{Command}
+use Rattle.review_words.specs.declared.command.{ChangeCommand.ChangeCommand, Command.Command}
 use Rattle.review_words.specs.declared.command.Command.TheVariants.{CreateAccount, PutGroup, PutProject, RecordBase, CloseEpoch, CreateChange, OnChange, Submit}
 use Rattle.review_changes.specs.Change.{Change, after, begun, joined_at, of_number, patches_by}
 use Rattle.review_changes.specs.declared.rows.PatchRow.{PatchRow}
 use Rattle.review_rows.specs.Changes.{Reading, change, change_by, change_count, has_commit, is_for, is_known, is_sent, joined, joining_at, place_in, setting_of, submitted}
 use Rattle.review_change_laws.proofs.There.{change_there, is_up_to}
+use Rattle.review_branch_laws.proofs.{Numbers.kept, Passing.one_passing, Passing.or_true, Passing.some_passes}
 use Rattle.review_branch_laws.specs.Patches.{HasPatch}
-use Rattle.review_branch_laws.proofs.Numbers.{kept}
-use Rattle.review_branch_laws.proofs.Passing.{one_passing, or_true, some_passes}
+use Rattle.review_words.specs.declared.command.ChangeCommand.TheVariants as on
 
 -- ---- a commit that was sent is that of a patch set
 

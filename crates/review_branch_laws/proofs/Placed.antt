@@ -1,25 +1,14 @@
 -- The place of a change in the list of those that joined its branch is its place.
 use Rattle.std.proofs.Common.{◌≡◌, ◌⊎◌, ℕ, ◌+◌, ◌==◌, List, [], ◌∷◌, ◌++◌, length, Option, Some, None, Bool, true, false, cond, ◌&&◌, refl, sym, ap, ◌∙◌, ⊎_elim, arith, eqb-true}
-use Rattle.std.specs.Prelude.{is_some, option_map}
-use Rattle.std.specs.Option.{option_or}
-use Rattle.std.specs.List.{AllByRecursion}
-use Rattle.std.specs.Str.{bytes_eq}
-use Rattle.std.proofs.lemmas.Bool.{and_right, not-true}
-use Rattle.std.proofs.lemmas.List.{append-nil}
-use Rattle.std.proofs.lemmas.Bool.Decides.{nat_tests}
+use Rattle.std.proofs.lemmas.{Bool.and_right, Bool.not-true, Bool.Decides.nat_tests, List.append-nil}
+use Rattle.std.specs.{List.AllByRecursion, Option.option_or, Prelude.is_some, Prelude.option_map, Str.bytes_eq}
 use Rattle.review_words.specs.History.{Entry, if_done}
-use Rattle.review_words.specs.declared.command.ChangeCommand.{ChangeCommand}
-use Rattle.review_words.specs.declared.command.ChangeCommand.TheVariants as on
-use Rattle.review_words.specs.declared.command.Command.{Command}
+use Rattle.review_words.specs.declared.command.{ChangeCommand.ChangeCommand, Command.Command}
 use Rattle.review_words.specs.declared.command.Command.TheVariants.{CreateAccount, PutGroup, PutProject, RecordBase, CloseEpoch, CreateChange, OnChange, Submit}
-use Rattle.review_words.specs.declared.reply.Answer.{Answer}
-use Rattle.review_words.specs.declared.reply.Reply.{Reply}
+use Rattle.review_words.specs.declared.reply.{Answer.Answer, Reply.Reply}
 use Rattle.review_words.specs.declared.reply.Reply.TheVariants.{Done, Refused, IdentityReused, EpochClosed, NotTaken}
-use Rattle.review_words.specs.declared.shown.State.{State}
-use Rattle.review_words.specs.declared.shown.State.TheVariants.{New, Merged, Abandoned}
-use Rattle.review_chain.specs.declared.links.Link.{Link}
-use Rattle.review_chain.specs.Walks.{IsReady}
-use Rattle.review_chain.proofs.Fronts.{chain_ready}
+use Rattle.review_words.specs.declared.shown.State.{State, TheVariants.New, TheVariants.Merged, TheVariants.Abandoned}
+use Rattle.review_chain.{proofs.Fronts.chain_ready, specs.Walks.IsReady, specs.declared.links.Link.Link}
 use Rattle.review_changes.specs.Change.{Change, after, begun, is_open, state_by}
 use Rattle.review_rows.proofs.Readings.{IsDoneBy, done_of}
 use Rattle.review_rows.specs.Answer.{IsAnswerBy, IsHistory, request_checks}
@@ -27,12 +16,10 @@ use Rattle.review_rows.specs.Changes.{Reading, Reads, change, change_by, change_
 use Rattle.review_rows.specs.Submits.{branch_after, is_merged}
 use Rattle.review_change_laws.proofs.Sound.{Passes, checks_pass, done_passes}
 use Rattle.review_change_laws.proofs.There.{change_there, is_up_to}
-use Rattle.review_branch_laws.specs.Accepted.{IsAccepted}
-use Rattle.review_branch_laws.specs.Places.{place_of}
-use Rattle.review_branch_laws.proofs.Accepted.{submit_accepted}
-use Rattle.review_branch_laws.proofs.Linked.{for_branch, is_for_branch, linked}
-use Rattle.review_branch_laws.proofs.Made.{made_for}
-use Rattle.review_branch_laws.proofs.Places.{at_place, place_behind}
+use Rattle.review_branch_laws.proofs.{Accepted.submit_accepted, Linked.for_branch, Linked.is_for_branch, Linked.linked}
+use Rattle.review_branch_laws.proofs.{Made.made_for, Places.at_place, Places.place_behind}
+use Rattle.review_branch_laws.specs.{Accepted.IsAccepted, Places.place_of}
+use Rattle.review_words.specs.declared.command.ChangeCommand.TheVariants as on
 
 -- a change that isn't merged has none
 pub not_placed : (project branch : List ℕ) (c : Change) → is_merged c.state ≡ false → place_of project branch (Some c) ≡ None

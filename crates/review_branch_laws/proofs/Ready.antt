@@ -1,28 +1,18 @@
 -- What is so of each change of an accepted submit.
 use Rattle.std.proofs.Common.{◌≡◌, ◌⊎◌, inl, inr, ℕ, List, [], ◌∷◌, Option, Some, None, Bool, true, false, cond, refl, sym, ap, subst, ◌∙◌}
-use Rattle.std.specs.Prelude.{MatchOption, option_map}
-use Rattle.std.specs.List.{All, AllByRecursion}
 use Rattle.std.proofs.lemmas.List.Elements.{All-from_recursion, recursion_from_All}
-use Rattle.review_words.specs.History.{Entry}
-use Rattle.review_words.specs.declared.command.Command.TheVariants.{Submit}
-use Rattle.review_words.specs.declared.reply.Answer.{Answer}
-use Rattle.review_words.specs.declared.reply.Reply.TheVariants.{Done}
-use Rattle.review_words.specs.declared.shown.ShownRequirement.{ShownRequirement}
-use Rattle.review_words.specs.declared.shown.State.{State}
-use Rattle.review_words.specs.declared.shown.State.TheVariants.{New, Merged, Abandoned}
-use Rattle.review_chain.specs.declared.links.Link.{Link}
-use Rattle.review_chain.specs.Walks.{IsReady}
-use Rattle.review_chain.proofs.Fronts.{chain_ready}
+use Rattle.std.specs.{List.All, List.AllByRecursion, Prelude.MatchOption, Prelude.option_map}
+use Rattle.review_words.specs.{History.Entry, declared.command.Command.TheVariants.Submit, declared.reply.Answer.Answer}
+use Rattle.review_words.specs.declared.{reply.Reply.TheVariants.Done, shown.ShownRequirement.ShownRequirement}
+use Rattle.review_words.specs.declared.shown.State.{State, TheVariants.New, TheVariants.Merged, TheVariants.Abandoned}
+use Rattle.review_chain.{proofs.Fronts.chain_ready, specs.Walks.IsReady, specs.declared.links.Link.Link}
 use Rattle.review_changes.specs.Change.{Change, Setting, is_open}
 use Rattle.review_changes.specs.Facts.{AreStanding, IsFirstUnsatisfied, is_unsatisfied, unsatisfied_in}
-use Rattle.review_rows.proofs.Readings.{IsDoneBy, done_of}
-use Rattle.review_rows.specs.Answer.{IsHistory}
+use Rattle.review_rows.{proofs.Readings.IsDoneBy, proofs.Readings.done_of, specs.Answer.IsHistory}
 use Rattle.review_rows.specs.Changes.{Reading, Reads, change, joined_in, setting_of}
 use Rattle.review_rows.specs.Submits.{branch_after, judged_after}
+use Rattle.review_branch_laws.proofs.{Accepted.submit_accepted, Joined.same_change, Linked.linked}
 use Rattle.review_branch_laws.specs.Accepted.{IsAccepted, MayJoin}
-use Rattle.review_branch_laws.proofs.Accepted.{submit_accepted}
-use Rattle.review_branch_laws.proofs.Joined.{same_change}
-use Rattle.review_branch_laws.proofs.Linked.{linked}
 
 -- ---- requirements
 

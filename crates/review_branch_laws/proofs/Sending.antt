@@ -1,20 +1,13 @@
 -- What an entry adds to the patch sets and the bases of a branch.
 use Rattle.std.proofs.Common.{◌≡◌, ℕ, ◌+◌, ◌==◌, List, ◌∷◌, length, Option, Some, None, Bool, true, false, cond, not, ◌⊎◌, inl, inr, refl, sym, ap, ◌∙◌, eqb-true}
-use Rattle.std.specs.Prelude.{option_map}
-use Rattle.std.specs.List.{AllByRecursion}
-use Rattle.std.specs.Str.{bytes_eq}
-use Rattle.std.proofs.lemmas.Bool.{and_parts}
-use Rattle.std.proofs.lemmas.Slice.Eq.{bytes_eq-Decides}
-use Rattle.review_words.specs.History.{Entry, accepted, if_done, is_account}
-use Rattle.review_words.specs.declared.command.ChangeCommand.{ChangeCommand}
-use Rattle.review_words.specs.declared.command.ChangeCommand.TheVariants as on
-use Rattle.review_words.specs.declared.command.Command.{Command}
-use Rattle.review_words.specs.declared.command.Command.TheVariants.{CreateAccount, PutGroup, PutProject, RecordBase, CloseEpoch, CreateChange, OnChange, Submit}
-use Rattle.review_words.specs.declared.reply.Answer.{Answer}
-use Rattle.review_words.specs.declared.reply.Refusal.TheVariants.{UnknownCaller}
-use Rattle.review_words.specs.declared.reply.Reply.{Reply}
-use Rattle.review_words.specs.declared.reply.Reply.TheVariants.{Done, Refused, IdentityReused, EpochClosed, NotTaken}
+use Rattle.std.proofs.lemmas.{Bool.and_parts, Slice.Eq.bytes_eq-Decides}
+use Rattle.std.specs.{List.AllByRecursion, Prelude.option_map, Str.bytes_eq}
 use Rattle.review_names.specs.declared.kinds.ChangeKind.TheVariants.{Rework}
+use Rattle.review_words.specs.History.{Entry, accepted, if_done, is_account}
+use Rattle.review_words.specs.declared.command.{ChangeCommand.ChangeCommand, Command.Command}
+use Rattle.review_words.specs.declared.command.Command.TheVariants.{CreateAccount, PutGroup, PutProject, RecordBase, CloseEpoch, CreateChange, OnChange, Submit}
+use Rattle.review_words.specs.declared.reply.{Answer.Answer, Refusal.TheVariants.UnknownCaller, Reply.Reply}
+use Rattle.review_words.specs.declared.reply.Reply.TheVariants.{Done, Refused, IdentityReused, EpochClosed, NotTaken}
 use Rattle.review_changes.specs.Change.{Change, after, begun, current, of_number, patches_by}
 use Rattle.review_changes.specs.declared.rows.PatchRow.{PatchRow}
 use Rattle.review_rows.proofs.Readings.{IsDoneBy, done_of}
@@ -22,8 +15,9 @@ use Rattle.review_rows.specs.Answer.{IsAnswerBy, IsHistory, checks, request_chec
 use Rattle.review_rows.specs.Changes.{Reading, Reads, change, change_by, change_count, is_for, is_known, setting_of, submitted}
 use Rattle.review_change_laws.proofs.Joining.{joining_keeps}
 use Rattle.review_change_laws.proofs.Sound.{Passes, all_pass, checks_pass, done_passes}
-use Rattle.review_branch_laws.specs.Patches.{HasPatch}
 use Rattle.review_branch_laws.proofs.Numbers.{appended, only}
+use Rattle.review_branch_laws.specs.Patches.{HasPatch}
+use Rattle.review_words.specs.declared.command.ChangeCommand.TheVariants as on
 
 -- where a command puts a new patch set: at the number of its change, and its own
 abbrev pub place_sent : Reading → List Entry → Option Command → Option (ℕ × ℕ)

@@ -1,32 +1,21 @@
 -- What rows that agree with a history know of a branch.
 use Rattle.std.proofs.Common.{◌≡◌, ℕ, List, [], ◌∷◌, length, Option, Some, None, true, refl, sym, ap, subst, ◌∙◌, ◌⊎◌, inl, inr}
-use Rattle.std.specs.Prelude.{IsSome, option_and_then}
-use Rattle.std.specs.Str.{bytes_eq}
-use Rattle.std.proofs.lemmas.Bool.{and_from}
-use Rattle.std.proofs.lemmas.Slice.Eq.{bytes_eq-Decides}
+use Rattle.std.proofs.lemmas.{Bool.and_from, Slice.Eq.bytes_eq-Decides}
+use Rattle.std.specs.{Prelude.IsSome, Prelude.option_and_then, Str.bytes_eq}
 use Rattle.review_words.specs.History.{Entry}
-use Rattle.review_chain.specs.declared.links.Link.{Link}
-use Rattle.review_chain.specs.declared.links.Standing.{Standing}
-use Rattle.review_chain.specs.declared.links.Standing.TheVariants.{InBranch, PatchSet}
-use Rattle.review_chain.specs.Branches.{Branch}
+use Rattle.review_chain.{proofs.Wanting.Says, proofs.Wanting.wanted_says, specs.Branches.Branch}
 use Rattle.review_chain.specs.Parts.{IsPart, IsWanted, NeedsChange, Want as ChainWant, TheChange, TheCommit}
-use Rattle.review_chain.specs.Steps.{wanted}
-use Rattle.review_chain.specs.Walks.{IsWalk, first_of}
-use Rattle.review_chain.proofs.Wanting.{Says, wanted_says}
+use Rattle.review_chain.specs.{Steps.wanted, Walks.IsWalk, Walks.first_of, declared.links.Link.Link}
+use Rattle.review_chain.specs.declared.links.Standing.{Standing, TheVariants.InBranch, TheVariants.PatchSet}
 use Rattle.review_changes.specs.Change.{Change}
-use Rattle.review_rows.specs.Answer.{IsHistory}
+use Rattle.review_rows.{proofs.Asked.commit_known, proofs.Asked.found_of, specs.Answer.IsHistory}
 use Rattle.review_rows.specs.Changes.{Reading, Reads, change, is_for}
 use Rattle.review_rows.specs.Known.{Agrees, Found, IsKnown, change_in, known, standing_of as standing_in}
-use Rattle.review_rows.specs.Links.{link_for, links_in}
-use Rattle.review_rows.specs.Steps.{look_up}
-use Rattle.review_rows.specs.Submits.{branch_after, standing_of}
-use Rattle.review_rows.specs.View.{view}
-use Rattle.review_rows.specs.declared.rows.Rows.{Rows}
-use Rattle.review_rows.specs.declared.rows.Want.TheVariants as want
-use Rattle.review_rows.proofs.Asked.{commit_known, found_of}
+use Rattle.review_rows.specs.{Links.link_for, Links.links_in, Steps.look_up, Submits.branch_after, Submits.standing_of}
+use Rattle.review_rows.specs.{View.view, declared.rows.Rows.Rows}
 use Rattle.review_change_laws.proofs.Same.{rows_tell}
-use Rattle.review_branch_laws.proofs.StandingShown.{base_of, one_standing}
-use Rattle.review_branch_laws.proofs.Whole.{has_link, whole}
+use Rattle.review_branch_laws.proofs.{StandingShown.base_of, StandingShown.one_standing, Whole.has_link, Whole.whole}
+use Rattle.review_rows.specs.declared.rows.Want.TheVariants as want
 
 -- the change that is known is that of the history
 change_shown : (reading : Reading) (h : List Entry) (rows : Rows) (n : ℕ) (f : Found) → Agrees (view reading h) rows → known rows (want.Change n) ≡ Some f → change_in (Some f) ≡ change reading h n

@@ -1,12 +1,9 @@
 -- The branches of a history are sound.
 use Rattle.std.proofs.Common.{List, [], ◌∷◌, ◌++◌, subst}
 use Rattle.review_words.specs.History.{Entry}
-use Rattle.review_rows.specs.Answer.{IsHistory}
-use Rattle.review_rows.specs.Changes.{Reading, Reads}
+use Rattle.review_rows.specs.{Answer.IsHistory, Changes.Reading, Changes.Reads}
 use Rattle.review_branch_laws.proofs.Joined.{joined_distinct, joined_merged}
-use Rattle.review_branch_laws.proofs.Parents.{joined_stands}
-use Rattle.review_branch_laws.proofs.Placed.{placed}
-use Rattle.review_branch_laws.proofs.Ready.{entry_may_join}
+use Rattle.review_branch_laws.proofs.{Parents.joined_stands, Placed.placed, Ready.entry_may_join}
 use Rattle.review_branch_laws.specs.Sound.{AreSoundBranches}
 
 history_from : (later earlier : List Entry) → IsHistory (later ++ earlier) → IsHistory earlier

@@ -1,34 +1,25 @@
 -- What a commit is to a branch, as rows show it.
 use Rattle.std.proofs.Common.{◌≡◌, ℕ, zero, suc, ◌<◌, ◌≤◌, List, [], ◌∷◌, length, Option, Some, None, true, false, cond, ◌&&◌, ◌||◌, refl, sym, ap, ◌∙◌, ⊎_elim, ◌⊎◌, inl, inr, arith}
-use Rattle.std.specs.Prelude.{option_map}
-use Rattle.std.specs.Option.{option_map_or}
-use Rattle.std.specs.List.{list_any}
-use Rattle.std.specs.Str.{bytes_eq}
-use Rattle.std.proofs.lemmas.Bool.{cases_Bool, and_parts, and_from, cases_lt}
-use Rattle.std.proofs.lemmas.Slice.Eq.{bytes_eq-Decides}
+use Rattle.std.proofs.lemmas.{Bool.cases_Bool, Bool.and_parts, Bool.and_from, Bool.cases_lt, Slice.Eq.bytes_eq-Decides}
+use Rattle.std.specs.{List.list_any, Option.option_map_or, Prelude.option_map, Str.bytes_eq}
 use Rattle.review_words.specs.History.{Entry, bases, is_base}
-use Rattle.review_words.specs.declared.shown.State.{State}
-use Rattle.review_words.specs.declared.shown.State.TheVariants.{New, Merged, Abandoned}
+use Rattle.review_words.specs.declared.shown.State.{State, TheVariants.New, TheVariants.Merged, TheVariants.Abandoned}
 use Rattle.review_chain.specs.declared.links.Standing.{Standing}
 use Rattle.review_chain.specs.declared.links.Standing.TheVariants.{InBranch, PatchSet, Nowhere}
 use Rattle.review_changes.specs.Change.{Change, commit, current_patch, of_number}
 use Rattle.review_changes.specs.Parts.{TheHeader, PatchOf, AHeader, APatch, header_of}
-use Rattle.review_changes.specs.declared.rows.Header.{Header}
-use Rattle.review_changes.specs.declared.rows.PatchRow.{PatchRow}
+use Rattle.review_changes.specs.declared.rows.{Header.Header, PatchRow.PatchRow}
 use Rattle.review_rows.specs.Answer.{IsHistory}
 use Rattle.review_rows.specs.Changes.{Reading, Reads, change, change_count, is_for, some_change}
 use Rattle.review_rows.specs.Known.{IsCurrent, IsInBranch, IsMergedWith, IsSender, IsSentBy, StandsAs, at_place, part_of}
 use Rattle.review_rows.specs.Rows.{APart, BaseRow, PartKey}
 use Rattle.review_rows.specs.Submits.{is_in_branch, is_merged, is_merged_commit, sent_up_to, standing_of}
-use Rattle.review_rows.specs.View.{fact}
-use Rattle.review_rows.specs.declared.rows.Base.{Base}
-use Rattle.review_branch_laws.specs.Patches.{HasPatch}
-use Rattle.review_branch_laws.proofs.Apart.{commits_apart}
-use Rattle.review_branch_laws.proofs.Current.{current_there}
-use Rattle.review_branch_laws.proofs.Found.{FoundUpTo, found_up_to}
+use Rattle.review_rows.specs.{View.fact, declared.rows.Base.Base}
+use Rattle.review_branch_laws.proofs.{Apart.commits_apart, Current.current_there, Found.FoundUpTo, Found.found_up_to}
 use Rattle.review_branch_laws.proofs.Numbers.{last_of, none_past, number_within}
 use Rattle.review_branch_laws.proofs.Passing.{one_passing, or_true, some_passes, within_count}
 use Rattle.review_branch_laws.proofs.Patches.{known_parts}
+use Rattle.review_branch_laws.specs.Patches.{HasPatch}
 
 -- a commit of a branch
 abbrev pub base_of : List ℕ → List ℕ → List ℕ → Base

@@ -1,26 +1,18 @@
 -- The branch that a history leaves is whole.
 use Rattle.std.proofs.Common.{◌≡◌, ◌≢◌, ℕ, List, [], Option, Some, None, Bool, true, false, cond, ◌&&◌, ◌||◌, refl, sym, ap, subst, ◌∙◌, ⊎_elim}
-use Rattle.std.specs.Prelude.{IsSome, is_some, option_map}
-use Rattle.std.specs.Option.{option_map_or}
-use Rattle.std.specs.Str.{bytes_eq}
-use Rattle.std.proofs.lemmas.Bool.{cases_Bool, and_from}
-use Rattle.std.proofs.lemmas.Slice.Eq.{bytes_eq-Decides}
-use Rattle.review_words.specs.History.{Entry, is_base}
-use Rattle.review_words.specs.declared.shown.State.TheVariants.{Merged}
-use Rattle.review_chain.specs.declared.links.Link.{Link}
-use Rattle.review_chain.specs.declared.links.Standing.{Standing}
-use Rattle.review_chain.specs.declared.links.Standing.TheVariants.{InBranch, PatchSet}
-use Rattle.review_chain.specs.Branches.{IsWhole}
+use Rattle.std.proofs.lemmas.{Bool.cases_Bool, Bool.and_from, Slice.Eq.bytes_eq-Decides}
+use Rattle.std.specs.{Option.option_map_or, Prelude.IsSome, Prelude.is_some, Prelude.option_map, Str.bytes_eq}
+use Rattle.review_words.specs.{History.Entry, History.is_base, declared.shown.State.TheVariants.Merged}
+use Rattle.review_chain.specs.{Branches.IsWhole, declared.links.Link.Link}
+use Rattle.review_chain.specs.declared.links.Standing.{Standing, TheVariants.InBranch, TheVariants.PatchSet}
 use Rattle.review_changes.specs.Change.{Change, commit, current, current_patch, of_number}
 use Rattle.review_changes.specs.declared.rows.PatchRow.{PatchRow}
 use Rattle.review_rows.specs.Answer.{IsHistory}
 use Rattle.review_rows.specs.Changes.{Reading, Reads, change, change_count, is_for, is_known, is_sent, some_change}
 use Rattle.review_rows.specs.Links.{link_for, link_of}
 use Rattle.review_rows.specs.Submits.{branch_after, is_in_branch, is_merged, is_merged_commit, standing_of}
-use Rattle.review_branch_laws.proofs.Current.{current_there}
-use Rattle.review_branch_laws.proofs.Found.{FoundUpTo, found_up_to, same_change}
-use Rattle.review_branch_laws.proofs.ParentsKnown.{parents_known}
-use Rattle.review_branch_laws.proofs.Passing.{or_true, some_passes}
+use Rattle.review_branch_laws.proofs.{Current.current_there, Found.FoundUpTo, Found.found_up_to, Found.same_change}
+use Rattle.review_branch_laws.proofs.{ParentsKnown.parents_known, Passing.or_true, Passing.some_passes}
 use Rattle.review_branch_laws.proofs.Patches.{IsSent, sent_patch}
 use Rattle.review_branch_laws.proofs.StandingShown.{found_one, not_in_stands, sent_as}
 

@@ -1,16 +1,11 @@
 -- What may be relied on of branches.
-use Rattle.std.specs.Prelude.{◌≡◌, ◌==◌, ℕ, List, ◌∷◌, ◌++◌, Some}
 use Rattle.std.specs.List.{All, IsDistinct}
-use Rattle.review_words.specs.History.{Entry}
-use Rattle.review_words.specs.declared.command.Command.TheVariants.{Submit}
-use Rattle.review_words.specs.declared.reply.Answer.{Answer}
-use Rattle.review_words.specs.declared.reply.Reply.TheVariants.{Done}
+use Rattle.std.specs.Prelude.{◌≡◌, ◌==◌, ℕ, List, ◌∷◌, ◌++◌, Some}
+use Rattle.review_words.specs.{History.Entry, declared.command.Command.TheVariants.Submit}
+use Rattle.review_words.specs.declared.reply.{Answer.Answer, Reply.TheVariants.Done}
 use Rattle.review_changes.specs.Change.{Change}
 use Rattle.review_rows.specs.Changes.{Reading, Reads, change, joined, joined_in, place_in}
-use Rattle.review_branch_laws.specs.Accepted.{MayJoin}
-use Rattle.review_branch_laws.specs.Joined.{HasJoined}
-use Rattle.review_branch_laws.specs.Parents.{StandsOn}
-use Rattle.review_branch_laws.specs.Places.{place_of}
+use Rattle.review_branch_laws.specs.{Accepted.MayJoin, Joined.HasJoined, Parents.StandsOn, Places.place_of}
 
 -- Each change that joined a branch did so once, is for the branch and merged, has its place, and stands on a base of the branch or on a change that joined before it.
 pub record IsSoundBranch (reading : Reading) (h : List Entry) (project branch : List ℕ) : Type 0 where

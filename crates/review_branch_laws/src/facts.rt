@@ -1,22 +1,15 @@
 //! Laws of the branches of a history.
 ghost use Rattle.std.specs.Prelude.{◌≡◌, ℕ, List, Some, true, false};
 ghost use Rattle.review_words.specs.History.{Entry, is_base};
+ghost use Rattle.review_chain.specs.{Branches.IsWhole, Parts.IsPart, Parts.Want, Steps.wanted};
 ghost use Rattle.review_chain.specs.declared.links.Standing.{Standing};
-ghost use Rattle.review_chain.specs.Branches.{IsWhole};
-ghost use Rattle.review_chain.specs.Parts.{IsPart, Want};
-ghost use Rattle.review_chain.specs.Steps.{wanted};
-ghost use Rattle.review_changes.specs.Change.{Change};
-ghost use Rattle.review_changes.specs.declared.rows.PatchRow.{PatchRow};
-ghost use Rattle.review_rows.specs.Answer.{IsHistory};
-ghost use Rattle.review_rows.specs.Changes.{Reading, Reads, change, is_known};
+ghost use Rattle.review_changes.specs.{Change.Change, declared.rows.PatchRow.PatchRow};
+ghost use Rattle.review_rows.specs.{Answer.IsHistory, Changes.Reading, Changes.Reads, Changes.change, Changes.is_known};
 ghost use Rattle.review_rows.specs.Known.{Agrees, IsKnown, StandsAs};
-ghost use Rattle.review_rows.specs.Links.{links_in};
-ghost use Rattle.review_rows.specs.Steps.{look_up};
-ghost use Rattle.review_rows.specs.Submits.{branch_after, standing_of};
-ghost use Rattle.review_rows.specs.View.{fact, view};
-ghost use Rattle.review_rows.specs.declared.rows.Rows.{Rows};
-ghost use Rattle.review_rows.specs.declared.rows.Want.TheVariants as want;
+ghost use Rattle.review_rows.specs.{Links.links_in, Steps.look_up, Submits.branch_after, Submits.standing_of};
+ghost use Rattle.review_rows.specs.{View.fact, View.view, declared.rows.Rows.Rows};
 ghost use Rattle.review_branch_laws.specs.Patches.{HasPatch};
+ghost use Rattle.review_rows.specs.declared.rows.Want.TheVariants as want;
 
 /// Patch sets in one branch have commits of their own, and the branch has none of them as a base.
 pub fn commits_are_apart()

@@ -1,19 +1,17 @@
 -- What stands before a change, by cases.
 use Rattle.std.proofs.Common.{◌≡◌, ℕ, ◌<◌, ◌≤◌, Bool, true, false, not, List, Option, Some, None, inl, inr, refl, sym, ap, ◌∙◌, subst, arith}
+use Rattle.std.proofs.lemmas.Bool.{eqb-true, eq-eqb, Decides.nat_tests}
 use Rattle.std.specs.Prelude.{if◌then◌else◌, ◌==◌, option_and_then, option_map}
-use Rattle.std.proofs.lemmas.Bool.{eqb-true, eq-eqb}
-use Rattle.std.proofs.lemmas.Bool.Decides.{nat_tests}
 use Rattle.review_words.specs.declared.shown.State.{State}
 use Rattle.review_words.specs.declared.shown.State.TheVariants.{New, Merged as MergedState, Abandoned as AbandonedState}
-use Rattle.review_chain.specs.declared.links.Link.{Link}
-use Rattle.review_chain.specs.declared.links.Standing.{Standing}
+use Rattle.review_chain.specs.Branches.{Branch, parent_standing}
+use Rattle.review_chain.specs.Parts.{Want, TheChange, TheCommit, Lacks, NeedsChange}
+use Rattle.review_chain.specs.Steps.{Before, TheBase, Change, Bad, Wants, before, before_link, before_parent, before_known, before_change, before_fault}
+use Rattle.review_chain.specs.Walks.{Follows, is_abandoned, is_merged, patch_set_fault, link_fault, most_changes}
+use Rattle.review_chain.specs.declared.links.{Link.Link, Standing.Standing}
 use Rattle.review_chain.specs.declared.links.Standing.TheVariants.{InBranch, PatchSet, Nowhere}
 use Rattle.review_chain.specs.declared.walks.ChainFault.{ChainFault}
 use Rattle.review_chain.specs.declared.walks.ChainFault.TheVariants.{TooLong, Outdated, Abandoned, Wip, Broken}
-use Rattle.review_chain.specs.Branches.{Branch, parent_standing}
-use Rattle.review_chain.specs.Walks.{Follows, is_abandoned, is_merged, patch_set_fault, link_fault, most_changes}
-use Rattle.review_chain.specs.Parts.{Want, TheChange, TheCommit, Lacks, NeedsChange}
-use Rattle.review_chain.specs.Steps.{Before, TheBase, Change, Bad, Wants, before, before_link, before_parent, before_known, before_change, before_fault}
 
 -- what it says of a walk of n changes from c that this stands before it
 abbrev pub Means : Branch → ℕ → ℕ → Before → Type 0

@@ -1,13 +1,10 @@
 -- Fronts of chains.
 use Rattle.std.proofs.Common.{◌≡◌, ℕ, ◌≤◌, true, false, List, [], ◌∷◌, ◌++◌, length, ◌⊎◌, inl, inr, refl, ap, subst, append_assoc, length-append, ⊎_elim, arith, rules}
-use Rattle.std.specs.Prelude.{◌==◌}
-use Rattle.std.specs.List.{All, AllByRecursion, IsDistinct}
-use Rattle.std.proofs.lemmas.Bool.{cases_Bool, eqb-true}
-use Rattle.std.proofs.lemmas.List.Elements.{All-cons}
-use Rattle.review_chain.specs.Branches.{Branch}
-use Rattle.review_chain.specs.Walks.{IsWalk, first_of, IsChain, IsReady}
-use Rattle.review_chain.specs.Steps.{TheBase}
+use Rattle.std.proofs.lemmas.{Bool.cases_Bool, Bool.eqb-true, List.Elements.All-cons}
+use Rattle.std.specs.{List.All, List.AllByRecursion, List.IsDistinct, Prelude.◌==◌}
 use Rattle.review_chain.proofs.Walking.{one_walk, chain_meets}
+use Rattle.review_chain.specs.{Branches.Branch, Steps.TheBase}
+use Rattle.review_chain.specs.Walks.{IsWalk, first_of, IsChain, IsReady}
 
 front_walks : (b : Branch) (xs : List ℕ) (d : ℕ) (ys : List ℕ) (c : ℕ) → IsWalk b (xs ++ d ∷ ys) c → IsWalk b (xs ++ d ∷ []) d
 front_walks b [] d ys c h = refl

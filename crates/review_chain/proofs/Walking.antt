@@ -1,20 +1,17 @@
 -- Walks that grow at the front, and how they end.
 use Rattle.std.proofs.Common.{◌≡◌, ◌≢◌, ℕ, zero, suc, ◌+◌, ◌<◌, ◌≤◌, Bool, true, false, List, [], ◌∷◌, ◌++◌, length, Option, Some, None, not, refl, sym, ap, ◌∙◌, subst, arith}
+use Rattle.std.proofs.lemmas.Bool.{false≢true, Decides.nat_tests}
 use Rattle.std.specs.Prelude.{◌==◌, if◌then◌else◌, option_and_then}
-use Rattle.std.proofs.lemmas.Bool.{false≢true}
-use Rattle.std.proofs.lemmas.Bool.Decides.{nat_tests}
 use Rattle.review_words.specs.declared.shown.State.{State}
 use Rattle.review_words.specs.declared.shown.State.TheVariants.{New, Merged as MergedState, Abandoned as AbandonedState}
-use Rattle.review_chain.specs.declared.links.Link.{Link}
-use Rattle.review_chain.specs.declared.links.Standing.{Standing}
+use Rattle.review_chain.proofs.Before.{meaning, follows_stands, lacks_stands, bad_stands, base_stands}
+use Rattle.review_chain.specs.{Branches.Branch, Parts.Want, Parts.IsWanted, Parts.IsDecided}
+use Rattle.review_chain.specs.Steps.{Before, TheBase, Change, Bad, Wants, before, IsFault}
+use Rattle.review_chain.specs.Walks.{Follows, IsWalk, first_of, IsChain, IsBadLink, most_changes, link_fault, patch_set_fault, is_abandoned, is_merged}
+use Rattle.review_chain.specs.declared.links.{Link.Link, Standing.Standing}
 use Rattle.review_chain.specs.declared.links.Standing.TheVariants.{InBranch, PatchSet, Nowhere}
 use Rattle.review_chain.specs.declared.walks.ChainFault.{ChainFault}
 use Rattle.review_chain.specs.declared.walks.ChainFault.TheVariants.{Memory, Unknown, TooLong, Outdated, Abandoned, Wip, Broken}
-use Rattle.review_chain.specs.Branches.{Branch}
-use Rattle.review_chain.specs.Walks.{Follows, IsWalk, first_of, IsChain, IsBadLink, most_changes, link_fault, patch_set_fault, is_abandoned, is_merged}
-use Rattle.review_chain.specs.Parts.{Want, IsWanted, IsDecided}
-use Rattle.review_chain.specs.Steps.{Before, TheBase, Change, Bad, Wants, before, IsFault}
-use Rattle.review_chain.proofs.Before.{meaning, follows_stands, lacks_stands, bad_stands, base_stands}
 
 pub IsWalk-more : (b : Branch) (walk : List ℕ) (d c : ℕ) → IsWalk b walk c → Follows b d (first_of walk) → IsWalk b (d ∷ walk) c
 IsWalk-more b [] d c h f = absurd h

@@ -1,15 +1,13 @@
 -- What is wanted for the chain of a change, as a value.
 use Rattle.std.proofs.Common.{◌≡◌, ℕ, zero, suc, ◌+◌, ◌-◌, ◌<◌, List, [], ◌∷◌, length, Option, Some, None, ◌⊎◌, inl, inr, refl, sym, ap, ◌∙◌, subst, arith}
 use Rattle.std.specs.Prelude.{Result, Ok, Err, IfOk, IfSome, IfNone, option_map}
+use Rattle.review_chain.proofs.Parting.{wanted_stays, one_is_there, walk_kept, chain_kept, bad_kept}
+use Rattle.review_chain.proofs.Walking.{Meets, IsEnd, met, decided, goes_on, meets_wanted, wanted_meets, chain_meets, bad_meets, one_end}
 use Rattle.review_chain.specs.Branches.{Branch}
-use Rattle.review_chain.specs.declared.walks.ChainFault.{ChainFault}
-use Rattle.review_chain.specs.declared.walks.LookUp.{LookUp}
-use Rattle.review_chain.specs.Walks.{IsWalk, IsChain, IsBadLink, first_of, most_changes}
-use Rattle.review_chain.specs.declared.walks.Walked.{Walked}
 use Rattle.review_chain.specs.Parts.{Want, TheChange, HasWalked, IsPart, IsWanted, IsDecided}
 use Rattle.review_chain.specs.Steps.{Before, TheBase, Change, Bad, Wants, before, want_of, wanted, wanted_by, wanted_from}
-use Rattle.review_chain.proofs.Walking.{Meets, IsEnd, met, decided, goes_on, meets_wanted, wanted_meets, chain_meets, bad_meets, one_end}
-use Rattle.review_chain.proofs.Parting.{wanted_stays, one_is_there, walk_kept, chain_kept, bad_kept}
+use Rattle.review_chain.specs.Walks.{IsWalk, IsChain, IsBadLink, first_of, most_changes}
+use Rattle.review_chain.specs.declared.walks.{ChainFault.ChainFault, LookUp.LookUp, Walked.Walked}
 
 -- what is said to be wanted is, and where nothing is said the change is decided
 abbrev pub Says : Branch → ℕ → Option Want → Type 0

@@ -1,11 +1,9 @@
 -- Branches of which a part is known, and what has to be looked up.
 use Rattle.std.specs.Prelude.{◌≡◌, ◌⊎◌, ℕ, ◌<◌, ◌≤◌, List, length, Some, None, IsSome, option_map}
-use Rattle.review_chain.specs.declared.links.Link.{Link}
-use Rattle.review_chain.specs.declared.links.Standing.{Standing}
-use Rattle.review_chain.specs.declared.links.Standing.TheVariants.{PatchSet}
-use Rattle.review_chain.specs.declared.walks.Walked.{Walked}
 use Rattle.review_chain.specs.Branches.{Branch, parent_standing}
 use Rattle.review_chain.specs.Walks.{IsWalk, first_of, most_changes}
+use Rattle.review_chain.specs.declared.links.{Link.Link, Standing.Standing, Standing.TheVariants.PatchSet}
+use Rattle.review_chain.specs.declared.walks.Walked.{Walked}
 
 -- What can be looked up: the link of a change, and what a commit is to the branch.
 pub data Want : Type 0 where

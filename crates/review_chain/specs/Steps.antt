@@ -1,18 +1,16 @@
 -- One step back from a change.
-use Rattle.std.specs.Prelude.{ℕ, zero, suc, ◌+◌, ◌-◌, ◌*◌, ◌==◌, List, Option, Some, None, if◌then◌else◌}
 use Rattle.std.specs.Option.{option_map_or}
-use Rattle.review_chain.specs.declared.links.Link.{Link}
-use Rattle.review_chain.specs.declared.links.Standing.{Standing}
+use Rattle.std.specs.Prelude.{ℕ, zero, suc, ◌+◌, ◌-◌, ◌*◌, ◌==◌, List, Option, Some, None, if◌then◌else◌}
+use Rattle.review_chain.specs.{Branches.Branch, Parts.Want, Parts.TheChange, Parts.TheCommit, Parts.IsWanted}
+use Rattle.review_chain.specs.Walks.{IsBadLink, most_changes, patch_set_fault}
+use Rattle.review_chain.specs.declared.links.{Link.Link, Standing.Standing}
 use Rattle.review_chain.specs.declared.links.Standing.TheVariants.{InBranch, PatchSet, Nowhere}
 use Rattle.review_chain.specs.declared.walks.ChainFault.{ChainFault}
 use Rattle.review_chain.specs.declared.walks.ChainFault.TheVariants.{Memory, Unknown, TooLong, Broken}
-use Rattle.review_chain.specs.declared.walks.Step.{Step}
-use Rattle.review_chain.specs.declared.walks.Step.TheVariants.{AtBase, At, AtFault, AtUnknown}
 use Rattle.review_chain.specs.declared.walks.LookUp.{LookUp}
 use Rattle.review_chain.specs.declared.walks.LookUp.TheVariants.{Change as LookUpChange, Commit as LookUpCommit}
-use Rattle.review_chain.specs.Branches.{Branch}
-use Rattle.review_chain.specs.Walks.{IsBadLink, most_changes, patch_set_fault}
-use Rattle.review_chain.specs.Parts.{Want, TheChange, TheCommit, IsWanted}
+use Rattle.review_chain.specs.declared.walks.Step.{Step}
+use Rattle.review_chain.specs.declared.walks.Step.TheVariants.{AtBase, At, AtFault, AtUnknown}
 
 -- Why a change has no chain that is known: something is wanted, or a bad link of this name; want of memory may come at any time.
 abbrev pub IsFault : Branch → ℕ → ChainFault → Type 0

@@ -2,12 +2,11 @@
 use Rattle.std.specs.Prelude.{◌≡◌, ℕ, ◌≤◌, ◌==◌, Bool, true, false, not, List, [], ◌∷◌, length, Option, Some, None, if◌then◌else◌, option_and_then}
 use Rattle.review_words.specs.declared.shown.State.{State}
 use Rattle.review_words.specs.declared.shown.State.TheVariants.{New, Merged as MergedState, Abandoned as AbandonedState}
-use Rattle.review_chain.specs.declared.links.Link.{Link}
-use Rattle.review_chain.specs.declared.links.Standing.{Standing}
+use Rattle.review_chain.specs.Branches.{Branch, parent_standing}
+use Rattle.review_chain.specs.declared.links.{Link.Link, Standing.Standing}
 use Rattle.review_chain.specs.declared.links.Standing.TheVariants.{InBranch, PatchSet, Nowhere}
 use Rattle.review_chain.specs.declared.walks.ChainFault.{ChainFault}
 use Rattle.review_chain.specs.declared.walks.ChainFault.TheVariants.{TooLong, Outdated, Abandoned, Wip, Broken}
-use Rattle.review_chain.specs.Branches.{Branch, parent_standing}
 
 -- A change has at most this many in its chain.
 abbrev pub most_changes : ℕ

@@ -1,13 +1,11 @@
 //! Laws of chains, as contracts of calls that do nothing.
-ghost use Rattle.std.specs.Prelude.{◌≡◌, ◌≢◌, ◌⊎◌, ◌<◌, ◌≤◌, ◌+◌, ◌==◌, ◌++◌, ◌∷◌, [], ℕ, List, IsSome, length};
 ghost use Rattle.std.specs.List.{All, IsDistinct};
+ghost use Rattle.std.specs.Prelude.{◌≡◌, ◌≢◌, ◌⊎◌, ◌<◌, ◌≤◌, ◌+◌, ◌==◌, ◌++◌, ◌∷◌, [], ℕ, List, IsSome, length};
 ghost use Rattle.review_chain.specs.Branches.{Branch, IsWhole};
-ghost use Rattle.review_chain.specs.Walks.{IsBadLink, IsChain, IsReady};
 ghost use Rattle.review_chain.specs.Parts.{IsDecided, IsPart, IsWanted, Knows, Want};
-ghost use Rattle.review_chain.specs.Places.{places, places_from};
-ghost use Rattle.review_chain.specs.Steps.{left};
-ghost use Rattle.review_chain.specs.declared.walks.ChainFault.{ChainFault};
-ghost use Rattle.review_chain.specs.declared.walks.ChainFault.TheVariants.{Broken};
+ghost use Rattle.review_chain.specs.{Places.places, Places.places_from, Steps.left};
+ghost use Rattle.review_chain.specs.Walks.{IsBadLink, IsChain, IsReady};
+ghost use Rattle.review_chain.specs.declared.walks.ChainFault.{ChainFault, TheVariants.Broken};
 
 /// A change has at most one chain, one bad link and one thing that is wanted, by one walk; and not two of the three.
 pub fn only_one_chain()

@@ -1,43 +1,33 @@
 -- A new change.
 use Rattle.std.proofs.Common.{◌≡◌, ℕ, ◌+◌, ◌==◌, List, [], ◌∷◌, length, Option, Some, None, Bool, true, false, cond, not, refl, sym, ap, ◌∙◌, subst, eqb-true, arith}
+use Rattle.std.{proofs.lemmas.Bool.Decides.nat_tests, specs.List.AllByRecursion, specs.Ordering.nat_cmp}
 use Rattle.std.specs.Prelude.{is_some, nat_le, nat_lt, option_map, unwrap_or}
-use Rattle.std.specs.List.{AllByRecursion}
-use Rattle.std.specs.Ordering.{nat_cmp}
-use Rattle.std.proofs.lemmas.Bool.Decides.{nat_tests}
 use Rattle.review_names.specs.Forms.{most_changes}
 use Rattle.review_table.specs.Rows.{after_change, change_of}
 use Rattle.review_words.specs.History.{Entry, entry_of, base_count, is_account, is_branch, is_project, project_count, least_open}
-use Rattle.review_words.specs.declared.changes.NewChange.{NewChange}
-use Rattle.review_words.specs.declared.command.Command.TheVariants.{CreateChange}
-use Rattle.review_words.specs.declared.reply.Answer.TheVariants as made
+use Rattle.review_words.specs.declared.{changes.NewChange.NewChange, command.Command.TheVariants.CreateChange}
 use Rattle.review_words.specs.declared.reply.Refusal.{Refusal}
 use Rattle.review_words.specs.declared.reply.Refusal.TheVariants.{UnknownCaller, NoProject, NoBranch, NotAllowed, CommitKnown, UnknownParent, Limit}
 use Rattle.review_words.specs.declared.reply.Reply.TheVariants.{Done}
-use Rattle.review_project.specs.declared.parts.Right.TheVariants as right
-use Rattle.review_changes.specs.Change.{Change, begun}
-use Rattle.review_changes.specs.Parts.{Part, part_row}
+use Rattle.review_changes.specs.{Change.Change, Change.begun, Parts.Part, Parts.part_row}
+use Rattle.review_rows.proofs.{Asked.file_asked, Asked.line_asked, Lined.texts_told, Lined.there_is}
+use Rattle.review_rows.proofs.Puts.{no_base, no_base_more, no_file, no_project}
 use Rattle.review_rows.specs.Answer.{first_refusal, has_right, refused_by}
 use Rattle.review_rows.specs.Changes.{Reading, change, change_count, is_known, own_of, texts_of}
-use Rattle.review_rows.specs.Files.{File}
-use Rattle.review_rows.specs.Known.{known, IsKnown, number_of, part_of}
+use Rattle.review_rows.specs.{Files.File, Known.known, Known.IsKnown, Known.number_of, Known.part_of}
+use Rattle.review_rows.specs.Lines.{line_of, with_above}
 use Rattle.review_rows.specs.Rows.{Key, AccountKey, MemberKey, FileKey, BaseKey, PartKey, OddKey, APart, Count, Projects, BasesOf, ClosedEpochs, account_change, member_change, edited, after, count_after, part_change, member_cmp}
-use Rattle.review_rows.proofs.Puts.{no_base, no_base_more, no_file, no_project}
 use Rattle.review_rows.specs.Steps.{HasFile, OfCommand, command_wants, file_wants}
 use Rattle.review_rows.specs.View.{AreEnough, IsDecided, counted, fact}
-use Rattle.review_rows.specs.declared.rows.ChangeEdit.{ChangeEdit}
-use Rattle.review_rows.specs.declared.rows.Delta.{Delta}
-use Rattle.review_rows.specs.declared.rows.Rows.{Rows}
-use Rattle.review_rows.specs.declared.rows.Want.TheVariants as want
-use Rattle.review_rows.proofs.Asked.{file_asked, line_asked}
+use Rattle.review_rows.specs.declared.rows.{ChangeEdit.ChangeEdit, Delta.Delta, Rows.Rows, StoredFile.StoredFile}
+use Rattle.review_change_laws.proofs.{Sound.all_pass, There.change_there, There.is_up_to}
 use Rattle.review_account_decisions.proofs.Decided.{asked_beside, outcome_answer}
-use Rattle.review_rows.proofs.Lined.{texts_told, there_is}
-use Rattle.review_rows.specs.Lines.{line_of, with_above}
-use Rattle.review_rows.specs.declared.rows.StoredFile.{StoredFile}
-use Rattle.review_change_laws.proofs.Sound.{all_pass}
-use Rattle.review_change_laws.proofs.There.{change_there, is_up_to}
-use Rattle.review_change_decisions.specs.Facts.{create_checks, known_in, right_in}
 use Rattle.review_change_decisions.proofs.Made.{edit_turns}
 use Rattle.review_change_decisions.proofs.Told.{OneFile, branch_told, known_told, last_change_told, right_told}
+use Rattle.review_change_decisions.specs.Facts.{create_checks, known_in, right_in}
+use Rattle.review_words.specs.declared.reply.Answer.TheVariants as made
+use Rattle.review_project.specs.declared.parts.Right.TheVariants as right
+use Rattle.review_rows.specs.declared.rows.Want.TheVariants as want
 
 -- the checks, by what is found of each
 abbrev refusal_of : Bool → Bool → Bool → Bool → Bool → Bool → Bool → Option Refusal

@@ -1,38 +1,30 @@
 -- Requests on a change that are neither a patch set nor a review.
 use Rattle.std.proofs.Common.{◌≡◌, ℕ, ◌+◌, ◌==◌, ◌||◌, List, [], ◌∷◌, length, Option, Some, None, true, false, not, refl, sym, ap, ◌∙◌, subst, map}
-use Rattle.std.specs.Prelude.{is_some}
-use Rattle.std.specs.List.{AllByRecursion}
+use Rattle.std.specs.{List.AllByRecursion, Prelude.is_some}
 use Rattle.review_words.specs.History.{Entry, is_account, is_admin}
 use Rattle.review_words.specs.declared.command.ChangeCommand.{ChangeCommand}
 use Rattle.review_words.specs.declared.command.ChangeCommand.TheVariants.{Upload, Review, AddReviewer, RemoveReviewer, SetWip, SetReady, Abandon, Restore, AddAttention, RemoveAttention}
 use Rattle.review_words.specs.declared.command.Command.TheVariants.{OnChange}
-use Rattle.review_words.specs.declared.reply.Answer.TheVariants.{Nothing}
-use Rattle.review_words.specs.declared.reply.NotTaken.TheVariants.{Damaged}
+use Rattle.review_words.specs.declared.reply.{Answer.TheVariants.Nothing, NotTaken.TheVariants.Damaged}
 use Rattle.review_words.specs.declared.reply.Refusal.TheVariants.{UnknownCaller, NoAccount, NotAllowed, Closed, SameState, NotEligible}
-use Rattle.review_words.specs.declared.reply.Reply.{Reply}
-use Rattle.review_words.specs.declared.reply.Reply.TheVariants.{Done}
-use Rattle.review_project.specs.declared.parts.Right.TheVariants as right
+use Rattle.review_words.specs.declared.reply.Reply.{Reply, TheVariants.Done}
 use Rattle.review_changes.specs.Change.{Change, Setting, after, after_plain, eligible, is_open}
 use Rattle.review_changes.specs.Sound.{fits}
-use Rattle.review_rows.specs.Answer.{IsRequestOutcome, first_refusal, has_role, is_merged, of_change, refused_by, request_checks}
-use Rattle.review_rows.specs.Changes.{Reading, change, setting_of}
-use Rattle.review_rows.specs.Decisions.{IsUndecided}
-use Rattle.review_rows.specs.Files.{File}
-use Rattle.review_rows.specs.Known.{IsKnown, known, change_in}
-use Rattle.review_rows.specs.Steps.{OfCommand, named_in}
-use Rattle.review_rows.specs.View.{AreEnough, IsDecided}
-use Rattle.review_rows.specs.declared.rows.Delta.{Delta}
-use Rattle.review_rows.specs.declared.rows.Rows.{Rows}
-use Rattle.review_rows.specs.declared.rows.Want.TheVariants as want
 use Rattle.review_rows.proofs.Asked.{file_asked}
+use Rattle.review_rows.specs.Answer.{IsRequestOutcome, first_refusal, has_role, is_merged, of_change, refused_by, request_checks}
+use Rattle.review_rows.specs.{Changes.Reading, Changes.change, Changes.setting_of, Decisions.IsUndecided, Files.File}
+use Rattle.review_rows.specs.{Known.IsKnown, Known.known, Known.change_in, Steps.OfCommand, Steps.named_in}
+use Rattle.review_rows.specs.{View.AreEnough, View.IsDecided, declared.rows.Delta.Delta, declared.rows.Rows.Rows}
+use Rattle.review_change_laws.proofs.Sound.{all_pass}
 use Rattle.review_account_decisions.proofs.Decided.{admin_is, asked_beside, outcome_answer}
 use Rattle.review_account_decisions.proofs.Told.{account_told}
-use Rattle.review_change_laws.proofs.Sound.{all_pass}
-use Rattle.review_change_decisions.specs.Facts.{MakesChange, next_request}
 use Rattle.review_change_decisions.proofs.Told.{OneFile, right_told}
 use Rattle.review_change_decisions.proofs.Undecided.{asked_by, change_is, file_is, no_file}
 use Rattle.review_change_decisions.proofs.Written.{request_decided}
+use Rattle.review_change_decisions.specs.Facts.{MakesChange, next_request}
 use Rattle.review_change_decisions.specs.Requests.{IsPlainlyDone, call_list, is_named, is_plain, lacks_file, plain_list, runs_in}
+use Rattle.review_project.specs.declared.parts.Right.TheVariants as right
+use Rattle.review_rows.specs.declared.rows.Want.TheVariants as want
 
 -- what rows say of who runs a change is what the history says
 runs_told : {reading : Reading} {file : Option File} (h : List Entry) (caller n : ℕ) (request : ChangeCommand) (rows : Rows) (c : Change) → AreEnough reading h caller (OfCommand (OnChange n request)) file rows →

@@ -1,37 +1,27 @@
 -- A command on a change that is done.
 use Rattle.std.proofs.Common.{◌≡◌, ℕ, ◌+◌, ◌<◌, ◌==◌, min, List, [], ◌∷◌, length, Option, Some, None, Bool, true, false, cond, refl, sym, ap, ◌∙◌, subst, eqb-true, arith}
-use Rattle.std.specs.Prelude.{option_map, unwrap_or}
-use Rattle.std.specs.Ordering.{nat_cmp}
+use Rattle.std.specs.{Ordering.nat_cmp, Prelude.option_map, Prelude.unwrap_or}
 use Rattle.review_table.specs.Rows.{after_change, change_of}
 use Rattle.review_words.specs.History.{Entry, entry_of, base_count, project_count, least_open}
-use Rattle.review_words.specs.declared.changes.Review.{Review as ReviewOf}
-use Rattle.review_words.specs.declared.changes.NewPatch.{NewPatch}
-use Rattle.review_words.specs.declared.command.Command.{Command}
-use Rattle.review_words.specs.declared.command.Command.TheVariants.{OnChange}
-use Rattle.review_words.specs.declared.reply.Answer.{Answer}
-use Rattle.review_words.specs.declared.reply.Answer.TheVariants.{Patch, Reviewed}
-use Rattle.review_words.specs.declared.reply.Reply.{Reply}
-use Rattle.review_words.specs.declared.reply.Reply.TheVariants.{Done}
-use Rattle.review_changes.specs.Change.{Change, after_copying, after_plain, carried, copying, current, is_lost, said, after as change_after_request}
-use Rattle.review_changes.specs.Counts.{AreMany}
-use Rattle.review_changes.specs.Votes.{voted}
+use Rattle.review_words.specs.declared.changes.{NewPatch.NewPatch, Review.Review as ReviewOf}
 use Rattle.review_words.specs.declared.command.ChangeCommand.{ChangeCommand}
 use Rattle.review_words.specs.declared.command.ChangeCommand.TheVariants.{Review as ReviewCommand, Upload as UploadCommand}
+use Rattle.review_words.specs.declared.command.Command.{Command, TheVariants.OnChange}
+use Rattle.review_words.specs.declared.reply.Answer.{Answer, TheVariants.Patch, TheVariants.Reviewed}
+use Rattle.review_words.specs.declared.reply.Reply.{Reply, TheVariants.Done}
+use Rattle.review_changes.specs.Change.{Change, after_copying, after_plain, carried, copying, current, is_lost, said, after as change_after_request}
+use Rattle.review_changes.specs.{Counts.AreMany, Votes.voted}
+use Rattle.review_rows.proofs.{Asked.requests_are, Puts.no_base, Puts.no_base_more, Puts.no_file, Puts.no_project}
 use Rattle.review_rows.specs.Answer.{IsAnswerBy, IsOf, IsUploadAnswer, comment_numbers, most_requests, numbers_after, refused_by}
 use Rattle.review_rows.specs.Changes.{Reading, change, setting_of}
-use Rattle.review_rows.specs.Files.{File}
-use Rattle.review_rows.specs.Known.{known, number_of, part_of}
+use Rattle.review_rows.specs.{Files.File, Known.known, Known.number_of, Known.part_of}
 use Rattle.review_rows.specs.Rows.{Key, Row, AccountKey, MemberKey, FileKey, BaseKey, PartKey, OddKey, APart, Count, Projects, BasesOf, ClosedEpochs, account_change, member_change, edited, after, count_after, part_change, member_cmp}
-use Rattle.review_rows.proofs.Puts.{no_base, no_base_more, no_file, no_project}
-use Rattle.review_rows.specs.Steps.{OfCommand}
-use Rattle.review_rows.specs.View.{AreEnough, IsDecided, counted, fact, view}
-use Rattle.review_rows.specs.declared.rows.Delta.{Delta}
-use Rattle.review_rows.specs.declared.rows.Rows.{Rows}
-use Rattle.review_rows.specs.declared.rows.Want.TheVariants as want
-use Rattle.review_rows.proofs.Asked.{requests_are}
+use Rattle.review_rows.specs.{Steps.OfCommand, View.AreEnough, View.IsDecided, View.counted, View.fact, View.view}
+use Rattle.review_rows.specs.declared.rows.{Delta.Delta, Rows.Rows}
 use Rattle.review_account_decisions.proofs.Decided.{outcome_answer}
-use Rattle.review_change_decisions.specs.Facts.{IsReviewed, IsUploaded, MakesChange, next_numbers, next_request, setting_in}
 use Rattle.review_change_decisions.proofs.Made.{edit_turns}
+use Rattle.review_change_decisions.specs.Facts.{IsReviewed, IsUploaded, MakesChange, next_numbers, next_request, setting_in}
+use Rattle.review_rows.specs.declared.rows.Want.TheVariants as want
 
 -- numbers after one are so many next ones
 numbers_next : {X : Type 0} (n : ℕ) (xs : List X) → numbers_after n xs ≡ next_numbers n (length xs)

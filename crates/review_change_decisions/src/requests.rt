@@ -1,20 +1,14 @@
 //! Requests on a change.
 ghost use Rattle.std.specs.Prelude.{◌≡◌, ◌⊎◌, ◌<◌, List, IfOk, IfErr, length, option_copied, true, false, None};
-ghost use Rattle.review_words.specs.Texts.{IsStored};
 ghost use Rattle.review_words.specs.History.{Entry, is_account};
-ghost use Rattle.review_words.specs.declared.command.Command.TheVariants.{OnChange};
-ghost use Rattle.review_changes.specs.Change.{after_plain};
-ghost use Rattle.review_changes.specs.Seen.{seen};
-ghost use Rattle.review_changes.specs.Sound.{IsSound, fits};
-ghost use Rattle.review_rows.specs.Answer.{first_refusal, most_requests};
-ghost use Rattle.review_rows.specs.Changes.{Reading};
-ghost use Rattle.review_rows.specs.Decisions.{IsUndecided, NamesEachOnce};
-ghost use Rattle.review_rows.specs.Rows.{HasNoEffect};
-ghost use Rattle.review_rows.specs.Steps.{OfCommand};
-ghost use Rattle.review_rows.specs.View.{AreEnough, IsDecided};
-ghost use Rattle.review_change_decisions.specs.Requests.{IsPlainlyDone, is_plain, lacks_file, asks_right, plain_list};
-ghost use Rattle.review_change_decisions.specs.Facts.{IsChecked, MakesChange};
+ghost use Rattle.review_words.specs.{Texts.IsStored, declared.command.Command.TheVariants.OnChange};
 ghost use Rattle.review_words.specs.declared.reply.NotTaken.TheVariants.{Damaged, Memory};
+ghost use Rattle.review_changes.specs.{Change.after_plain, Seen.seen, Sound.IsSound, Sound.fits};
+ghost use Rattle.review_rows.specs.{Answer.first_refusal, Answer.most_requests, Changes.Reading};
+ghost use Rattle.review_rows.specs.Decisions.{IsUndecided, NamesEachOnce};
+ghost use Rattle.review_rows.specs.{Rows.HasNoEffect, Steps.OfCommand, View.AreEnough, View.IsDecided};
+ghost use Rattle.review_change_decisions.specs.Facts.{IsChecked, MakesChange};
+ghost use Rattle.review_change_decisions.specs.Requests.{IsPlainlyDone, is_plain, lacks_file, asks_right, plain_list};
 
 use crate::edits::{Checked, change_file, checked_by, turned};
 use crate::refusing::plain_refusal;

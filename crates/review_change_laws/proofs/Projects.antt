@@ -1,20 +1,16 @@
 -- The project of a change has a file.
 use Rattle.std.proofs.Common.{◌≡◌, ℕ, ◌+◌, ◌==◌, List, [], ◌∷◌, length, Option, Some, None, Bool, true, false, cond, refl, sym, ap, ◌∙◌, subst}
-use Rattle.std.specs.Prelude.{is_some, option_map}
-use Rattle.std.specs.Str.{bytes_eq}
+use Rattle.std.specs.{Prelude.is_some, Prelude.option_map, Str.bytes_eq}
 use Rattle.review_words.specs.History.{Entry, accepted, file_text, if_done, is_account, is_project, text_put}
 use Rattle.review_words.specs.declared.command.Command.{Command}
 use Rattle.review_words.specs.declared.command.Command.TheVariants.{CreateAccount, PutGroup, PutProject, RecordBase, CloseEpoch, CreateChange, OnChange, Submit}
-use Rattle.review_words.specs.declared.reply.Answer.{Answer}
-use Rattle.review_words.specs.declared.reply.Refusal.TheVariants.{UnknownCaller}
-use Rattle.review_words.specs.declared.reply.Reply.{Reply}
+use Rattle.review_words.specs.declared.reply.{Answer.Answer, Refusal.TheVariants.UnknownCaller, Reply.Reply}
 use Rattle.review_words.specs.declared.reply.Reply.TheVariants.{Done, Refused, IdentityReused, EpochClosed, NotTaken}
 use Rattle.review_changes.specs.Change.{Change, after, begun}
 use Rattle.review_rows.proofs.Readings.{IsDoneBy, done_of}
 use Rattle.review_rows.specs.Answer.{IsAnswerBy, IsHistory, checks}
 use Rattle.review_rows.specs.Changes.{Reading, Reads, change, change_by, change_count, setting_of, submitted}
-use Rattle.review_change_laws.proofs.Joining.{joining_keeps}
-use Rattle.review_change_laws.proofs.Sound.{all_pass, done_passes}
+use Rattle.review_change_laws.proofs.{Joining.joining_keeps, Sound.all_pass, Sound.done_passes}
 
 some_put : (b : Bool) (text : List ℕ) (before : Option (List ℕ)) → is_some before ≡ true → is_some (cond b (Some text) before) ≡ true
 some_put true text before some = refl

@@ -1,27 +1,23 @@
 -- Every change of a history is sound.
 use Rattle.std.proofs.Common.{◌≡◌, ℕ, ◌+◌, ◌==◌, List, [], ◌∷◌, ◌++◌, length, Option, Some, None, Bool, true, false, cond, ◌&&◌, refl, sym, ap, ◌∙◌, subst, ⊎_elim, eqb-true}
+use Rattle.std.{proofs.lemmas.Bool.cases_Bool, specs.List.AllByRecursion}
 use Rattle.std.specs.Prelude.{MatchOption, option_map, nat_le}
-use Rattle.std.specs.List.{AllByRecursion}
-use Rattle.std.proofs.lemmas.Bool.{cases_Bool}
 use Rattle.review_names.specs.Forms.{is_within, most_comments}
 use Rattle.review_words.specs.History.{Entry, accepted, if_done, is_account}
-use Rattle.review_words.specs.declared.changes.NewChange.{NewChange}
-use Rattle.review_words.specs.declared.changes.Review.{Review as ReviewOf}
-use Rattle.review_words.specs.declared.command.Command.{Command}
+use Rattle.review_words.specs.declared.changes.{NewChange.NewChange, Review.Review as ReviewOf}
+use Rattle.review_words.specs.declared.command.{ChangeCommand.ChangeCommand, Command.Command}
 use Rattle.review_words.specs.declared.command.Command.TheVariants.{CreateAccount, PutGroup, PutProject, RecordBase, CloseEpoch, CreateChange, OnChange, Submit}
-use Rattle.review_words.specs.declared.reply.Answer.{Answer}
-use Rattle.review_words.specs.declared.reply.Refusal.{Refusal}
+use Rattle.review_words.specs.declared.reply.{Answer.Answer, Refusal.Refusal}
 use Rattle.review_words.specs.declared.reply.Refusal.TheVariants.{UnknownCaller, NoComment, Limit}
 use Rattle.review_words.specs.declared.reply.Reply.{Reply}
 use Rattle.review_words.specs.declared.reply.Reply.TheVariants.{Done, Refused, IdentityReused, EpochClosed, NotTaken}
 use Rattle.review_changes.specs.Change.{Change, Copying, Setting, after, after_copying, begun, copying, current, joined_at, reviewed, said}
 use Rattle.review_changes.specs.Sound.{IsSound, answer_stored, fits}
-use Rattle.review_words.specs.declared.command.ChangeCommand.{ChangeCommand}
-use Rattle.review_words.specs.declared.command.ChangeCommand.TheVariants as on
 use Rattle.review_rows.proofs.Readings.{IsDoneBy, done_of}
 use Rattle.review_rows.specs.Answer.{IsAnswerBy, IsHistory, IsOutcome, first_refusal, given_checks, of_change, refused_by, request_checks}
 use Rattle.review_rows.specs.Changes.{Reading, Reads, change, change_by, change_count, setting_of, submitted}
 use Rattle.review_change_laws.proofs.Joining.{joining_keeps}
+use Rattle.review_words.specs.declared.command.ChangeCommand.TheVariants as on
 
 -- a new change is sound, and stays so
 abbrev pub BeginsSound : Type 0

@@ -1,46 +1,33 @@
 -- What the tables of a change tell.
 use Rattle.std.proofs.Common.{◌≡◌, ◌∙◌, ◌⊎◌, ℕ, ℤ, List, [], ◌∷◌, Bool, true, Option, Some, None, option_map, pos, refl, sym, ap, subst, inl, inr}
-use Rattle.std.specs.Option.{IsSome}
-use Rattle.std.proofs.lemmas.Bool.{cases_Bool, and_parts}
-use Rattle.sqlite_value.specs.Order.{column}
-use Rattle.std.proofs.lemmas.Option.{same_Some}
-use Rattle.sqlite_value.specs.declared.value.Value.TheVariants.{Int}
+use Rattle.std.proofs.lemmas.{Bool.cases_Bool, Bool.and_parts, Option.same_Some}
+use Rattle.std.specs.{Option.IsSome, Ordering.nat_cmp}
 use Rattle.sqlite_trees.specs.Tree.{Trees}
-use Rattle.std.specs.Ordering.{nat_cmp}
+use Rattle.sqlite_value.specs.{Order.column, declared.value.Value.TheVariants.Int}
 use Rattle.review_table.specs.Rows.{row_in, rows_of}
+use Rattle.review_statements.{proofs.Meaning.all_pass, specs.Content.has_key, specs.Greatest.HasGreatest}
+use Rattle.review_statements.specs.Search.{only, reads, row_at, rows_at}
+use Rattle.review_words.specs.declared.changes.Role.{Role}
+use Rattle.review_tables.specs.Fronts.{AreParts}
 use Rattle.review_changes.specs.Change.{Change}
 use Rattle.review_changes.specs.Parts.{Part, TheHeader, PatchOf, VoteOf, RoleOf, CommentOf, AttentionOf, PartRow, AHeader, APatch, AVote, ARole, AComment, ACall, part_row}
-use Rattle.review_changes.specs.Seen.{vote_cmp}
-use Rattle.review_changes.specs.declared.rows.Called.{Called}
-use Rattle.review_changes.specs.declared.rows.CommentRow.{CommentRow}
-use Rattle.review_changes.specs.declared.rows.PatchRow.{PatchRow}
-use Rattle.review_changes.specs.declared.rows.VoteKey.{VoteKey}
-use Rattle.review_words.specs.declared.changes.Role.{Role}
-use Rattle.review_change_rows.specs.declared.tables.ChangeTables.{ChangeTables}
-use Rattle.review_change_rows.specs.Tables as tables
-use Rattle.review_change_rows.specs.Tables.{Show}
-use Rattle.review_rows.specs.Changes.{change}
+use Rattle.review_changes.specs.{Seen.vote_cmp, Votes.voted}
+use Rattle.review_changes.specs.declared.rows.{Called.Called, CommentRow.CommentRow, PatchRow.PatchRow, VoteKey.VoteKey}
+use Rattle.review_rows.{proofs.Readings.reading_of, specs.Changes.change}
 use Rattle.review_rows.specs.Known.{HasChange, IsLast, header_key, part_of}
-use Rattle.review_rows.specs.Rows.{PartKey, APart, vote_row}
-use Rattle.review_changes.specs.Votes.{voted}
-use Rattle.review_rows.specs.Shelf.{IsDamaged}
-use Rattle.review_rows.proofs.Readings.{reading_of}
-use Rattle.review_statements.specs.Content.{has_key}
-use Rattle.review_tables.specs.Fronts.{AreParts}
-use Rattle.review_statements.specs.Greatest.{HasGreatest}
-use Rattle.review_statements.specs.Search.{only, reads, row_at, rows_at}
+use Rattle.review_rows.specs.{Rows.PartKey, Rows.APart, Rows.vote_row, Shelf.IsDamaged}
+use Rattle.review_rows.specs.declared.rows.{Rows.Rows, Want.Want}
+use Rattle.review_change_rows.specs.{Tables.Show, declared.tables.ChangeTables.ChangeTables}
 use Rattle.review_records.specs.Forms.{where_is}
-use Rattle.review_statements.proofs.Meaning.{all_pass}
 use Rattle.review_change_records.specs.Forms.{headers, patches, votes, roles, comments, calls, change_patches, change_votes, change_roles, change_comments, change_calls, change_numbers, integer_in, is_vote}
-use Rattle.review_rows.specs.declared.rows.Rows.{Rows}
-use Rattle.review_rows.specs.declared.rows.Want.{Want}
+use Rattle.review_database.proofs.Telling.{last_none, last_some, odd_damage, stored_row}
+use Rattle.review_database.specs.Loads.{Tells, last_of}
+use Rattle.review_database.specs.Tables.{part_in, tables_at, told, vote_told}
 use Rattle.review_database.specs.declared.sights.Sight.{Sight}
 use Rattle.review_database.specs.declared.sights.Sight.TheVariants.{Learnt, NoMemory, Damaged}
-use Rattle.review_change_lookups.specs.declared.reviews.FoundRows.{FoundRows}
-use Rattle.review_database.specs.Loads.{Tells, last_of}
 use Rattle.review_change_lookups.specs.Reviews.{AreFoundRows, HasRow, HaveSome, HaveTables, IsWhyNone}
-use Rattle.review_database.specs.Tables.{part_in, tables_at, told, vote_told}
-use Rattle.review_database.proofs.Telling.{last_none, last_some, odd_damage, stored_row}
+use Rattle.review_change_lookups.specs.declared.reviews.FoundRows.{FoundRows}
+use Rattle.review_change_rows.specs.Tables as tables
 
 part_whole : {X : Type 0} (kind : X → PartRow) (o : Option X) → told (λ x. APart (kind x)) (option_map Some o) ≡ option_map APart (option_map kind o)
 part_whole kind None = refl

@@ -1,35 +1,23 @@
 -- What is found of a change in its tables.
+use Rattle.std.specs.Ordering.{nat_cmp}
 use Rattle.std.specs.Prelude.{ℕ, ◌+◌, ℤ, ◌≡◌, ◌⊎◌, List, Option, Some, None, IsSome, IfSome, if◌then◌else◌, option_map}
 use Rattle.std.specs.declared.cmp.Ordering.{Ordering}
-use Rattle.std.specs.Ordering.{nat_cmp}
 use Rattle.sqlite_trees.specs.Tree.{Trees}
 use Rattle.review_names.specs.Forms.{is_within, most_changes}
 use Rattle.review_table.specs.Rows.{row_in, rows_of}
+use Rattle.review_statements.specs.{Greatest.HasGreatest, Search.row_at}
 use Rattle.review_words.specs.declared.changes.Role.{Role}
-use Rattle.review_changes.specs.declared.rows.Called.{Called}
-use Rattle.review_changes.specs.declared.rows.CommentRow.{CommentRow}
-use Rattle.review_changes.specs.declared.rows.PatchRow.{PatchRow}
-use Rattle.review_changes.specs.declared.rows.VoteKey.{VoteKey}
-use Rattle.review_changes.specs.Parts.{Part}
-use Rattle.review_changes.specs.Seen.{vote_cmp}
-use Rattle.review_change_rows.specs.declared.tables.ChangeTables.{ChangeTables}
-use Rattle.review_change_rows.specs.Tables as tables
-use Rattle.review_rows.specs.Rows.{APart}
-use Rattle.review_rows.specs.Known.{HasChange}
-use Rattle.review_changes.specs.Change.{Change}
-use Rattle.review_rows.specs.Shelf.{IsDamaged}
 use Rattle.review_tables.specs.Fronts.{AreParts}
-use Rattle.review_statements.specs.Search.{row_at}
-use Rattle.review_statements.specs.Greatest.{HasGreatest}
+use Rattle.review_changes.specs.{Change.Change, Parts.Part, Seen.vote_cmp}
+use Rattle.review_changes.specs.declared.rows.{Called.Called, CommentRow.CommentRow, PatchRow.PatchRow, VoteKey.VoteKey}
+use Rattle.review_rows.specs.{Known.HasChange, Rows.APart, Shelf.IsDamaged}
+use Rattle.review_change_rows.specs.declared.tables.ChangeTables.{ChangeTables}
 use Rattle.review_records.specs.Keyed.{is_small, where_is}
 use Rattle.review_change_records.specs.Forms.{change_numbers, headers, patches, votes, roles, comments, calls, change_patches, change_votes, change_roles, change_comments, change_calls}
-use Rattle.review_database.specs.declared.sights.Sight.{Sight}
+use Rattle.review_database.specs.{Loads.last_of, Tables.part_in, Tables.tables_at, declared.sights.Sight.Sight}
 use Rattle.review_database.specs.declared.sights.Sight.TheVariants.{Learnt, NoMemory, Damaged}
-use Rattle.review_change_lookups.specs.declared.reviews.FoundRows.{FoundRows}
-use Rattle.review_change_lookups.specs.declared.reviews.FoundSets.{FoundSets}
-use Rattle.review_change_lookups.specs.declared.reviews.FoundTalk.{FoundTalk}
-use Rattle.review_database.specs.Loads.{last_of}
-use Rattle.review_database.specs.Tables.{part_in, tables_at}
+use Rattle.review_change_lookups.specs.declared.reviews.{FoundRows.FoundRows, FoundSets.FoundSets, FoundTalk.FoundTalk}
+use Rattle.review_change_rows.specs.Tables as tables
 
 -- what was sent of a change, and the votes on it, as its tables have them
 pub record AreFoundSets (n : ℕ) (db : Trees) (f : FoundSets) : Type 0 where

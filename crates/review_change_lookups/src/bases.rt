@@ -2,14 +2,11 @@
 ghost use Rattle.std.specs.Prelude.{◌≡◌, true, false, Some, None, IfOk};
 ghost use Rattle.sqlite.specs.Held.{state};
 ghost use Rattle.sqlite_trees.specs.Tree.{Trees};
-ghost use Rattle.review_rows.specs.declared.rows.Want.TheVariants as want;
-ghost use Rattle.review_records.specs.Forms.{base_commits, bases};
-ghost use Rattle.review_statements.specs.Greatest.{HasOne};
-ghost use Rattle.review_statements.specs.Ran.{Looks};
-ghost use Rattle.review_statements.specs.Search.{row_at};
+ghost use Rattle.review_statements.specs.{Greatest.HasOne, Ran.Looks, Search.row_at};
 ghost use Rattle.review_rows.specs.Known.{IsBaseOrNot};
-ghost use Rattle.review_database.specs.Loads.{HasLearnt, IfTold, Sees};
-ghost use Rattle.review_database.specs.Tables.{tables_at};
+ghost use Rattle.review_records.specs.Forms.{base_commits, bases};
+ghost use Rattle.review_database.specs.{Loads.HasLearnt, Loads.IfTold, Loads.Sees, Tables.tables_at};
+ghost use Rattle.review_rows.specs.declared.rows.Want.TheVariants as want;
 
 use review_database::Sight;
 use review_database::learning::{learn_base, learnt};

@@ -2,16 +2,12 @@
 ghost use Rattle.std.specs.Prelude.{◌≡◌, ◌<◌, ℕ, Some, IfOk};
 ghost use Rattle.sqlite.specs.Held.{state};
 ghost use Rattle.sqlite_trees.specs.Tree.{Trees};
-ghost use Rattle.review_rows.specs.declared.rows.BranchKey.{BranchKey};
-ghost use Rattle.review_rows.specs.declared.rows.Want.TheVariants as want;
-ghost use Rattle.review_rows.specs.Known.{HaveJoined, IsCurrent};
-ghost use Rattle.review_statements.specs.Greatest.{HasGreatest};
-ghost use Rattle.review_statements.specs.Ran.{Looks};
-ghost use Rattle.review_statements.specs.Search.{row_at};
+ghost use Rattle.review_statements.specs.{Greatest.HasGreatest, Ran.Looks, Search.row_at};
+ghost use Rattle.review_rows.specs.{Known.HaveJoined, Known.IsCurrent, declared.rows.BranchKey.BranchKey};
 ghost use Rattle.review_change_records.specs.Forms.{change_places, changes_at, headers, patch_numbers, patches};
+ghost use Rattle.review_database.specs.{Loads.HasLearnt, Loads.IfTold, Loads.Sees, Tables.tables_at};
 ghost use Rattle.review_change_lookups.specs.Joins.{IsLastPlace, IsOnlyAt, TellsAt, TellsCurrent};
-ghost use Rattle.review_database.specs.Loads.{HasLearnt, IfTold, Sees};
-ghost use Rattle.review_database.specs.Tables.{tables_at};
+ghost use Rattle.review_rows.specs.declared.rows.Want.TheVariants as want;
 
 use crate::places::is_placed;
 use review_change_records::branches::ChangeAt;

@@ -2,13 +2,11 @@
 ghost use Rattle.std.specs.Prelude.{◌≡◌, true, false, Some, None, IfOk};
 ghost use Rattle.sqlite.specs.Held.{state};
 ghost use Rattle.sqlite_trees.specs.Tree.{Trees};
-ghost use Rattle.review_rows.specs.declared.rows.Want.TheVariants as want;
-ghost use Rattle.review_statements.specs.Greatest.{HasGreatest};
-ghost use Rattle.review_statements.specs.Ran.{Looks};
-ghost use Rattle.review_statements.specs.Search.{row_at};
+ghost use Rattle.review_statements.specs.{Greatest.HasGreatest, Ran.Looks, Search.row_at};
 ghost use Rattle.review_change_records.specs.Forms.{change_places, headers};
-ghost use Rattle.review_change_lookups.specs.Joins.{IsHeaderAt};
 ghost use Rattle.review_database.specs.Loads.{HasLearnt, Sees};
+ghost use Rattle.review_change_lookups.specs.Joins.{IsHeaderAt};
+ghost use Rattle.review_rows.specs.declared.rows.Want.TheVariants as want;
 
 use review_change_records::headers::{Headers, LastJoined};
 use review_changes::Header;

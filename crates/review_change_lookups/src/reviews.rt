@@ -3,13 +3,12 @@ ghost use Rattle.std.specs.Prelude.{◌≡◌, ◌≢◌, ℕ, [], true, false, 
 ghost use Rattle.sqlite.specs.Held.{state};
 ghost use Rattle.sqlite_trees.specs.Tree.{Trees};
 ghost use Rattle.review_table.specs.Rows.{rows_of};
-ghost use Rattle.review_rows.specs.declared.rows.Want.TheVariants as want;
-ghost use Rattle.review_statements.specs.Greatest.{HasGreatest};
-ghost use Rattle.review_statements.specs.Ran.{Looks};
+ghost use Rattle.review_statements.specs.{Greatest.HasGreatest, Ran.Looks};
+ghost use Rattle.review_records.specs.Keyed.{is_small, where_is};
 ghost use Rattle.review_change_records.specs.Forms.{change_numbers};
 ghost use Rattle.review_database.specs.Loads.{HasLearnt, Sees, last_of};
-ghost use Rattle.review_records.specs.Keyed.{is_small, where_is};
 ghost use Rattle.review_change_lookups.specs.Reviews.{AreFoundRows, AreFoundSets, AreFoundTalk, HasRow, HaveSome, HaveTables, IsWhyNone, NothingStays, number_after};
+ghost use Rattle.review_rows.specs.declared.rows.Want.TheVariants as want;
 
 use review_change_records::calls::Calls;
 use review_change_records::comments::Comments;

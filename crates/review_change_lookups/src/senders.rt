@@ -1,19 +1,15 @@
 //! The change that sent a commit is looked up, and what a commit is to a branch.
-ghost use Rattle.std.specs.Prelude.{◌≡◌, ℕ, Bool, true, false, Some, None, IfOk, MatchBool};
 ghost use Rattle.std.specs.Bool.{Decides};
+ghost use Rattle.std.specs.Prelude.{◌≡◌, ℕ, Bool, true, false, Some, None, IfOk, MatchBool};
 ghost use Rattle.sqlite.specs.Held.{state};
 ghost use Rattle.sqlite_trees.specs.Tree.{Trees};
-ghost use Rattle.review_rows.specs.declared.rows.Base.{Base};
-ghost use Rattle.review_rows.specs.declared.rows.BranchKey.{BranchKey};
-ghost use Rattle.review_rows.specs.declared.rows.Want.TheVariants as want;
+ghost use Rattle.review_statements.specs.{Greatest.HasGreatest, Ran.Looks, Search.row_at};
 ghost use Rattle.review_rows.specs.Known.{IsBaseOrNot, StandsAs};
-ghost use Rattle.review_statements.specs.Greatest.{HasGreatest};
-ghost use Rattle.review_statements.specs.Ran.{Looks};
-ghost use Rattle.review_statements.specs.Search.{row_at};
+ghost use Rattle.review_rows.specs.declared.rows.{Base.Base, BranchKey.BranchKey};
 ghost use Rattle.review_change_records.specs.Forms.{headers, patch_numbers, patches};
-ghost use Rattle.review_database.specs.Loads.{HasLearnt, IfTold, Sees};
+ghost use Rattle.review_database.specs.{Loads.HasLearnt, Loads.IfTold, Loads.Sees, Tables.tables_at};
 ghost use Rattle.review_change_lookups.specs.Senders.{Examines, HasSent, IsFoundSent, IsLastSet, IsOutside, IsSentWith, TellsIf, is_sent_with};
-ghost use Rattle.review_database.specs.Tables.{tables_at};
+ghost use Rattle.review_rows.specs.declared.rows.Want.TheVariants as want;
 
 use crate::bases::is_base;
 use review_chain::Standing;

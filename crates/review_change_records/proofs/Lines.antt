@@ -1,7 +1,6 @@
 -- The lines of a text, the first one taken off.
 use Rattle.std.proofs.Common.{◌≡◌, ℕ, suc, ◌+◌, ◌<◌, ◌==◌, ◌&&◌, Bool, true, false, not, List, [], ◌∷◌, length, take, drop, refl, sym, ap, ap₂, ◌∙◌, arith, cond, ◌++◌, None, inl, inr}
-use Rattle.std.proofs.lemmas.Bool.{cases_Bool}
-use Rattle.std.proofs.lemmas.List.{append_assoc}
+use Rattle.std.proofs.lemmas.{Bool.cases_Bool, List.append_assoc}
 use Rattle.std.specs.List.{list_all, position_or_len, before_first, after_first}
 use Rattle.review_names.specs.Forms.{is_path, with_front}
 use Rattle.review_change_records.specs.Paths.{lines, paths_in, set_in}

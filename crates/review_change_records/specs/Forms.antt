@@ -1,32 +1,22 @@
 -- The tables of changes: how their rows are looked up and stored.
 use Rattle.std.specs.Prelude.{ℕ, ℤ, zero, suc, pos, negsuc, ◌&&◌, Bool, true, false, int_le, List, [], ◌∷◌, Option, Some, None, if◌then◌else◌, codes}
 use Rattle.std.specs.Str.{bytes_eq, is_utf8}
-use Rattle.sqlite_value.specs.declared.value.Value.{Value}
+use Rattle.sqlite_value.specs.{Order.column, declared.value.Value.Value}
 use Rattle.sqlite_value.specs.declared.value.Value.TheVariants.{Null, Int, Real, Text, Blob}
-use Rattle.sqlite_value.specs.Order.{column}
-use Rattle.review_names.specs.declared.kinds.ChangeKind.{ChangeKind}
 use Rattle.review_names.specs.Forms.{is_commit, is_label, is_line, is_message, is_place, is_slashed_name, is_within, most_changes, most_comments, most_patches}
 use Rattle.review_names.specs.Kinds.{kind_name, kind_named}
-use Rattle.review_names.specs.Names.{is_account_number}
-use Rattle.review_words.specs.declared.changes.Role.{Role}
-use Rattle.review_words.specs.declared.shown.State.{State}
-use Rattle.review_words.specs.declared.shown.State.TheVariants.{New, Merged, Abandoned}
-use Rattle.review_words.specs.Texts.{role_name, role_named}
-use Rattle.review_changes.specs.declared.rows.Called.{Called}
-use Rattle.review_changes.specs.declared.rows.CommentRow.{CommentRow}
-use Rattle.review_changes.specs.declared.rows.Header.{Header}
-use Rattle.review_changes.specs.declared.rows.PatchRow.{PatchRow}
-use Rattle.review_changes.specs.declared.rows.VoteKey.{VoteKey}
-use Rattle.review_changes.specs.Votes.{voted}
-use Rattle.review_rows.specs.declared.rows.BranchKey.{BranchKey}
-use Rattle.review_tables.specs.Columns.{number_in, text_in}
-use Rattle.review_statements.specs.Desk as table
+use Rattle.review_names.specs.{Names.is_account_number, declared.kinds.ChangeKind.ChangeKind}
 use Rattle.review_statements.specs.Search.{Search, Form, with_rowid, with_number}
-use Rattle.review_rows.specs.declared.rows.PlaceKey.{PlaceKey}
-use Rattle.review_records.specs.Forms.{both, where_is}
-use Rattle.review_records.specs.Keyed.{is_small}
-use Rattle.review_change_records.specs.Paths.{paths_in, paths_text, are_read_back}
+use Rattle.review_words.specs.{Texts.role_name, Texts.role_named, declared.changes.Role.Role}
+use Rattle.review_words.specs.declared.shown.State.{State, TheVariants.New, TheVariants.Merged, TheVariants.Abandoned}
+use Rattle.review_tables.specs.Columns.{number_in, text_in}
+use Rattle.review_changes.specs.{Votes.voted, declared.rows.Called.Called}
+use Rattle.review_changes.specs.declared.rows.{CommentRow.CommentRow, Header.Header, PatchRow.PatchRow, VoteKey.VoteKey}
+use Rattle.review_rows.specs.declared.rows.{BranchKey.BranchKey, PlaceKey.PlaceKey}
+use Rattle.review_records.specs.{Forms.both, Forms.where_is, Keyed.is_small}
 use Rattle.review_change_records.specs.Keyed.{header_keyed, patch_keyed, vote_keyed, account_keyed, comment_keyed}
+use Rattle.review_change_records.specs.Paths.{paths_in, paths_text, are_read_back}
+use Rattle.review_statements.specs.Desk as table
 
 -- ---- values of columns
 

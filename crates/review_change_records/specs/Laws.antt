@@ -1,46 +1,30 @@
 -- The laws of the tables of changes.
 use Rattle.std.proofs.Common.{◌≡◌, ◌∙◌, ◌&&◌, is_some, nat_lt, ℕ, suc, zero, pos, List, [], ◌∷◌, Option, Some, None, Bool, true, false, refl, ap, sym, subst, inl, inr}
-use Rattle.std.specs.Ordering.{nat_cmp, is_eq, ordering_then}
-use Rattle.std.specs.Cmp.Lexicographic.{slice_cmp}
-use Rattle.std.specs.declared.cmp.Ordering.{Ordering}
-use Rattle.std.specs.declared.cmp.Ordering.TheVariants.{Less, Equal, Greater}
-use Rattle.std.specs.List.{list_all}
-use Rattle.std.specs.Str.{IsAscii, bytes_eq, is_utf8}
-use Rattle.std.proofs.lemmas.Bool.{ltb-true}
-use Rattle.std.proofs.lemmas.Map.Text.{is_eq-slice_cmp}
-use Rattle.std.proofs.lemmas.Str.{IsUtf8-from_ascii, is_utf8-from_IsUtf8}
-use Rattle.std.proofs.lemmas.Str.Ascii.{IsAscii-cons, IsAscii-nil}
-use Rattle.std.proofs.lemmas.Bool.{and_parts, and_from, cases_Bool}
+use Rattle.std.proofs.lemmas.Bool.{ltb-true, and_parts, and_from, cases_Bool}
 use Rattle.std.proofs.lemmas.Cmp.{nat_cmp_total, tied_itself, nat_list_cmp_total}
 use Rattle.std.proofs.lemmas.Map.Lookups.{exact_unsigned, exact_bytes}
-use Rattle.std.proofs.lemmas.Option.{same_Some}
-use Rattle.sqlite_value.specs.declared.value.Value.{Value}
-use Rattle.sqlite_value.specs.declared.value.Value.TheVariants.{Int, Text}
+use Rattle.std.proofs.lemmas.{Map.Text.is_eq-slice_cmp, Option.same_Some}
+use Rattle.std.proofs.lemmas.Str.{IsUtf8-from_ascii, is_utf8-from_IsUtf8, Ascii.IsAscii-cons, Ascii.IsAscii-nil}
+use Rattle.std.specs.{Cmp.Lexicographic.slice_cmp, List.list_all}
+use Rattle.std.specs.{Ordering.nat_cmp, Ordering.is_eq, Ordering.ordering_then, Str.IsAscii, Str.bytes_eq, Str.is_utf8}
+use Rattle.std.specs.declared.cmp.Ordering.{Ordering, TheVariants.Less, TheVariants.Equal, TheVariants.Greater}
 use Rattle.sqlite_value.specs.Order.{Row as Raw, column, value_cmp}
+use Rattle.sqlite_value.specs.declared.value.Value.{Value, TheVariants.Int, TheVariants.Text}
 use Rattle.review_names.specs.Forms.{is_commit, is_label, is_line, is_message, is_place, is_slashed_name, is_within, most_changes, most_comments, most_patches}
-use Rattle.review_names.specs.declared.kinds.ChangeKind.{ChangeKind}
-use Rattle.review_names.specs.declared.kinds.ChangeKind.TheVariants as kind
 use Rattle.review_names.specs.Kinds.{kind_name, kind_named}
-use Rattle.review_names.specs.Names.{is_account_number}
-use Rattle.review_words.specs.declared.changes.Role.{Role}
-use Rattle.review_words.specs.declared.changes.Role.TheVariants.{Reviewer, Cc}
-use Rattle.review_words.specs.declared.shown.State.{State}
-use Rattle.review_words.specs.declared.shown.State.TheVariants.{New, Merged, Abandoned}
+use Rattle.review_names.specs.{Names.is_account_number, declared.kinds.ChangeKind.ChangeKind}
+use Rattle.review_statements.specs.{Content.has_key, Content.is_value, Search.IsLawful, Search.reads}
 use Rattle.review_words.specs.Texts.{role_name, role_named}
-use Rattle.review_changes.specs.declared.rows.PatchRow.{PatchRow}
-use Rattle.review_changes.specs.declared.rows.VoteKey.{VoteKey}
-use Rattle.review_changes.specs.Seen.{vote_cmp}
-use Rattle.review_tables.specs.Columns.{number_in, text_in}
-use Rattle.review_statements.specs.Content.{has_key}
-use Rattle.review_tables.specs.Fronts.{IsExact, IsFront}
-use Rattle.review_statements.specs.Search.{IsLawful, reads}
-use Rattle.review_statements.specs.Content.{is_value}
+use Rattle.review_words.specs.declared.changes.Role.{Role, TheVariants.Reviewer, TheVariants.Cc}
+use Rattle.review_words.specs.declared.shown.State.{State, TheVariants.New, TheVariants.Merged, TheVariants.Abandoned}
 use Rattle.review_tables.proofs.Keys.{equal_is, itself, same_int, same_text, text_is as stored_text}
-use Rattle.review_records.specs.Keyed.{is_number, is_small}
-use Rattle.review_records.specs.Forms.{where_is}
+use Rattle.review_tables.specs.{Columns.number_in, Columns.text_in, Fronts.IsExact, Fronts.IsFront}
+use Rattle.review_changes.specs.{Seen.vote_cmp, declared.rows.PatchRow.PatchRow, declared.rows.VoteKey.VoteKey}
+use Rattle.review_records.specs.{Forms.where_is, Keyed.is_number, Keyed.is_small}
 use Rattle.review_records.specs.Laws.{at_number, both_are, keyed_number, numbers_exact, one_number, passed, reads_text}
-use Rattle.review_change_records.specs.Paths.{are_read_back, are_same, paths_in, paths_text, were_read}
 use Rattle.review_change_records.specs.Forms.{answered, answers_number, call_form, calls, change_calls, change_comments, change_patches, change_roles, change_votes, comment_form, comments, flag_number, flagged, header_form, headers, is_answer, named, patch_form, patched, patches, sent, role_form, roles, state_name, state_named, vote_form, vote_key, votes}
+use Rattle.review_change_records.specs.Paths.{are_read_back, are_same, paths_in, paths_text, were_read}
+use Rattle.review_names.specs.declared.kinds.ChangeKind.TheVariants as kind
 
 -- ---- values
 

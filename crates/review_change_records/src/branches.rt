@@ -15,8 +15,8 @@ pub struct ChangeAt;
 
 impl Lookup for ChangeAt {
     ghost use Rattle.std.specs.Prelude.{pos};
-    ghost use Rattle.review_statements.specs.declared.texts.TheConstants.{FIND_CHANGE_AT};
     ghost use Rattle.review_statements.proofs.TextsOfLookups.{find_change_at};
+    ghost use Rattle.review_statements.specs.declared.texts.TheConstants.{FIND_CHANGE_AT};
     ghost use Rattle.review_change_records.specs.Forms.{changes_at};
 
     type Key = PlaceKey;
@@ -50,8 +50,8 @@ pub struct ChangeBranches;
 
 impl Lookup for ChangeBranches {
     ghost use Rattle.std.specs.Prelude.{pos};
-    ghost use Rattle.review_statements.specs.declared.texts.TheConstants.{FIND_CHANGE_BRANCH};
     ghost use Rattle.review_statements.proofs.TextsOfLookups.{find_change_branch};
+    ghost use Rattle.review_statements.specs.declared.texts.TheConstants.{FIND_CHANGE_BRANCH};
     ghost use Rattle.review_change_records.specs.Forms.{change_branches};
 
     type Key = ChangeNo;

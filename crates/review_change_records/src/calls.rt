@@ -17,8 +17,7 @@ pub struct Calls;
 
 impl Lookup for Calls {
     ghost use Rattle.std.specs.Prelude.{pos};
-    ghost use Rattle.review_statements.specs.declared.texts.TheConstants.{FIND_CALLS};
-    ghost use Rattle.review_statements.proofs.TextsOfLookups.{find_calls};
+    ghost use Rattle.review_statements.{proofs.TextsOfLookups.find_calls, specs.declared.texts.TheConstants.FIND_CALLS};
     ghost use Rattle.review_change_records.specs.Forms.{change_calls};
 
     type Key = ChangeNo;
@@ -51,8 +50,7 @@ impl Lookup for Calls {
 }
 
 impl Front for Calls {
-    ghost use Rattle.review_change_records.specs.Forms.{calls};
-    ghost use Rattle.review_change_records.specs.Laws.{calls_of_change};
+    ghost use Rattle.review_change_records.specs.{Forms.calls, Laws.calls_of_change};
 
     type Part = AccountNo;
 
@@ -65,10 +63,9 @@ impl Front for Calls {
 
 impl Table for Calls {
     ghost use Rattle.std.specs.Prelude.{pos};
-    ghost use Rattle.review_statements.specs.declared.texts.TheConstants.{INSERT_ATTENTION, DELETE_ATTENTION};
     ghost use Rattle.review_statements.proofs.TextsOfChanges.{insert_attention, delete_attention};
-    ghost use Rattle.review_change_records.specs.Forms.{calls, call_form};
-    ghost use Rattle.review_change_records.specs.Laws.{call_lawful};
+    ghost use Rattle.review_statements.specs.declared.texts.TheConstants.{INSERT_ATTENTION, DELETE_ATTENTION};
+    ghost use Rattle.review_change_records.specs.{Forms.calls, Forms.call_form, Laws.call_lawful};
 
     type Key = (ChangeNo, AccountNo);
 

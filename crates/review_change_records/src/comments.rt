@@ -20,8 +20,8 @@ pub struct Comments;
 
 impl Lookup for Comments {
     ghost use Rattle.std.specs.Prelude.{pos};
-    ghost use Rattle.review_statements.specs.declared.texts.TheConstants.{FIND_COMMENTS};
     ghost use Rattle.review_statements.proofs.TextsOfLookups.{find_comments};
+    ghost use Rattle.review_statements.specs.declared.texts.TheConstants.{FIND_COMMENTS};
     ghost use Rattle.review_change_records.specs.Forms.{change_comments};
 
     type Key = ChangeNo;
@@ -78,8 +78,7 @@ impl Lookup for Comments {
 }
 
 impl Front for Comments {
-    ghost use Rattle.review_change_records.specs.Forms.{comments};
-    ghost use Rattle.review_change_records.specs.Laws.{comments_of_change};
+    ghost use Rattle.review_change_records.specs.{Forms.comments, Laws.comments_of_change};
 
     type Part = CommentNo;
 
@@ -91,11 +90,10 @@ impl Front for Comments {
 }
 
 impl Table for Comments {
-    ghost use Rattle.review_change_records.specs.Forms.{flag_number, answers_number};
     ghost use Rattle.std.specs.Prelude.{pos};
-    ghost use Rattle.review_statements.specs.declared.texts.TheConstants.{INSERT_COMMENT, DELETE_COMMENT};
     ghost use Rattle.review_statements.proofs.TextsOfChanges.{insert_comment, delete_comment};
-    ghost use Rattle.review_change_records.specs.Forms.{comments, comment_form};
+    ghost use Rattle.review_statements.specs.declared.texts.TheConstants.{INSERT_COMMENT, DELETE_COMMENT};
+    ghost use Rattle.review_change_records.specs.Forms.{flag_number, answers_number, comments, comment_form};
     ghost use Rattle.review_change_records.specs.Laws.{comment_lawful};
 
     type Key = (ChangeNo, CommentNo);

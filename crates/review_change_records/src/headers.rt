@@ -18,8 +18,8 @@ pub struct Headers;
 
 impl Lookup for Headers {
     ghost use Rattle.std.specs.Prelude.{pos};
-    ghost use Rattle.review_statements.specs.declared.texts.TheConstants.{FIND_CHANGE};
     ghost use Rattle.review_statements.proofs.TextsOfLookups.{find_change};
+    ghost use Rattle.review_statements.specs.declared.texts.TheConstants.{FIND_CHANGE};
     ghost use Rattle.review_change_records.specs.Forms.{headers};
 
     type Key = ChangeNo;
@@ -74,11 +74,10 @@ impl Lookup for Headers {
 }
 
 impl Table for Headers {
-    ghost use Rattle.review_change_records.specs.Forms.{state_name, flag_number};
     ghost use Rattle.std.specs.Prelude.{◌≡◌, ◌≤◌, ◌^◌, true, pos, IfErr, IfOk, OnOk};
-    ghost use Rattle.review_statements.specs.declared.texts.TheConstants.{INSERT_CHANGE, DELETE_CHANGE};
     ghost use Rattle.review_statements.proofs.TextsOfChanges.{insert_change, delete_change};
-    ghost use Rattle.review_change_records.specs.Forms.{headers, header_form};
+    ghost use Rattle.review_statements.specs.declared.texts.TheConstants.{INSERT_CHANGE, DELETE_CHANGE};
+    ghost use Rattle.review_change_records.specs.Forms.{state_name, flag_number, headers, header_form};
     ghost use Rattle.review_change_records.specs.Laws.{header_lawful};
 
     type Key = ChangeNo;
@@ -141,8 +140,8 @@ impl Table for Headers {
 pub struct LastChange;
 
 impl Greatest for LastChange {
-    ghost use Rattle.review_statements.specs.declared.texts.TheConstants.{FIND_LAST_CHANGE};
     ghost use Rattle.review_statements.proofs.TextsOfLookups.{find_last_change};
+    ghost use Rattle.review_statements.specs.declared.texts.TheConstants.{FIND_LAST_CHANGE};
     ghost use Rattle.review_change_records.specs.Forms.{change_numbers};
 
     type Key = ();
@@ -174,8 +173,8 @@ impl Greatest for LastChange {
 pub struct LastJoined;
 
 impl Greatest for LastJoined {
-    ghost use Rattle.review_statements.specs.declared.texts.TheConstants.{FIND_LAST_JOINED};
     ghost use Rattle.review_statements.proofs.TextsOfLookups.{find_last_joined};
+    ghost use Rattle.review_statements.specs.declared.texts.TheConstants.{FIND_LAST_JOINED};
     ghost use Rattle.review_change_records.specs.Forms.{change_places};
 
     type Key = BranchKey;

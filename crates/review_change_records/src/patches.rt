@@ -52,8 +52,7 @@ pub struct PatchSets;
 
 impl Lookup for PatchSets {
     ghost use Rattle.std.specs.Prelude.{pos};
-    ghost use Rattle.review_statements.specs.declared.texts.TheConstants.{FIND_PATCH};
-    ghost use Rattle.review_statements.proofs.TextsOfLookups.{find_patch};
+    ghost use Rattle.review_statements.{proofs.TextsOfLookups.find_patch, specs.declared.texts.TheConstants.FIND_PATCH};
     ghost use Rattle.review_change_records.specs.Forms.{patches};
 
     type Key = (ChangeNo, PatchNo);
@@ -84,8 +83,8 @@ pub struct LastPatch;
 
 impl Greatest for LastPatch {
     ghost use Rattle.std.specs.Prelude.{pos};
-    ghost use Rattle.review_statements.specs.declared.texts.TheConstants.{FIND_LAST_PATCH};
     ghost use Rattle.review_statements.proofs.TextsOfLookups.{find_last_patch};
+    ghost use Rattle.review_statements.specs.declared.texts.TheConstants.{FIND_LAST_PATCH};
     ghost use Rattle.review_change_records.specs.Forms.{patch_numbers};
 
     type Key = ChangeNo;
@@ -118,8 +117,8 @@ pub struct Patches;
 
 impl Lookup for Patches {
     ghost use Rattle.std.specs.Prelude.{pos};
-    ghost use Rattle.review_statements.specs.declared.texts.TheConstants.{FIND_PATCHES};
     ghost use Rattle.review_statements.proofs.TextsOfLookups.{find_patches};
+    ghost use Rattle.review_statements.specs.declared.texts.TheConstants.{FIND_PATCHES};
     ghost use Rattle.review_change_records.specs.Forms.{change_patches};
 
     type Key = ChangeNo;
@@ -152,8 +151,7 @@ impl Lookup for Patches {
 }
 
 impl Front for Patches {
-    ghost use Rattle.review_change_records.specs.Forms.{patches};
-    ghost use Rattle.review_change_records.specs.Laws.{patches_of_change};
+    ghost use Rattle.review_change_records.specs.{Forms.patches, Laws.patches_of_change};
 
     type Part = PatchNo;
 
@@ -165,13 +163,11 @@ impl Front for Patches {
 }
 
 impl Table for Patches {
-    ghost use Rattle.review_names.specs.Kinds.{kind_name};
-    ghost use Rattle.review_change_records.specs.Paths.{paths_text};
     ghost use Rattle.std.specs.Prelude.{pos};
-    ghost use Rattle.review_statements.specs.declared.texts.TheConstants.{INSERT_PATCH, DELETE_PATCH};
+    ghost use Rattle.review_names.specs.Kinds.{kind_name};
     ghost use Rattle.review_statements.proofs.TextsOfChanges.{insert_patch, delete_patch};
-    ghost use Rattle.review_change_records.specs.Forms.{patches, patch_form};
-    ghost use Rattle.review_change_records.specs.Laws.{patch_lawful};
+    ghost use Rattle.review_statements.specs.declared.texts.TheConstants.{INSERT_PATCH, DELETE_PATCH};
+    ghost use Rattle.review_change_records.specs.{Forms.patches, Forms.patch_form, Laws.patch_lawful, Paths.paths_text};
 
     type Key = (ChangeNo, PatchNo);
 

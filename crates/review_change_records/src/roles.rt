@@ -15,8 +15,8 @@ pub struct Roles;
 
 impl Lookup for Roles {
     ghost use Rattle.std.specs.Prelude.{pos};
-    ghost use Rattle.review_statements.specs.declared.texts.TheConstants.{FIND_REVIEWERS};
     ghost use Rattle.review_statements.proofs.TextsOfLookups.{find_reviewers};
+    ghost use Rattle.review_statements.specs.declared.texts.TheConstants.{FIND_REVIEWERS};
     ghost use Rattle.review_change_records.specs.Forms.{change_roles};
 
     type Key = ChangeNo;
@@ -47,8 +47,7 @@ impl Lookup for Roles {
 }
 
 impl Front for Roles {
-    ghost use Rattle.review_change_records.specs.Forms.{roles};
-    ghost use Rattle.review_change_records.specs.Laws.{roles_of_change};
+    ghost use Rattle.review_change_records.specs.{Forms.roles, Laws.roles_of_change};
 
     type Part = AccountNo;
 
@@ -60,12 +59,11 @@ impl Front for Roles {
 }
 
 impl Table for Roles {
-    ghost use Rattle.review_words.specs.Texts.{role_name};
     ghost use Rattle.std.specs.Prelude.{pos};
-    ghost use Rattle.review_statements.specs.declared.texts.TheConstants.{INSERT_REVIEWER, DELETE_REVIEWER};
     ghost use Rattle.review_statements.proofs.TextsOfChanges.{insert_reviewer, delete_reviewer};
-    ghost use Rattle.review_change_records.specs.Forms.{roles, role_form};
-    ghost use Rattle.review_change_records.specs.Laws.{role_lawful};
+    ghost use Rattle.review_statements.specs.declared.texts.TheConstants.{INSERT_REVIEWER, DELETE_REVIEWER};
+    ghost use Rattle.review_words.specs.Texts.{role_name};
+    ghost use Rattle.review_change_records.specs.{Forms.roles, Forms.role_form, Laws.role_lawful};
 
     type Key = (ChangeNo, AccountNo);
 

@@ -12,8 +12,7 @@ use std::alloc::{AllocError, Global};
 pub struct Sent;
 
 impl Lookup for Sent {
-    ghost use Rattle.review_statements.specs.declared.texts.TheConstants.{FIND_SENT};
-    ghost use Rattle.review_statements.proofs.TextsOfLookups.{find_sent};
+    ghost use Rattle.review_statements.{proofs.TextsOfLookups.find_sent, specs.declared.texts.TheConstants.FIND_SENT};
     ghost use Rattle.review_change_records.specs.Forms.{sent};
 
     type Key = CommitName;

@@ -1,6 +1,5 @@
 //! Values of columns, as they are read and stored.
-ghost use Rattle.std.specs.Prelude.{◌≡◌, true, FitsSigned};
-ghost use Rattle.std.specs.Int.{w64};
+ghost use Rattle.std.specs.{Int.w64, Prelude.◌≡◌, Prelude.true, Prelude.FitsSigned};
 ghost use Rattle.sqlite_value.specs.Order.{column};
 ghost use Rattle.review_names.specs.Forms.{is_within, most_changes, most_comments, most_patches};
 ghost use Rattle.review_names.specs.Kinds.{kind_named};

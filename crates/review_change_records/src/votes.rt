@@ -16,8 +16,7 @@ pub struct Votes;
 
 impl Lookup for Votes {
     ghost use Rattle.std.specs.Prelude.{pos};
-    ghost use Rattle.review_statements.specs.declared.texts.TheConstants.{FIND_VOTES};
-    ghost use Rattle.review_statements.proofs.TextsOfLookups.{find_votes};
+    ghost use Rattle.review_statements.{proofs.TextsOfLookups.find_votes, specs.declared.texts.TheConstants.FIND_VOTES};
     ghost use Rattle.review_change_records.specs.Forms.{change_votes};
 
     type Key = ChangeNo;
@@ -59,8 +58,7 @@ impl Lookup for Votes {
 }
 
 impl Front for Votes {
-    ghost use Rattle.review_change_records.specs.Forms.{votes};
-    ghost use Rattle.review_change_records.specs.Laws.{votes_of_change};
+    ghost use Rattle.review_change_records.specs.{Forms.votes, Laws.votes_of_change};
 
     type Part = VoteKey;
 
@@ -73,10 +71,9 @@ impl Front for Votes {
 
 impl Table for Votes {
     ghost use Rattle.std.specs.Prelude.{pos};
-    ghost use Rattle.review_statements.specs.declared.texts.TheConstants.{INSERT_VOTE, DELETE_VOTE};
     ghost use Rattle.review_statements.proofs.TextsOfChanges.{insert_vote, delete_vote};
-    ghost use Rattle.review_change_records.specs.Forms.{votes, vote_form};
-    ghost use Rattle.review_change_records.specs.Laws.{vote_lawful};
+    ghost use Rattle.review_statements.specs.declared.texts.TheConstants.{INSERT_VOTE, DELETE_VOTE};
+    ghost use Rattle.review_change_records.specs.{Forms.votes, Forms.vote_form, Laws.vote_lawful};
 
     type Key = (ChangeNo, VoteKey);
 

@@ -1,20 +1,12 @@
 -- What changes make of a table.
 use Rattle.std.proofs.Common.{◌≡◌, List, [], ◌∷◌, ◌++◌, Option, Some, None, Bool, true, false, refl, sym, ap, ◌∙◌, subst, ⊎_elim}
-use Rattle.std.specs.Prelude.{if◌then◌else◌, is_some}
-use Rattle.std.specs.Bool.{Decides}
-use Rattle.std.specs.declared.cmp.Ordering.{Ordering}
-use Rattle.std.specs.declared.cmp.Ordering.TheVariants.{Less, Equal}
-use Rattle.std.specs.Ordering.{is_eq}
-use Rattle.std.specs.List.{All, AllByRecursion}
-use Rattle.std.specs.List.Sorted.{IsStrictlySortedBy}
-use Rattle.std.specs.Map.{keys_of}
-use Rattle.std.specs.BTreeMap.{is_at}
-use Rattle.std.specs.Cmp.{IsTotalOrder, Equal-is}
-use Rattle.std.proofs.lemmas.Bool.{cases_Bool}
-use Rattle.std.proofs.lemmas.Cmp.{tied_back, tied_itself}
-use Rattle.std.proofs.lemmas.List.Elements.{All-from_recursion}
-use Rattle.review_table.specs.declared.table.Change.{Change}
+use Rattle.std.proofs.lemmas.{Bool.cases_Bool, Cmp.tied_back, Cmp.tied_itself, List.Elements.All-from_recursion}
+use Rattle.std.specs.{BTreeMap.is_at, Bool.Decides, Cmp.IsTotalOrder, Cmp.Equal-is}
+use Rattle.std.specs.List.{All, AllByRecursion, Sorted.IsStrictlySortedBy}
+use Rattle.std.specs.{Map.keys_of, Ordering.is_eq, Prelude.if◌then◌else◌, Prelude.is_some}
+use Rattle.std.specs.declared.cmp.Ordering.{Ordering, TheVariants.Less, TheVariants.Equal}
 use Rattle.review_table.specs.Rows.{row_in, change_of, changed, after_change}
+use Rattle.review_table.specs.declared.table.Change.{Change}
 use Rattle.review_rows.specs.Decisions.{NamesOnce}
 use Rattle.review_change_rows.specs.Differences.{has_row, puts, takes}
 

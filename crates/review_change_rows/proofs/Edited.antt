@@ -1,20 +1,14 @@
 -- What an edit makes of a change, row by row.
 use Rattle.std.proofs.Common.{◌≡◌, ℕ, ℤ, zero, suc, List, [], ◌∷◌, Option, Some, None, cond, refl, sym, ap, ◌∙◌}
-use Rattle.std.specs.Prelude.{option_map}
-use Rattle.std.specs.Ordering.{nat_cmp}
+use Rattle.std.specs.{Ordering.nat_cmp, Prelude.option_map}
 use Rattle.review_table.specs.Rows.{after_change, changed, change_of, row_in, rows_of}
+use Rattle.review_words.specs.declared.changes.Role.{Role}
 use Rattle.review_changes.specs.Change.{of_number}
 use Rattle.review_changes.specs.Parts.{Part, TheHeader, PatchOf, VoteOf, RoleOf, CommentOf, AttentionOf, AHeader, APatch, AVote, ARole, AComment, ACall, part_row}
 use Rattle.review_changes.specs.Seen.{of_account, seen, value_of, vote_cmp}
-use Rattle.review_changes.specs.Votes.{voted}
-use Rattle.review_words.specs.declared.changes.Role.{Role}
-use Rattle.review_changes.specs.declared.rows.Called.{Called}
-use Rattle.review_changes.specs.declared.rows.ChangeRows.{ChangeRows}
-use Rattle.review_changes.specs.declared.rows.CommentRow.{CommentRow}
-use Rattle.review_changes.specs.declared.rows.PatchRow.{PatchRow}
-use Rattle.review_changes.specs.declared.rows.VoteKey.{VoteKey}
-use Rattle.review_rows.specs.Rows.{part_change, vote_row}
-use Rattle.review_rows.specs.declared.rows.ChangeEdit.{ChangeEdit}
+use Rattle.review_changes.specs.{Votes.voted, declared.rows.Called.Called, declared.rows.ChangeRows.ChangeRows}
+use Rattle.review_changes.specs.declared.rows.{CommentRow.CommentRow, PatchRow.PatchRow, VoteKey.VoteKey}
+use Rattle.review_rows.specs.{Rows.part_change, Rows.vote_row, declared.rows.ChangeEdit.ChangeEdit}
 
 after_mapped : {X Y : Type 0} (f : X → Y) (o : Option (Option X)) (was : Option X) → after_change (option_map (option_map f) o) (option_map f was) ≡ option_map f (after_change o was)
 after_mapped f None was = refl

@@ -1,15 +1,10 @@
 -- Lists of numbered rows that go on.
 use Rattle.std.proofs.Common.{◌≡◌, ℕ, zero, suc, ◌+◌, ◌==◌, ◌<◌, ◌≤◌, List, [], ◌∷◌, ◌++◌, length, length-append, drop, Some, None, true, false, cond, refl, sym, ap, ◌∙◌, subst, ⊎_elim, arith, eqb-true}
-use Rattle.std.specs.Prelude.{slice_get}
-use Rattle.std.specs.Ordering.{nat_cmp}
-use Rattle.std.specs.Cmp.{unsigned_tied}
-use Rattle.std.proofs.lemmas.Bool.{cases_Bool}
-use Rattle.std.proofs.lemmas.Bool.Decides.{nat_tests}
-use Rattle.review_table.specs.Rows.{after_change, change_of, changed}
+use Rattle.std.proofs.lemmas.Bool.{cases_Bool, Decides.nat_tests}
+use Rattle.std.specs.{Cmp.unsigned_tied, Ordering.nat_cmp, Prelude.slice_get}
 use Rattle.review_names.specs.Forms.{is_within}
-use Rattle.review_table.specs.declared.table.Change.{Change}
-use Rattle.review_changes.specs.Change.{of_number}
-use Rattle.review_changes.proofs.Within.{within_from}
+use Rattle.review_table.specs.{Rows.after_change, Rows.change_of, Rows.changed, declared.table.Change.Change}
+use Rattle.review_changes.{proofs.Within.within_from, specs.Change.of_number}
 use Rattle.review_rows.specs.Decisions.{NamesOnce}
 use Rattle.review_change_rows.specs.Edits.{GoesOn, puts_after}
 

@@ -1,22 +1,16 @@
 -- The change that tables show.
 use Rattle.std.proofs.Common.{◌≡◌, ℕ, ℤ, cond, Option, Some, None, Result, Ok, Err, refl, sym, ap, subst, ◌∙◌}
-use Rattle.std.specs.Result.{IsErr, IsErrAnd}
-use Rattle.std.specs.Prelude.{IfErr, option_map}
-use Rattle.std.specs.Ordering.{nat_cmp}
+use Rattle.std.specs.{Ordering.nat_cmp, Prelude.IfErr, Prelude.option_map, Result.IsErr, Result.IsErrAnd}
 use Rattle.review_table.specs.Rows.{row_in, rows_of}
 use Rattle.review_changes.specs.Change.{Change, of_number}
 use Rattle.review_changes.specs.Parts.{Part, TheHeader, PatchOf, VoteOf, RoleOf, CommentOf, AttentionOf, AHeader, APatch, AVote, ARole, AComment, ACall}
 use Rattle.review_changes.specs.Seen.{seen, value_of, vote_cmp}
-use Rattle.review_changes.specs.Votes.{voted}
-use Rattle.review_changes.specs.declared.rows.ChangeRows.{ChangeRows}
-use Rattle.review_changes.specs.declared.rows.CommentRow.{CommentRow}
-use Rattle.review_changes.specs.declared.rows.PatchRow.{PatchRow}
-use Rattle.review_changes.specs.declared.rows.VoteKey.{VoteKey}
+use Rattle.review_changes.specs.{Votes.voted, declared.rows.ChangeRows.ChangeRows}
+use Rattle.review_changes.specs.declared.rows.{CommentRow.CommentRow, PatchRow.PatchRow, VoteKey.VoteKey}
 use Rattle.review_rows.specs.Rows.{vote_row}
-use Rattle.review_change_rows.specs.declared.tables.ChangeTables.{ChangeTables}
-use Rattle.review_change_rows.specs.declared.loading.ChangeFault.{ChangeFault}
-use Rattle.review_change_rows.specs.declared.loading.ChangeFault.TheVariants.{Memory, Gap}
 use Rattle.review_change_rows.specs.Tables.{AreInOrder, HaveFault, IsGap, Show, part_in}
+use Rattle.review_change_rows.specs.declared.loading.ChangeFault.{ChangeFault, TheVariants.Memory, TheVariants.Gap}
+use Rattle.review_change_rows.specs.declared.tables.ChangeTables.{ChangeTables}
 
 -- tables whose rows are those of others
 pub record Repeats (t s : ChangeTables) : Type 0 where

@@ -1,8 +1,7 @@
 -- What has to change in one table to make it another.
 use Rattle.std.specs.Prelude.{List, [], ◌∷◌, Option, Some, None, Bool, false, is_some, if◌then◌else◌}
 use Rattle.std.specs.declared.cmp.Ordering.{Ordering}
-use Rattle.review_table.specs.declared.table.Change.{Change}
-use Rattle.review_table.specs.Rows.{row_in}
+use Rattle.review_table.specs.{Rows.row_in, declared.table.Change.Change}
 
 -- whether a row is there and is this one
 abbrev pub has_row : {X : Type 0} → (X → X → Bool) → Option X → X → Bool

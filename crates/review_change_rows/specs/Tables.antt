@@ -1,16 +1,14 @@
 -- The tables of one change: which change they show, and why they show none.
-use Rattle.std.specs.Prelude.{ℕ, ◌+◌, ◌≡◌, List, [], ◌∷◌, Option, Some, option_map}
 use Rattle.std.specs.Ordering.{nat_cmp}
+use Rattle.std.specs.Prelude.{ℕ, ◌+◌, ◌≡◌, List, [], ◌∷◌, Option, Some, option_map}
 use Rattle.review_table.specs.Rows.{row_in, rows_of}
 use Rattle.review_changes.specs.Change.{Change, of_number}
 use Rattle.review_changes.specs.Parts.{Part, TheHeader, PatchOf, VoteOf, RoleOf, CommentOf, AttentionOf, PartRow, AHeader, APatch, ARole, AComment, ACall, part_row}
 use Rattle.review_changes.specs.Seen.{vote_cmp}
-use Rattle.review_rows.specs.Rows.{vote_row}
-use Rattle.review_rows.specs.declared.shelf.ShelfFault.{ShelfFault}
-use Rattle.review_rows.specs.declared.shelf.ShelfFault.TheVariants as shelf
+use Rattle.review_rows.specs.{Rows.vote_row, declared.shelf.ShelfFault.ShelfFault}
+use Rattle.review_change_rows.specs.declared.loading.ChangeFault.{ChangeFault, TheVariants.Memory, TheVariants.Gap}
 use Rattle.review_change_rows.specs.declared.tables.ChangeTables.{ChangeTables}
-use Rattle.review_change_rows.specs.declared.loading.ChangeFault.{ChangeFault}
-use Rattle.review_change_rows.specs.declared.loading.ChangeFault.TheVariants.{Memory, Gap}
+use Rattle.review_rows.specs.declared.shelf.ShelfFault.TheVariants as shelf
 
 -- the row of a change, in its tables
 abbrev pub part_in : ChangeTables → Part → Option PartRow

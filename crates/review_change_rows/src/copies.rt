@@ -1,11 +1,8 @@
 //! Changes and patch sets that are copied.
+ghost use Rattle.std.specs.{List.Sorted.IsStrictlySortedBy, Map.keys_of, Ordering.nat_cmp};
 ghost use Rattle.std.specs.Prelude.{◌≡◌, ℕ, IfOk};
-ghost use Rattle.std.specs.Ordering.{nat_cmp};
-ghost use Rattle.std.specs.List.Sorted.{IsStrictlySortedBy};
-ghost use Rattle.std.specs.Map.{keys_of};
 ghost use Rattle.review_table.specs.Rows.{row_in, rows_of};
-ghost use Rattle.review_changes.specs.Seen.{seen, vote_cmp};
-ghost use Rattle.review_changes.specs.declared.rows.VoteKey.{VoteKey};
+ghost use Rattle.review_changes.specs.{Seen.seen, Seen.vote_cmp, declared.rows.VoteKey.VoteKey};
 
 use crate::rows::Copied;
 use review_changes::{Called, ChangeRows, Comment, Header, PatchRow, Vote, VoteKey};

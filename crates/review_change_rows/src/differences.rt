@@ -1,7 +1,6 @@
 //! What has to change in one table to make it another.
+ghost use Rattle.std.specs.{List.All, Map.Iter.deref_pair};
 ghost use Rattle.std.specs.Prelude.{◌≡◌, ◌++◌, IfOk, OnOk, map};
-ghost use Rattle.std.specs.List.{All};
-ghost use Rattle.std.specs.Map.Iter.{deref_pair};
 ghost use Rattle.review_table.specs.Rows.{changed, row_in, rows_of};
 ghost use Rattle.review_rows.specs.Decisions.{NamesOnce};
 ghost use Rattle.review_change_rows.specs.Differences.{has_row, puts, takes};

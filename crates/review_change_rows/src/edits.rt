@@ -1,14 +1,10 @@
 //! What turns one change into another, row by row.
-ghost use Rattle.std.specs.Prelude.{◌≡◌, ℕ, [], IfOk, None};
-ghost use Rattle.std.specs.Ordering.{nat_cmp};
+ghost use Rattle.std.specs.{Ordering.nat_cmp, Prelude.◌≡◌, Prelude.ℕ, Prelude.[], Prelude.IfOk, Prelude.None};
 ghost use Rattle.review_names.specs.Forms.{most_comments, most_patches};
 ghost use Rattle.review_table.specs.Rows.{after_change, changed, row_in, rows_of};
-ghost use Rattle.review_changes.specs.Change.{of_number};
-ghost use Rattle.review_changes.specs.Parts.{Part, part_row};
-ghost use Rattle.review_changes.specs.Seen.{of_account, seen, vote_cmp};
-ghost use Rattle.review_changes.specs.declared.rows.VoteKey.{VoteKey};
-ghost use Rattle.review_rows.specs.Decisions.{NamesOnce, NamesRowsOnce};
-ghost use Rattle.review_rows.specs.Rows.{part_change};
+ghost use Rattle.review_changes.specs.{Change.of_number, Parts.Part, Parts.part_row};
+ghost use Rattle.review_changes.specs.{Seen.of_account, Seen.seen, Seen.vote_cmp, declared.rows.VoteKey.VoteKey};
+ghost use Rattle.review_rows.specs.{Decisions.NamesOnce, Decisions.NamesRowsOnce, Rows.part_change};
 ghost use Rattle.review_change_rows.specs.Edits.{GoesOn};
 
 use crate::copies::{copied_header, copied_patch_row};

@@ -1,6 +1,5 @@
 //! Rows that are copied and compared.
-ghost use Rattle.std.specs.Prelude.{◌≡◌, Bool, IfOk};
-ghost use Rattle.std.specs.Bool.{Decides};
+ghost use Rattle.std.specs.{Bool.Decides, Prelude.◌≡◌, Prelude.Bool, Prelude.IfOk};
 
 use review_changes::{Called, Vote};
 use review_words::Role;
@@ -31,8 +30,7 @@ impl Copied for Vote {
 }
 
 impl Row for Vote {
-    ghost use Rattle.std.specs.Ordering.{int_eq};
-    ghost use Rattle.std.proofs.lemmas.Bool.Decides.{Decides-int_eq};
+    ghost use Rattle.std.{proofs.lemmas.Bool.Decides.Decides-int_eq, specs.Ordering.int_eq};
 
     ghost same = { int_eq };
 

@@ -1,16 +1,13 @@
 -- Who is in the attention set is eligible.
 use Rattle.std.proofs.Common.{◌≡◌, ℕ, Option, Some, None, Bool, true, false, not, ◌&&◌, ◌||◌, refl, sym, ap, ◌∙◌, eqb-true, ⊎_elim}
-use Rattle.std.specs.Prelude.{◌==◌, is_some, if◌then◌else◌, is_none}
 use Rattle.std.proofs.lemmas.Bool.{cases_Bool}
-use Rattle.review_words.specs.declared.changes.Role.{Role}
-use Rattle.review_words.specs.declared.changes.Role.TheVariants.{Reviewer, Cc}
+use Rattle.std.specs.Prelude.{◌==◌, is_some, if◌then◌else◌, is_none}
+use Rattle.review_words.specs.declared.changes.Role.{Role, TheVariants.Reviewer, TheVariants.Cc}
 use Rattle.review_words.specs.declared.command.ChangeCommand.{ChangeCommand}
 use Rattle.review_words.specs.declared.command.ChangeCommand.TheVariants.{Upload, Review, AddReviewer, RemoveReviewer, SetWip, SetReady, Abandon, Restore, AddAttention, RemoveAttention}
-use Rattle.review_changes.specs.declared.rows.Called.{Called}
-use Rattle.review_changes.specs.declared.rows.Why.{Why}
-use Rattle.review_changes.specs.declared.rows.Why.TheVariants.{Told}
 use Rattle.review_changes.specs.Change.{Change, Copying, after_copying, settled, eligible, removes, uploader, writer_role, gives_vote, says_something, called_by, kept_or}
 use Rattle.review_changes.specs.Sound.{fits}
+use Rattle.review_changes.specs.declared.rows.{Called.Called, Why.Why, Why.TheVariants.Told}
 
 more_roles : (a b x y : Bool) → (x ≡ true → y ≡ true) → (a || (b || x)) ≡ true → (a || (b || y)) ≡ true
 more_roles true b x y f h = refl

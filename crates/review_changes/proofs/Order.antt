@@ -1,13 +1,11 @@
 -- Comments in order.
 use Rattle.std.proofs.Common.{◌≡◌, ◌≤◌, ℕ, ◌+◌, true, ◌&&◌, List, [], ◌∷◌, ◌++◌, length, map, Option, Some, None, refl, arith}
-use Rattle.std.specs.Option.{option_map_or}
-use Rattle.std.proofs.lemmas.Bool.{and_parts, and_from}
+use Rattle.std.{proofs.lemmas.Bool.and_parts, proofs.lemmas.Bool.and_from, specs.Option.option_map_or}
 use Rattle.review_names.specs.Forms.{is_within}
 use Rattle.review_words.specs.declared.changes.NewComment.{NewComment}
-use Rattle.review_changes.specs.declared.rows.CommentRow.{CommentRow}
-use Rattle.review_changes.specs.Change.{stored_as, message_of}
-use Rattle.review_changes.specs.Sound.{are_in_order, answer_stored}
 use Rattle.review_changes.proofs.Within.{within_more}
+use Rattle.review_changes.specs.Change.{stored_as, message_of}
+use Rattle.review_changes.specs.{Sound.are_in_order, Sound.answer_stored, declared.rows.CommentRow.CommentRow}
 
 answers_more : (before more : ℕ) → before ≤ more → (o : Option ℕ) → option_map_or (λ k. is_within before k) o true ≡ true → option_map_or (λ k. is_within more k) o true ≡ true
 answers_more before more le None h = refl

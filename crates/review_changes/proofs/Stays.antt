@@ -1,23 +1,19 @@
 -- A request keeps a change sound.
-use Rattle.std.proofs.Common.{◌≡◌, ℕ, ◌+◌, ℤ, pos, List, [], ◌∷◌, ◌++◌, length, Option, Some, None, Bool, true, false, not, ◌&&◌, refl, sym, ap, ◌∙◌, eqb-true, eq-eqb, ⊎_elim, arith, nat_le, nat_lt, lt-ltb, length-append}
 use lib.ListN.{length-map}
-use Rattle.std.specs.Prelude.{◌==◌, is_some, is_none, if◌then◌else◌}
+use Rattle.std.proofs.Common.{◌≡◌, ℕ, ◌+◌, ℤ, pos, List, [], ◌∷◌, ◌++◌, length, Option, Some, None, Bool, true, false, not, ◌&&◌, refl, sym, ap, ◌∙◌, eqb-true, eq-eqb, ⊎_elim, arith, nat_le, nat_lt, lt-ltb, length-append}
 use Rattle.std.proofs.lemmas.Bool.{cases_Bool, and_parts}
+use Rattle.std.specs.Prelude.{◌==◌, is_some, is_none, if◌then◌else◌}
 use Rattle.review_names.specs.Forms.{is_within, most_patches, most_comments}
-use Rattle.review_words.specs.declared.changes.NewChange.{NewChange}
-use Rattle.review_words.specs.declared.changes.NewPatch.{NewPatch}
-use Rattle.review_words.specs.declared.changes.Review.{Review as ReviewOf}
-use Rattle.review_words.specs.declared.changes.Role.{Role}
-use Rattle.review_words.specs.declared.command.ChangeCommand.{ChangeCommand}
+use Rattle.review_words.specs.declared.changes.{NewChange.NewChange, NewPatch.NewPatch, Review.Review as ReviewOf}
+use Rattle.review_words.specs.declared.{changes.Role.Role, command.ChangeCommand.ChangeCommand}
 use Rattle.review_words.specs.declared.command.ChangeCommand.TheVariants.{Upload, Review, AddReviewer, RemoveReviewer}
-use Rattle.review_changes.specs.declared.rows.PatchRow.{PatchRow}
-use Rattle.review_changes.specs.Change.{Change, Copying, after_copying, begun, joined_at, current, reviewed, said, stored_as, new_comments, given_or, carried, gives_vote, says_something, writer_role}
-use Rattle.review_changes.specs.Sound.{IsSound, fits, answer_stored}
-use Rattle.review_changes.specs.Votes.{voted}
-use Rattle.review_changes.proofs.Within.{within_more, within_next}
+use Rattle.review_changes.proofs.Eligible.{all_eligible}
 use Rattle.review_changes.proofs.Order.{order_more, order_new, order_append, said_stored}
 use Rattle.review_changes.proofs.Voters.{where_true, where_false, given_before, writer_has}
-use Rattle.review_changes.proofs.Eligible.{all_eligible}
+use Rattle.review_changes.proofs.Within.{within_more, within_next}
+use Rattle.review_changes.specs.Change.{Change, Copying, after_copying, begun, joined_at, current, reviewed, said, stored_as, new_comments, given_or, carried, gives_vote, says_something, writer_role}
+use Rattle.review_changes.specs.Sound.{IsSound, fits, answer_stored}
+use Rattle.review_changes.specs.{Votes.voted, declared.rows.PatchRow.PatchRow}
 
 longer : (ps : List PatchRow) (p : PatchRow) → length (ps ++ p ∷ []) ≡ length ps + 1
 longer ps p = length-append ps (p ∷ [])

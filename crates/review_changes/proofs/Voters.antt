@@ -1,13 +1,8 @@
 -- Who votes has a role.
 use Rattle.std.proofs.Common.{◌≡◌, ℕ, ℤ, List, [], ◌∷◌, Option, Some, Bool, true, false, refl, sym, ◌∙◌, bytes_eq}
-use Rattle.std.specs.Prelude.{if◌then◌else◌, is_some}
-use Rattle.std.specs.List.{list_any}
-use Rattle.std.proofs.lemmas.Bool.{or_parts}
-use Rattle.review_words.specs.declared.changes.Given.{Given}
-use Rattle.review_words.specs.declared.changes.Role.{Role}
-use Rattle.review_words.specs.declared.changes.Role.TheVariants.{Reviewer, Cc}
-use Rattle.review_changes.specs.Change.{given_or}
-use Rattle.review_changes.specs.Votes.{voted}
+use Rattle.std.{proofs.lemmas.Bool.or_parts, specs.List.list_any, specs.Prelude.if◌then◌else◌, specs.Prelude.is_some}
+use Rattle.review_words.specs.declared.changes.{Given.Given, Role.Role, Role.TheVariants.Reviewer, Role.TheVariants.Cc}
+use Rattle.review_changes.specs.{Change.given_or, Votes.voted}
 
 -- what a choice gives, each way
 pub where_true : (b : Bool) (x y : ℤ) → b ≡ true → voted (if b then x else y) ≡ true → voted x ≡ true

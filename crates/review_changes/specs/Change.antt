@@ -1,38 +1,22 @@
 -- A change, and what each accepted request makes of it.
+use Rattle.std.specs.{Cmp.Lexicographic.pointwise, List.list_any, Option.option_map_or}
 use Rattle.std.specs.Prelude.{ℕ, zero, suc, ℤ, pos, ◌+◌, ◌==◌, ◌&&◌, ◌||◌, not, Bool, true, false, List, [], ◌∷◌, ◌++◌, length, map, find, slice_get, Option, Some, None, if◌then◌else◌, is_some, is_none, unwrap_or, option_map, codes}
-use Rattle.std.specs.Option.{option_map_or}
-use Rattle.std.specs.List.{list_any}
 use Rattle.std.specs.Str.{bytes_eq}
-use Rattle.std.specs.Cmp.Lexicographic.{pointwise}
-use Rattle.review_names.specs.Forms.{patch_set_level}
-use Rattle.review_names.specs.Numerals.{numeral}
-use Rattle.review_names.specs.Groups.{GroupList}
+use Rattle.review_names.specs.{Forms.patch_set_level, Groups.GroupList, Numerals.numeral}
 use Rattle.review_names.specs.declared.kinds.ChangeKind.TheVariants.{Rework}
-use Rattle.review_words.specs.declared.changes.Given.{Given}
-use Rattle.review_words.specs.declared.changes.NewChange.{NewChange}
-use Rattle.review_words.specs.declared.changes.NewComment.{NewComment}
-use Rattle.review_words.specs.declared.changes.NewPatch.{NewPatch}
-use Rattle.review_words.specs.declared.changes.Review.{Review as ReviewOf}
-use Rattle.review_words.specs.declared.changes.Role.{Role}
+use Rattle.review_words.specs.declared.changes.{Given.Given, NewChange.NewChange, NewComment.NewComment}
+use Rattle.review_words.specs.declared.changes.{NewPatch.NewPatch, Review.Review as ReviewOf, Role.Role}
 use Rattle.review_words.specs.declared.changes.Role.TheVariants.{Reviewer, Cc}
-use Rattle.review_judging.specs.declared.facts.ValueRange.{ValueRange}
-use Rattle.review_judging.specs.declared.facts.VoteFacts.{VoteFacts}
-use Rattle.review_expr.specs.declared.expr.Expr.{Expr}
-use Rattle.review_expr.specs.declared.expr.Facts.TheVariants as facts
-use Rattle.review_expr.specs.Exprs.{holds_for}
-use Rattle.review_project.specs.View.{FileView, LabelView}
-use Rattle.review_project.specs.Rights.{least_value, greatest_value}
 use Rattle.review_words.specs.declared.command.ChangeCommand.{ChangeCommand}
 use Rattle.review_words.specs.declared.command.ChangeCommand.TheVariants.{Upload, Review, AddReviewer, RemoveReviewer, SetWip, SetReady, Abandon, Restore, AddAttention, RemoveAttention}
-use Rattle.review_changes.specs.declared.rows.Called.{Called}
-use Rattle.review_changes.specs.declared.rows.CommentRow.{CommentRow}
-use Rattle.review_changes.specs.declared.rows.PatchRow.{PatchRow}
-use Rattle.review_changes.specs.declared.rows.Post.{Post}
-use Rattle.review_words.specs.declared.shown.State.{State}
-use Rattle.review_words.specs.declared.shown.State.TheVariants.{New, Merged, Abandoned}
-use Rattle.review_changes.specs.declared.rows.Why.{Why}
+use Rattle.review_words.specs.declared.shown.State.{State, TheVariants.New, TheVariants.Merged, TheVariants.Abandoned}
+use Rattle.review_judging.specs.declared.facts.{ValueRange.ValueRange, VoteFacts.VoteFacts}
+use Rattle.review_expr.specs.{Exprs.holds_for, declared.expr.Expr.Expr}
+use Rattle.review_project.specs.{Rights.least_value, Rights.greatest_value, View.FileView, View.LabelView}
+use Rattle.review_changes.specs.{Votes.voted, declared.rows.Called.Called}
+use Rattle.review_changes.specs.declared.rows.{CommentRow.CommentRow, PatchRow.PatchRow, Post.Post, Why.Why}
 use Rattle.review_changes.specs.declared.rows.Why.TheVariants.{Added, Ready, Replied, RepliedInThread, LeftUnresolved, NotCopied, Told}
-use Rattle.review_changes.specs.Votes.{voted}
+use Rattle.review_expr.specs.declared.expr.Facts.TheVariants as facts
 
 -- A change as it stands: its patch sets and comments in order, the vote of an account on a label of a patch set (0 is none), the role of an account, and why an account is in the attention set.
 pub record Change : Type 0 where

@@ -1,6 +1,6 @@
 -- How many votes pass a test.
-use Rattle.std.specs.Prelude.{ℕ, ◌≡◌, ◌==◌, ◌&&◌, List, [], ◌∷◌, length, Bool, false}
 use Rattle.std.specs.List.{list_any}
+use Rattle.std.specs.Prelude.{ℕ, ◌≡◌, ◌==◌, ◌&&◌, List, [], ◌∷◌, length, Bool, false}
 use Rattle.std.specs.Str.{bytes_eq}
 use Rattle.review_changes.specs.declared.rows.VoteKey.{VoteKey}
 

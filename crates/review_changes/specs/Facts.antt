@@ -1,18 +1,15 @@
 -- What submit requirements judge a change by, and how they stand for it.
-use Rattle.std.specs.Prelude.{ℕ, ℤ, ◌≡◌, Bool, true, false, List, [], ◌∷◌, Option, Some, None, map, option_map, if◌then◌else◌, MatchOption}
 use Rattle.std.specs.Ordering.{nat_cmp}
+use Rattle.std.specs.Prelude.{ℕ, ℤ, ◌≡◌, Bool, true, false, List, [], ◌∷◌, Option, Some, None, map, option_map, if◌then◌else◌, MatchOption}
 use Rattle.review_words.specs.declared.shown.ShownRequirement.{ShownRequirement}
-use Rattle.review_words.specs.declared.shown.Status.{Status}
-use Rattle.review_words.specs.declared.shown.Status.TheVariants.{Unsatisfied}
+use Rattle.review_words.specs.declared.shown.Status.{Status, TheVariants.Unsatisfied}
 use Rattle.review_judging.specs.declared.facts.ChangeFacts.{ChangeFacts}
-use Rattle.review_judging.specs.Holds as judging
 use Rattle.review_expr.specs.declared.expr.Expr.{Expr}
-use Rattle.review_expr.specs.declared.expr.Facts.TheVariants as facts
 use Rattle.review_project.specs.View.{RequirementView}
 use Rattle.review_changes.specs.Change.{Change, Setting, current, has_unresolved, label_in, paths, posts, range_of, uploader}
-use Rattle.review_changes.specs.Listed.{AreListed}
-use Rattle.review_changes.specs.Status.{status_of}
-use Rattle.review_changes.specs.Votes.{voted}
+use Rattle.review_changes.specs.{Listed.AreListed, Status.status_of, Votes.voted}
+use Rattle.review_judging.specs.Holds as judging
+use Rattle.review_expr.specs.declared.expr.Facts.TheVariants as facts
 
 -- a value, where it isn't 0
 abbrev pub unless_zero : ℤ → Option ℤ

@@ -1,12 +1,8 @@
 -- The rows of a change, one by one.
 use Rattle.std.specs.Prelude.{ℕ, ℤ, List, Option, Some, None, option_map, if◌then◌else◌}
 use Rattle.review_words.specs.declared.changes.Role.{Role}
-use Rattle.review_changes.specs.declared.rows.Called.{Called}
-use Rattle.review_changes.specs.declared.rows.CommentRow.{CommentRow}
-use Rattle.review_changes.specs.declared.rows.Header.{Header}
-use Rattle.review_changes.specs.declared.rows.PatchRow.{PatchRow}
-use Rattle.review_changes.specs.Change.{Change, of_number}
-use Rattle.review_changes.specs.Votes.{voted}
+use Rattle.review_changes.specs.{Change.Change, Change.of_number, Votes.voted}
+use Rattle.review_changes.specs.declared.rows.{Called.Called, CommentRow.CommentRow, Header.Header, PatchRow.PatchRow}
 
 -- which row of a change it is: its header, the patch set of a number, the vote of an account on a label of a patch set, the role of an account, the comment of a number, or that an account is in the attention set
 pub data Part : Type 0 where

@@ -1,12 +1,9 @@
 -- What the rows of a change show.
+use Rattle.std.specs.{Cmp.Lexicographic.slice_cmp, Ordering.nat_cmp, Ordering.ordering_then}
 use Rattle.std.specs.Prelude.{ℕ, ℤ, pos, List, Option, Some, None}
 use Rattle.std.specs.declared.cmp.Ordering.{Ordering}
-use Rattle.std.specs.Ordering.{nat_cmp, ordering_then}
-use Rattle.std.specs.Cmp.Lexicographic.{slice_cmp}
 use Rattle.review_table.specs.Rows.{row_in, rows_of}
-use Rattle.review_changes.specs.declared.rows.ChangeRows.{ChangeRows}
-use Rattle.review_changes.specs.declared.rows.VoteKey.{VoteKey}
-use Rattle.review_changes.specs.Change.{Change}
+use Rattle.review_changes.specs.{Change.Change, declared.rows.ChangeRows.ChangeRows, declared.rows.VoteKey.VoteKey}
 
 -- by patch set, then by label, then by account
 abbrev pub vote_cmp : VoteKey → VoteKey → Ordering

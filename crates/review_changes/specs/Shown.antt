@@ -1,23 +1,14 @@
 -- What questions about a change are told.
-use Rattle.std.specs.Prelude.{ℕ, ℤ, ◌≡◌, ◌==◌, Bool, true, false, List, Option, Some, None, map, option_map, if◌then◌else◌}
 use Rattle.std.specs.Ordering.{nat_cmp}
-use Rattle.review_words.specs.declared.changes.Role.{Role}
-use Rattle.review_words.specs.declared.changes.Role.TheVariants.{Cc}
-use Rattle.review_words.specs.declared.command.ChangeQuery.{ChangeQuery}
-use Rattle.review_words.specs.declared.command.ChangeQuery.TheVariants as asked
-use Rattle.review_words.specs.declared.reply.Answer.{Answer}
-use Rattle.review_words.specs.declared.reply.Answer.TheVariants as answer
-use Rattle.review_words.specs.declared.shown.ShownCall.{ShownCall}
-use Rattle.review_words.specs.declared.shown.ShownChange.{ShownChange}
-use Rattle.review_words.specs.declared.shown.ShownRequirement.{ShownRequirement}
-use Rattle.review_words.specs.declared.shown.ShownVote.{ShownVote}
-use Rattle.review_changes.specs.declared.rows.Called.{Called}
-use Rattle.review_changes.specs.declared.rows.VoteKey.{VoteKey}
+use Rattle.std.specs.Prelude.{ℕ, ℤ, ◌≡◌, ◌==◌, Bool, true, false, List, Option, Some, None, map, option_map, if◌then◌else◌}
+use Rattle.review_words.specs.declared.{changes.Role.Role, changes.Role.TheVariants.Cc, command.ChangeQuery.ChangeQuery}
+use Rattle.review_words.specs.declared.{reply.Answer.Answer, shown.ShownCall.ShownCall, shown.ShownChange.ShownChange}
+use Rattle.review_words.specs.declared.shown.{ShownRequirement.ShownRequirement, ShownVote.ShownVote}
 use Rattle.review_changes.specs.Change.{Change, Setting, current, is_reviewer, of_number, uploader}
-use Rattle.review_changes.specs.Facts.{AreStanding, vote_on}
-use Rattle.review_changes.specs.Listed.{AreListed, AreThose}
-use Rattle.review_changes.specs.Seen.{vote_cmp}
-use Rattle.review_changes.specs.Threads.{threads}
+use Rattle.review_changes.specs.{Facts.AreStanding, Facts.vote_on, Listed.AreListed, Listed.AreThose, Seen.vote_cmp}
+use Rattle.review_changes.specs.{Threads.threads, declared.rows.Called.Called, declared.rows.VoteKey.VoteKey}
+use Rattle.review_words.specs.declared.command.ChangeQuery.TheVariants as asked
+use Rattle.review_words.specs.declared.reply.Answer.TheVariants as answer
 
 -- a role is that of a CC
 abbrev pub is_cc : Option Role → Bool

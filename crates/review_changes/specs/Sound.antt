@@ -1,14 +1,11 @@
 -- What is true of every change.
+use Rattle.std.specs.{List.list_all, Option.option_map_or}
 use Rattle.std.specs.Prelude.{ℕ, ◌≡◌, ◌+◌, Bool, true, ◌&&◌, nat_le, nat_lt, List, [], ◌∷◌, length, is_some}
-use Rattle.std.specs.List.{list_all}
-use Rattle.std.specs.Option.{option_map_or}
 use Rattle.review_names.specs.Forms.{is_within, most_patches, most_comments}
-use Rattle.review_words.specs.declared.changes.NewComment.{NewComment}
-use Rattle.review_words.specs.declared.command.ChangeCommand.{ChangeCommand}
+use Rattle.review_words.specs.declared.{changes.NewComment.NewComment, command.ChangeCommand.ChangeCommand}
 use Rattle.review_words.specs.declared.command.ChangeCommand.TheVariants.{Upload, Review, AddAttention}
-use Rattle.review_changes.specs.declared.rows.CommentRow.{CommentRow}
 use Rattle.review_changes.specs.Change.{Change, current, eligible, reviewed, said}
-use Rattle.review_changes.specs.Votes.{voted}
+use Rattle.review_changes.specs.{Votes.voted, declared.rows.CommentRow.CommentRow}
 
 -- comments, of which so many come before, are on these many patch sets, and each answers none but an earlier one
 abbrev pub are_in_order : ℕ → ℕ → List CommentRow → Bool

@@ -1,12 +1,9 @@
 -- The status of a submit requirement.
-use Rattle.std.specs.Prelude.{not, true, false, if◌then◌else◌}
-use Rattle.std.specs.Option.{option_map_or}
-use Rattle.review_expr.specs.declared.expr.Expr.{Expr}
-use Rattle.review_expr.specs.declared.expr.Facts.{Facts}
-use Rattle.review_expr.specs.Exprs.{holds_for}
-use Rattle.review_project.specs.View.{RequirementView}
+use Rattle.std.specs.{Option.option_map_or, Prelude.not, Prelude.true, Prelude.false, Prelude.if◌then◌else◌}
 use Rattle.review_words.specs.declared.shown.Status.{Status}
 use Rattle.review_words.specs.declared.shown.Status.TheVariants.{NotApplicable, Overridden, Satisfied, Unsatisfied}
+use Rattle.review_expr.specs.{Exprs.holds_for, declared.expr.Expr.Expr, declared.expr.Facts.Facts}
+use Rattle.review_project.specs.View.{RequirementView}
 
 -- the status of a requirement by the facts of a change: the first that fits
 abbrev pub status_of : RequirementView Expr → Facts → Status

@@ -1,11 +1,8 @@
 -- The threads of a change.
-use Rattle.std.specs.Prelude.{ℕ, ◌+◌, ◌==◌, Bool, false, List, [], ◌∷◌, map}
 use Rattle.std.specs.List.{filter}
-use Rattle.review_words.specs.declared.shown.ShownComment.{ShownComment}
-use Rattle.review_words.specs.declared.shown.Thread.{Thread}
-use Rattle.review_changes.specs.declared.rows.CommentRow.{CommentRow}
-use Rattle.review_changes.specs.declared.rows.Post.{Post}
-use Rattle.review_changes.specs.Change.{posts}
+use Rattle.std.specs.Prelude.{ℕ, ◌+◌, ◌==◌, Bool, false, List, [], ◌∷◌, map}
+use Rattle.review_words.specs.declared.shown.{ShownComment.ShownComment, Thread.Thread}
+use Rattle.review_changes.specs.{Change.posts, declared.rows.CommentRow.CommentRow, declared.rows.Post.Post}
 
 -- a comment as it is shown, by its number
 abbrev pub shown_comment : ℕ → CommentRow → ShownComment

@@ -1,6 +1,5 @@
 -- Values of votes.
-use Rattle.std.specs.Prelude.{ℤ, pos, Bool, not}
-use Rattle.std.specs.Ordering.{int_eq}
+use Rattle.std.specs.{Ordering.int_eq, Prelude.ℤ, Prelude.pos, Prelude.Bool, Prelude.not}
 
 -- a vote that isn't 0
 abbrev pub voted : ℤ → Bool

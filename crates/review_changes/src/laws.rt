@@ -1,10 +1,8 @@
 //! Laws of changes, as contracts of calls that do nothing.
 ghost use Rattle.std.specs.Prelude.{◌≡◌, ◌==◌, ◌+◌, ℕ, List, true, false};
-ghost use Rattle.review_words.specs.declared.changes.NewChange.{NewChange};
-ghost use Rattle.review_words.specs.declared.command.ChangeCommand.{ChangeCommand};
+ghost use Rattle.review_words.specs.declared.{changes.NewChange.NewChange, command.ChangeCommand.ChangeCommand};
 ghost use Rattle.review_changes.specs.Change.{Change, Copying, Setting, after, after_copying, begun, current, eligible, joined_at};
-ghost use Rattle.review_changes.specs.Sound.{IsSound, fits};
-ghost use Rattle.review_changes.specs.Votes.{voted};
+ghost use Rattle.review_changes.specs.{Sound.IsSound, Sound.fits, Votes.voted};
 
 /// A request keeps a change sound, whatever it copies.
 pub fn stays_sound()

@@ -1,24 +1,16 @@
 -- Rows that fit together, by tests of them one by one.
 use Rattle.std.proofs.Common.{◌≡◌, ℕ, ℤ, List, Option, Some, None, Bool, true, false, not, ◌&&◌, ◌||◌, refl, sym, ap, ◌∙◌, eq-eqb, eqb-true, length, nat_le}
-use Rattle.std.specs.Prelude.{◌==◌, is_some}
-use Rattle.std.specs.List.{list_all}
-use Rattle.std.specs.List.Sorted.{IsStrictlySortedBy}
-use Rattle.std.specs.Map.{keys_of}
-use Rattle.std.specs.Ordering.{nat_cmp}
-use Rattle.std.proofs.lemmas.Bool.{and_parts, and_from}
+use Rattle.std.{proofs.lemmas.Bool.and_parts, proofs.lemmas.Bool.and_from, specs.List.list_all}
+use Rattle.std.specs.{List.Sorted.IsStrictlySortedBy, Map.keys_of, Ordering.nat_cmp, Prelude.◌==◌, Prelude.is_some}
 use Rattle.review_names.specs.Forms.{is_within, most_comments, most_patches}
 use Rattle.review_table.specs.Rows.{row_in, rows_of}
-use Rattle.review_changes.specs.declared.rows.Called.{Called}
-use Rattle.review_changes.specs.declared.rows.ChangeRows.{ChangeRows}
-use Rattle.review_changes.specs.declared.rows.VoteKey.{VoteKey}
 use Rattle.review_changes.specs.Change.{current, uploader}
 use Rattle.review_changes.specs.Seen.{of_account, seen, value_of, vote_cmp, vote_in}
-use Rattle.review_changes.specs.Sound.{IsSound, are_in_order}
-use Rattle.review_changes.specs.Votes.{voted}
-use Rattle.review_core.specs.Tests.{are_counted, is_called_in_place, is_in_place}
+use Rattle.review_changes.specs.{Sound.IsSound, Sound.are_in_order, Votes.voted}
+use Rattle.review_changes.specs.declared.rows.{Called.Called, ChangeRows.ChangeRows, VoteKey.VoteKey}
+use Rattle.review_parts.proofs.{Accounts.accounts_tell, VoteKeys.vote_key, VoteKeys.votes_tell}
 use Rattle.review_core.proofs.Everywhere.{all_at, all_from}
-use Rattle.review_parts.proofs.Accounts.{accounts_tell}
-use Rattle.review_parts.proofs.VoteKeys.{vote_key, votes_tell}
+use Rattle.review_core.specs.Tests.{are_counted, is_called_in_place, is_in_place}
 
 voted_row : (o : Option ℤ) → voted (value_of o) ≡ true → (v : ℤ) × (o ≡ Some v) × (voted v ≡ true)
 voted_row None h = absurd (let e : false ≡ true = h in cc)

@@ -1,9 +1,6 @@
 -- Rows that are refused.
-use Rattle.review_changes.specs.declared.rows.ChangeRows.{ChangeRows}
-use Rattle.review_changes.specs.Seen.{seen}
-use Rattle.review_changes.specs.Sound.{IsSound}
-use Rattle.review_core.specs.declared.file.RowsFault.{RowsFault}
-use Rattle.review_core.specs.declared.file.RowsFault.TheVariants.{Broken, Memory}
+use Rattle.review_changes.specs.{Seen.seen, Sound.IsSound, declared.rows.ChangeRows.ChangeRows}
+use Rattle.review_core.specs.declared.file.RowsFault.{RowsFault, TheVariants.Broken, TheVariants.Memory}
 
 -- Broken is answered only where the rows don't fit together
 abbrev pub IsRefused : ChangeRows → RowsFault → Type 0

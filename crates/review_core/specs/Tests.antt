@@ -1,12 +1,10 @@
 -- What is tested of stored rows, one by one.
-use Rattle.std.specs.Prelude.{ℕ, ℤ, Bool, true, not, ◌&&◌, ◌||◌, ◌==◌, nat_le, Option, is_some}
 use Rattle.std.specs.Option.{option_map_or}
+use Rattle.std.specs.Prelude.{ℕ, ℤ, Bool, true, not, ◌&&◌, ◌||◌, ◌==◌, nat_le, Option, is_some}
 use Rattle.review_names.specs.Forms.{is_within, most_comments, most_patches}
 use Rattle.review_words.specs.declared.changes.Role.{Role}
-use Rattle.review_changes.specs.declared.rows.Called.{Called}
-use Rattle.review_changes.specs.declared.rows.CommentRow.{CommentRow}
-use Rattle.review_changes.specs.declared.rows.VoteKey.{VoteKey}
 use Rattle.review_changes.specs.Votes.{voted}
+use Rattle.review_changes.specs.declared.rows.{Called.Called, CommentRow.CommentRow, VoteKey.VoteKey}
 
 -- there are so many patch sets and comments as there may be
 abbrev pub are_counted : ℕ → ℕ → Bool

@@ -1,8 +1,7 @@
 //! The attention set, changed by hand.
 ghost use Rattle.std.specs.Prelude.{◌≡◌, IfOk};
-ghost use Rattle.review_changes.specs.Change.{after_plain};
-ghost use Rattle.review_changes.specs.Seen.{seen};
 ghost use Rattle.review_words.specs.declared.command.ChangeCommand.TheVariants.{AddAttention, RemoveAttention};
+ghost use Rattle.review_changes.specs.{Change.after_plain, Seen.seen};
 
 use review_changes::ChangeRows;
 use review_parts::{drop_called, tell};

@@ -1,7 +1,6 @@
 //! A new change.
 ghost use Rattle.std.specs.Prelude.{◌≡◌, IfOk};
-ghost use Rattle.review_changes.specs.Change.{begun};
-ghost use Rattle.review_changes.specs.Seen.{seen};
+ghost use Rattle.review_changes.specs.{Change.begun, Seen.seen};
 
 use review_changes::{ChangeRows, Header, PatchRow};
 use review_table::Table;

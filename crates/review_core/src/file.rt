@@ -1,14 +1,11 @@
 //! A change whose rows fit together, and what each request makes of it.
 ghost use Rattle.std.specs.Prelude.{◌≡◌, ◌↔◌, true, IfOk, MatchResult};
-ghost use Rattle.review_changes.specs.Change.{after, after_plain, begun, carried, copying, eligible, is_lost, joined_at};
-ghost use Rattle.review_changes.specs.Seen.{seen};
-ghost use Rattle.review_changes.specs.Sound.{IsSound, fits};
-ghost use Rattle.review_changes.specs.Threads.{threads};
-ghost use Rattle.review_changes.specs.Votes.{voted};
-ghost use Rattle.review_statuses.specs.Grouped.{IsStatus};
 ghost use Rattle.review_words.specs.declared.command.ChangeCommand.TheVariants.{Upload, Review as ReviewOf, AddReviewer, RemoveReviewer, SetWip, SetReady, Abandon, Restore, AddAttention, RemoveAttention};
-ghost use Rattle.review_core.specs.Faults.{IsRefused};
+ghost use Rattle.review_changes.specs.Change.{after, after_plain, begun, carried, copying, eligible, is_lost, joined_at};
+ghost use Rattle.review_changes.specs.{Seen.seen, Sound.IsSound, Sound.fits, Threads.threads, Votes.voted};
 ghost use Rattle.review_parts.specs.Copies.{AreMany, group_list};
+ghost use Rattle.review_statuses.specs.Grouped.{IsStatus};
+ghost use Rattle.review_core.specs.Faults.{IsRefused};
 
 use crate::sound::{are_all, are_counted, are_eligible, are_in_order, are_in_place};
 use crate::uploading::{self, Copied};

@@ -1,9 +1,9 @@
 //! A review: its votes, the role of its writer, its comments, and who is called.
 ghost use Rattle.std.specs.Prelude.{◌≡◌, ◌==◌, ◌&&◌, ◌||◌, not, ℕ, true, None, is_some, length, unwrap_or, IfOk, OnOk, if◌then◌else◌};
 ghost use Rattle.review_names.specs.Forms.{is_within, most_patches};
+ghost use Rattle.review_words.specs.declared.command.ChangeCommand.TheVariants.{Review as ReviewOf};
 ghost use Rattle.review_changes.specs.Change.{after_plain, current, is_open, kept_or, why_commented, why_replied};
 ghost use Rattle.review_changes.specs.Seen.{of_account, seen};
-ghost use Rattle.review_words.specs.declared.command.ChangeCommand.TheVariants.{Review as ReviewOf};
 
 use crate::roles::{current_patch, who_for};
 use crate::states::is_open;

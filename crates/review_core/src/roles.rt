@@ -1,9 +1,9 @@
 //! Reviewers, CCs, and who has to do with a change.
 ghost use Rattle.std.specs.Prelude.{◌≡◌, ◌==◌, ◌&&◌, ◌||◌, not, true, length, unwrap_or, Some, IfOk};
 ghost use Rattle.review_names.specs.Forms.{is_within, most_patches};
+ghost use Rattle.review_words.specs.declared.command.ChangeCommand.TheVariants.{AddReviewer, RemoveReviewer};
 ghost use Rattle.review_changes.specs.Change.{after_plain, current, is_open, is_reviewer, last_uploader};
 ghost use Rattle.review_changes.specs.Seen.{seen};
-ghost use Rattle.review_words.specs.declared.command.ChangeCommand.TheVariants.{AddReviewer, RemoveReviewer};
 ghost use Rattle.review_parts.specs.declared.attention.Who.{Who};
 
 use crate::states::is_open;

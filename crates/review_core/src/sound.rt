@@ -1,12 +1,9 @@
 //! Whether rows fit together.
+ghost use Rattle.std.specs.{List.list_all, Option.option_map_or};
 ghost use Rattle.std.specs.Prelude.{◌≡◌, ◌==◌, ◌&&◌, ◌||◌, not, true, nat_le, length, is_some, IfOk};
-ghost use Rattle.std.specs.List.{list_all};
-ghost use Rattle.std.specs.Option.{option_map_or};
 ghost use Rattle.review_names.specs.Forms.{is_within, most_comments, most_patches};
 ghost use Rattle.review_table.specs.Rows.{rows_of};
-ghost use Rattle.review_changes.specs.Seen.{of_account};
-ghost use Rattle.review_changes.specs.Sound.{are_in_order};
-ghost use Rattle.review_changes.specs.Votes.{voted};
+ghost use Rattle.review_changes.specs.{Seen.of_account, Sound.are_in_order, Votes.voted};
 ghost use Rattle.review_core.specs.Tests.{are_counted, is_called_in_place, is_earlier, is_in_place};
 
 use review_changes::{Called, Comment, PatchRow, Vote, VoteKey};

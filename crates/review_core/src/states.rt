@@ -1,8 +1,7 @@
 //! The state of a change, and whether it is in work in progress.
 ghost use Rattle.std.specs.Prelude.{◌≡◌, IfOk};
-ghost use Rattle.review_changes.specs.Change.{after_plain, is_open, joined_at};
-ghost use Rattle.review_changes.specs.Seen.{seen};
 ghost use Rattle.review_words.specs.declared.command.ChangeCommand.TheVariants.{SetWip, SetReady, Abandon, Restore};
+ghost use Rattle.review_changes.specs.{Change.after_plain, Change.is_open, Change.joined_at, Seen.seen};
 
 use crate::roles::who_for;
 use review_changes::ChangeRows;

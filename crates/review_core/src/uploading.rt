@@ -1,11 +1,10 @@
 //! A new patch set: its votes, and who is called.
-ghost use Rattle.std.specs.Prelude.{◌≡◌, ◌+◌, ◌==◌, ℕ, List, [], pos, true, length, IfOk, OnOk};
 ghost use Rattle.std.specs.Cmp.Lexicographic.{pointwise};
+ghost use Rattle.std.specs.Prelude.{◌≡◌, ◌+◌, ◌==◌, ℕ, List, [], pos, true, length, IfOk, OnOk};
 ghost use Rattle.review_names.specs.Forms.{is_within, most_patches};
-ghost use Rattle.review_changes.specs.Change.{after, carried, copying, current, is_lost, last_paths};
-ghost use Rattle.review_changes.specs.Seen.{seen, vote_in};
-ghost use Rattle.review_changes.specs.Votes.{voted};
 ghost use Rattle.review_words.specs.declared.command.ChangeCommand.TheVariants.{Upload};
+ghost use Rattle.review_changes.specs.Change.{after, carried, copying, current, is_lost, last_paths};
+ghost use Rattle.review_changes.specs.{Seen.seen, Seen.vote_in, Votes.voted};
 ghost use Rattle.review_parts.specs.Copies.{AreMany, GroupTable, group_list, with_groups};
 
 use crate::roles::{current_patch, uploader_of, who_for};

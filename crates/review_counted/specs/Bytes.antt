@@ -1,8 +1,7 @@
 -- The bytes that reads took, and those that writes put.
-use Rattle.std.specs.Prelude.{◌≡◌, ◌<◌, ◌++◌, ℕ, List, [], length, Bool, true, false, Option, Result, Ok, Err}
 use Rattle.std.specs.Io.KnownBytes.{Consumes, IsAtEnd}
-use Rattle.review_counted.specs.declared.reading.Stop.{Stop}
-use Rattle.review_counted.specs.declared.reading.Stop.TheVariants.{Read, Memory}
+use Rattle.std.specs.Prelude.{◌≡◌, ◌<◌, ◌++◌, ℕ, List, [], length, Bool, true, false, Option, Result, Ok, Err}
+use Rattle.review_counted.specs.declared.reading.Stop.{Stop, TheVariants.Read, TheVariants.Memory}
 
 -- from before to after a reader gave these bytes, and where it ended it has none left
 pub record Gave (before after : Option (List ℕ)) (bytes : List ℕ) (ended : Bool) : Type 0 where

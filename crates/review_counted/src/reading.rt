@@ -1,7 +1,6 @@
 //! One read more.
 ghost use Rattle.std.specs.Prelude.{◌≡◌, ℕ, List, Bool, OnOk, Err};
-ghost use Rattle.review_counted.specs.Bytes.{Gave, IsBrought};
-ghost use Rattle.review_counted.specs.Counts.{one_more};
+ghost use Rattle.review_counted.specs.{Bytes.Gave, Bytes.IsBrought, Counts.one_more};
 ghost use Rattle.review_counted.specs.Shown.{inner_of, reads_of, faults_of};
 
 use crate::counted::Counted;

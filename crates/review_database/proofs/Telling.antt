@@ -1,50 +1,35 @@
 -- What look-ups tell of tables.
 use Rattle.std.proofs.Common.{◌≡◌, ◌∙◌, ◌⊎◌, ◌<◌, ◌&&◌, ℕ, zero, pos, List, [], ◌∷◌, Option, Some, None, option_map, Result, Ok, Err, OnOk, refl, sym, ap, subst, cond, Bool, true, false, inl, inr, filter, is_gt, is_some, suc, int_lt, arith}
-use Rattle.std.specs.declared.alloc.AllocError.{AllocError}
+use Rattle.std.proofs.lemmas.Bool.{lt-ltb, cases_Bool, and_from, and_parts, both_ways, Decides.leb_tells}
+use Rattle.std.proofs.lemmas.{Cmp.nat_list_eq_equiv, Option.same_Some}
 use Rattle.std.specs.Ordering.{nat_cmp, int_cmp, is_eq}
-use Rattle.std.specs.Str.{bytes_eq, is_utf8}
-use Rattle.std.proofs.lemmas.Bool.Decides.{leb_tells}
-use Rattle.std.proofs.lemmas.Bool.{lt-ltb, cases_Bool, and_from, and_parts, both_ways}
-use Rattle.std.proofs.lemmas.Cmp.{nat_list_eq_equiv}
-use Rattle.std.proofs.lemmas.Option.{same_Some}
-use Rattle.sqlite_value.specs.declared.value.Value.{Value}
-use Rattle.sqlite_value.specs.declared.value.Value.TheVariants.{Null, Int, Real, Text, Blob}
-use Rattle.sqlite_value.specs.Order.{Row as Raw, column, value_cmp}
-use Rattle.sqlite_value.proofs.OrderLemmas.{value_cmp-Int}
-use Rattle.sqlite_trees.specs.Tree.{Trees}
-use Rattle.sqlite_rules.specs.Lists.{Has}
+use Rattle.std.specs.{Str.bytes_eq, Str.is_utf8, declared.alloc.AllocError.AllocError}
 use Rattle.sqlite_keyed.proofs.ListLemmas.{all_weaker, filter_none}
-use Rattle.review_names.specs.Forms.{is_commit}
-use Rattle.review_names.specs.Names.{is_word}
-use Rattle.review_words.specs.History.{Entry, is_listed, bases as history_bases}
+use Rattle.sqlite_rules.specs.Lists.{Has}
+use Rattle.sqlite_trees.specs.Tree.{Trees}
+use Rattle.sqlite_value.proofs.OrderLemmas.{value_cmp-Int}
+use Rattle.sqlite_value.specs.{Order.Row as Raw, Order.column, Order.value_cmp, declared.value.Value.Value}
+use Rattle.sqlite_value.specs.declared.value.Value.TheVariants.{Null, Int, Real, Text, Blob}
+use Rattle.review_names.specs.{Forms.is_commit, Names.is_word}
 use Rattle.review_table.specs.Rows.{row_in}
-use Rattle.review_rows.specs.declared.rows.Base.{Base}
-use Rattle.review_rows.specs.declared.rows.BranchKey.{BranchKey}
-use Rattle.review_rows.specs.declared.rows.Rows.{Rows}
-use Rattle.review_rows.specs.declared.rows.Want.{Want}
-use Rattle.review_rows.specs.Changes.{Reading}
+use Rattle.review_statements.proofs.Meaning.{all_pass}
+use Rattle.review_statements.specs.{Content.has_key, Content.is_value, Greatest.HasGreatest, Greatest.IsGreatest}
+use Rattle.review_statements.specs.Search.{only, reads, row_at, rows_at}
+use Rattle.review_words.specs.History.{Entry, is_listed, bases as history_bases}
+use Rattle.review_tables.proofs.Keys.{int_is, itself}
+use Rattle.review_tables.specs.{Columns.number_in, Columns.text_in, Fronts.HaveRows}
+use Rattle.review_changes.specs.Change.{of_number}
+use Rattle.review_rows.{proofs.Looked.based_from, proofs.Readings.reading_of, specs.Changes.Reading}
 use Rattle.review_rows.specs.Known.{Found, HasBases, HasMembers, IsFound, IsLast, Learns, at_place}
 use Rattle.review_rows.specs.Rows.{Key, AccountKey, MemberKey, FileKey, BaseKey, PartKey, OddKey, Row, AccountRow, MemberRow, FileRow, BaseRow, APart, OddRow, Tables, member_row}
-use Rattle.review_rows.specs.Shelf.{IsDamaged}
-use Rattle.review_rows.specs.View.{fact}
-use Rattle.review_rows.proofs.Readings.{reading_of}
-use Rattle.review_changes.specs.Change.{of_number}
+use Rattle.review_rows.specs.{Shelf.IsDamaged, View.fact}
+use Rattle.review_rows.specs.declared.rows.{Base.Base, BranchKey.BranchKey, PlaceKey.PlaceKey, Rows.Rows, Want.Want}
 use Rattle.review_change_rows.specs.Tables.{AreInOrder}
-use Rattle.review_rows.proofs.Looked.{based_from}
-use Rattle.review_tables.specs.Columns.{number_in, text_in}
-use Rattle.review_statements.specs.Content.{has_key, is_value}
-use Rattle.review_tables.specs.Fronts.{HaveRows}
-use Rattle.review_statements.specs.Greatest.{HasGreatest, IsGreatest}
-use Rattle.review_statements.specs.Search.{only, reads, row_at, rows_at}
-use Rattle.review_tables.proofs.Keys.{int_is, itself}
-use Rattle.review_statements.proofs.Meaning.{all_pass}
-use Rattle.review_rows.specs.declared.rows.PlaceKey.{PlaceKey}
 use Rattle.review_records.specs.Forms.{accounts, account_names, account_numbers, member_parts, bases, base_commits, base_parts, base_places}
 use Rattle.review_records.specs.Laws.{number_is, passed}
-use Rattle.review_database.specs.declared.sights.Sight.{Sight}
-use Rattle.review_database.specs.declared.sights.Sight.TheVariants.{Damaged, Learnt}
 use Rattle.review_database.specs.Loads.{HasLearnt, IsOrdered, Tells, last_of, learnt_by}
 use Rattle.review_database.specs.Tables.{tables_at, told}
+use Rattle.review_database.specs.declared.sights.Sight.{Sight, TheVariants.Damaged, TheVariants.Learnt}
 
 pub own_bytes : (s t : List ℕ) → s ≡ t → bytes_eq s t ≡ true
 own_bytes s t same = subst (λ x. bytes_eq s x ≡ true) same (nat_list_eq_equiv.refl s)

@@ -1,20 +1,14 @@
 -- What look-ups in the tables of a desk give.
+use Rattle.std.specs.Ordering.{nat_cmp}
 use Rattle.std.specs.Prelude.{ℕ, ◌≡◌, List, Option, Some, None, Result, Ok, Err}
 use Rattle.std.specs.declared.alloc.AllocError.{AllocError}
-use Rattle.std.specs.Ordering.{nat_cmp}
-use Rattle.review_table.specs.Rows.{row_in}
 use Rattle.sqlite_trees.specs.Tree.{Trees}
-use Rattle.review_rows.specs.declared.rows.Rows.{Rows}
-use Rattle.review_rows.specs.declared.rows.Want.{Want}
-use Rattle.review_rows.specs.Known.{at_place, AreAsked, Agrees, Found, Learns}
-use Rattle.review_rows.specs.Rows.{Tables}
-use Rattle.review_rows.specs.Shelf.{IsDamaged}
-use Rattle.review_rows.specs.Known.{LearnsFound}
-use Rattle.review_database.specs.declared.sights.Sight.{Sight}
+use Rattle.review_table.specs.Rows.{row_in}
+use Rattle.review_rows.specs.Known.{at_place, AreAsked, Agrees, Found, Learns, LearnsFound}
+use Rattle.review_rows.specs.{Rows.Tables, Shelf.IsDamaged, declared.rows.Rows.Rows, declared.rows.Want.Want}
+use Rattle.review_database.specs.{Tables.tables_at, declared.sights.Loaded.Loaded, declared.sights.Sight.Sight}
 use Rattle.review_database.specs.declared.sights.Sight.TheVariants as sight
-use Rattle.review_database.specs.declared.sights.Loaded.{Loaded}
 use Rattle.review_database.specs.declared.sights.Loaded.TheVariants as loaded
-use Rattle.review_database.specs.Tables.{tables_at}
 
 -- how a look-up ended, of these tables
 abbrev pub Tells : Tables → Want → Rows → Rows → Sight → Type 0

@@ -1,12 +1,11 @@
 //! What rows learn of what was found.
 ghost use Rattle.std.specs.Prelude.{◌≡◌, Some, None, IfOk, IfErr, OnOk, option_map};
-ghost use Rattle.review_records.specs.Keyed.{is_small};
-ghost use Rattle.review_records.specs.Forms.{where_is};
 ghost use Rattle.review_table.specs.Rows.{rows_of};
+ghost use Rattle.review_rows.specs.Known.{Number, Holder, IsSo, Members, Stands, Text, Commits, Joins, Learns};
+ghost use Rattle.review_records.specs.{Forms.where_is, Keyed.is_small};
+ghost use Rattle.review_database.specs.Loads.{last_of, learnt_by};
 ghost use Rattle.review_rows.specs.declared.rows.Want.TheVariants as want;
 ghost use Rattle.review_rows.specs.declared.rows.Counted.TheVariants as counted;
-ghost use Rattle.review_rows.specs.Known.{Number, Holder, IsSo, Members, Stands, Text, Commits, Joins, Learns};
-ghost use Rattle.review_database.specs.Loads.{last_of, learnt_by};
 
 use crate::sights::Sight;
 use review_chain::Standing;

@@ -1,50 +1,32 @@
 -- How many votes a change of a history has at most.
 use Rattle.std.proofs.Common.{◌≡◌, ℕ, ℤ, pos, zero, suc, ◌+◌, ◌*◌, ◌==◌, ◌<◌, ◌≤◌, List, [], ◌∷◌, ◌++◌, length, Option, Some, None, Bool, true, false, cond, not, ◌&&◌, ◌||◌, Less, Equal, Greater, nat_cmp, refl, sym, ap, ◌∙◌, ⊎_elim, arith, eq-eqb, length-append}
-use Rattle.std.specs.Prelude.{is_some, nat_le, nat_lt, find, filter, fold, codes}
-use Rattle.std.specs.declared.cmp.Ordering.{Ordering}
-use Rattle.std.specs.Cmp.Lexicographic.{slice_cmp}
-use Rattle.std.specs.Option.{option_map_or}
-use Rattle.std.specs.List.{list_any}
-use Rattle.std.specs.Ordering.{int_eq, match_ordering}
-use Rattle.std.specs.Str.{bytes_eq}
 use Rattle.std.proofs.lemmas.Bool.{and_parts, and_from, cases_Bool, cases_lt, ltb-true, ltb-false, leb-true}
-use Rattle.std.proofs.lemmas.List.{length-map}
+use Rattle.std.{proofs.lemmas.List.length-map, specs.Cmp.Lexicographic.slice_cmp}
+use Rattle.std.specs.{List.list_any, Option.option_map_or, Ordering.int_eq, Ordering.match_ordering}
+use Rattle.std.specs.Prelude.{is_some, nat_le, nat_lt, find, filter, fold, codes}
+use Rattle.std.specs.{Str.bytes_eq, declared.cmp.Ordering.Ordering}
 use Rattle.toml.specs.Data.{Data, table}
 use Rattle.review_names.specs.Forms.{is_label}
-use Rattle.review_words.specs.declared.changes.Given.{Given}
-use Rattle.review_words.specs.declared.changes.NewPatch.{NewPatch}
-use Rattle.review_words.specs.declared.command.Command.{Command}
-use Rattle.review_words.specs.declared.command.Command.TheVariants.{CreateAccount, PutGroup, PutProject, RecordBase, CloseEpoch, CreateChange, OnChange, Submit}
-use Rattle.review_words.specs.declared.reply.Answer.{Answer}
-use Rattle.review_words.specs.declared.reply.Refusal.TheVariants.{UnknownCaller}
-use Rattle.review_words.specs.declared.reply.Reply.{Reply}
-use Rattle.review_words.specs.declared.reply.Reply.TheVariants.{Done, Refused, IdentityReused, EpochClosed, NotTaken}
+use Rattle.review_document.specs.{Document.members_at, Limits.most_parts}
 use Rattle.review_words.specs.History.{Entry, if_done, account_count, counted, is_account}
-use Rattle.review_document.specs.Document.{members_at}
-use Rattle.review_document.specs.Limits.{most_parts}
+use Rattle.review_words.specs.declared.{changes.Given.Given, changes.NewPatch.NewPatch, command.Command.Command}
+use Rattle.review_words.specs.declared.command.Command.TheVariants.{CreateAccount, PutGroup, PutProject, RecordBase, CloseEpoch, CreateChange, OnChange, Submit}
+use Rattle.review_words.specs.declared.reply.{Answer.Answer, Refusal.TheVariants.UnknownCaller, Reply.Reply}
+use Rattle.review_words.specs.declared.reply.Reply.TheVariants.{Done, Refused, IdentityReused, EpochClosed, NotTaken}
 use Rattle.review_expr.specs.declared.expr.Expr.{Expr}
-use Rattle.review_project.specs.Expressions.{EachTo, IsLabel}
-use Rattle.review_project.specs.Inherited.{inherited_labels, put_by}
-use Rattle.review_project.specs.Spelled.{label_in, named, spelled}
-use Rattle.review_project.specs.View.{FileView, LabelView}
+use Rattle.review_project.specs.{Expressions.EachTo, Expressions.IsLabel, Inherited.inherited_labels, Inherited.put_by}
+use Rattle.review_project.specs.{Spelled.label_in, Spelled.named, Spelled.spelled, View.FileView, View.LabelView}
 use Rattle.review_changes.specs.Change.{Change, carried, copying, current, is_lost}
-use Rattle.review_changes.specs.Counts.{AreMany, has_vote}
-use Rattle.review_changes.specs.Votes.{voted}
-use Rattle.review_words.specs.declared.command.ChangeCommand.TheVariants as on
-use Rattle.review_changes.specs.declared.rows.VoteKey.{VoteKey}
-use Rattle.review_change_laws.proofs.Sound.{all_pass, done_passes}
-use Rattle.review_rows.specs.Answer.{IsAnswerBy, IsHistory, IsUploadAnswer, checks, is_value_of}
-use Rattle.review_ancestors.proofs.Effective.{line_read}
-use Rattle.review_rows.specs.declared.rows.StoredFile.{StoredFile}
-use Rattle.review_rows.specs.Changes.{Reading, Reads, change, effective_of, file_of, own_of, setting_of, texts_of}
-use Rattle.review_rows.specs.Files.{IsRead}
-use Rattle.review_rows.specs.Lines.{line_of, most_depth, with_above}
+use Rattle.review_changes.specs.{Counts.AreMany, Counts.has_vote, Votes.voted, declared.rows.VoteKey.VoteKey}
 use Rattle.review_rows.proofs.Readings.{IsDoneBy, done_of}
-use Rattle.review_ancestors.proofs.Standing.{votes_stand}
-use Rattle.review_deliveries.proofs.Named.{AreReadRight}
-use Rattle.review_deliveries.proofs.OneFile.{spelled_once}
-use Rattle.review_deliveries.proofs.Voted.{have_voters}
-use Rattle.review_deliveries.proofs.Votes.{no_more}
+use Rattle.review_rows.specs.Answer.{IsAnswerBy, IsHistory, IsUploadAnswer, checks, is_value_of}
+use Rattle.review_rows.specs.Changes.{Reading, Reads, change, effective_of, file_of, own_of, setting_of, texts_of}
+use Rattle.review_rows.specs.{Files.IsRead, Lines.line_of, Lines.most_depth, Lines.with_above}
+use Rattle.review_rows.specs.declared.rows.StoredFile.{StoredFile}
+use Rattle.review_change_laws.proofs.Sound.{all_pass, done_passes}
+use Rattle.review_ancestors.proofs.{Effective.line_read, Standing.votes_stand}
+use Rattle.review_deliveries.proofs.{Named.AreReadRight, OneFile.spelled_once, Voted.have_voters, Votes.no_more}
+use Rattle.review_words.specs.declared.command.ChangeCommand.TheVariants as on
 
 -- ---- the votes that there can be
 

@@ -1,33 +1,27 @@
 -- What was decided of a command, or not, by what the tables tell.
 use Rattle.std.proofs.Common.{◌≡◌, ◌∙◌, ℕ, ◌≤◌, ◌<◌, ◌+◌, inl, inr, List, [], Option, Some, None, length, true, refl, sym, subst, ap, arith}
 use Rattle.std.specs.Prelude.{Result, Ok, Err, IfOk, IfErr, nat_lt}
-use Rattle.review_words.specs.Texts.{IsStored}
-use Rattle.review_words.specs.declared.command.Command.{Command}
+use Rattle.review_words.specs.History.{Entry, IsFirst, if_done}
+use Rattle.review_words.specs.{Texts.IsStored, declared.command.Command.Command}
 use Rattle.review_words.specs.declared.command.Command.TheVariants.{CreateAccount, PutGroup, PutProject, RecordBase, CreateChange, OnChange, Submit, CloseEpoch}
-use Rattle.review_words.specs.declared.command.Delivery.TheVariants.{Write}
+use Rattle.review_words.specs.declared.{command.Delivery.TheVariants.Write, reply.NotTaken.NotTaken as Cause}
+use Rattle.review_words.specs.declared.reply.NotTaken.TheVariants.{Memory, Store, Damaged, Pattern, Full}
 use Rattle.review_words.specs.declared.reply.Reply.{Reply}
 use Rattle.review_words.specs.declared.reply.Reply.TheVariants.{Done, Refused, IdentityReused, EpochClosed, NotTaken}
-use Rattle.review_words.specs.declared.reply.NotTaken.{NotTaken as Cause}
-use Rattle.review_words.specs.declared.reply.NotTaken.TheVariants.{Memory, Store, Damaged, Pattern, Full}
-use Rattle.review_words.specs.History.{Entry, IsFirst, if_done}
-use Rattle.review_rows.specs.declared.rows.Rows.{Rows}
-use Rattle.review_rows.specs.declared.rows.Want.TheVariants.{LeastEpoch}
-use Rattle.review_rows.specs.Answer.{IsHistory, most_requests}
-use Rattle.review_rows.specs.Files.{File}
+use Rattle.review_rows.proofs.{Asked.least_epoch_is, Asked.requests_are, Readings.reading_of}
+use Rattle.review_rows.specs.{Answer.IsHistory, Answer.most_requests, Files.File}
 use Rattle.review_rows.specs.Known.{Agrees, known, number_of}
 use Rattle.review_rows.specs.Rows.{ClosedEpochs, Tables, is_above, new_least}
 use Rattle.review_rows.specs.Shelf.{AddsNoStop, Answers, LeavesBy, Shown, Shows, Views}
 use Rattle.review_rows.specs.Steps.{OfCommand, next}
-use Rattle.review_rows.proofs.Asked.{least_epoch_is, requests_are}
-use Rattle.review_rows.proofs.Readings.{reading_of}
-use Rattle.review_deliveries.specs.declared.deliveries.Decided.{Decided}
+use Rattle.review_rows.specs.declared.rows.{Rows.Rows, Want.TheVariants.LeastEpoch}
+use Rattle.review_deliveries.proofs.Histories.{enough_shown, history_length, requests_told}
+use Rattle.review_deliveries.proofs.{Patterns.reads_pattern, Resting.rests_on}
+use Rattle.review_deliveries.proofs.Served.{not_taken_served, views_left_by}
 use Rattle.review_deliveries.specs.Deciding.{IsDecidedBy, IsUndecidedBy, WasDecided, WasUndecided}
 use Rattle.review_deliveries.specs.Gathered.{CountsCause, IsAllAsked, IsUngathered, LeavesTables}
 use Rattle.review_deliveries.specs.Replies.{CountsReply, IsLawful, IsServed, KeepsUntaken}
-use Rattle.review_deliveries.proofs.Histories.{enough_shown, history_length, requests_told}
-use Rattle.review_deliveries.proofs.Patterns.{reads_pattern}
-use Rattle.review_deliveries.proofs.Resting.{rests_on}
-use Rattle.review_deliveries.proofs.Served.{not_taken_served, views_left_by}
+use Rattle.review_deliveries.specs.declared.deliveries.Decided.{Decided}
 
 -- an accepted CloseEpoch names an epoch above the least open one
 rises : (command : Command) (reply : Reply) (o : Option ℕ) (file : Option File) (rows : Rows) (caller : ℕ) (t : Tables) →

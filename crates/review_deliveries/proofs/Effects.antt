@@ -1,25 +1,21 @@
 -- What a delivery does to any tables whatever.
 use Rattle.std.proofs.Common.{◌≡◌, ℕ, ◌+◌, ◌≤◌, ◌<◌, arith, List, Option, Some, None, Result, Ok, Err, cond, refl, sym, ◌∙◌, subst, inl, inr, Bool, true, false, ap}
 use Rattle.std.specs.Prelude.{nat_lt, unwrap_or}
-use Rattle.review_words.specs.declared.command.Command.{Command}
-use Rattle.review_words.specs.declared.command.Delivery.TheVariants.{Write}
+use Rattle.review_words.specs.History.{Identity, is_same, latest, if_done}
+use Rattle.review_words.specs.{Texts.IsStored, Texts.content_text, declared.command.Command.Command}
+use Rattle.review_words.specs.declared.{command.Delivery.TheVariants.Write, reply.NotTaken.NotTaken as Cause}
+use Rattle.review_words.specs.declared.reply.NotTaken.TheVariants.{Memory, Store, Damaged, Pattern, Full}
 use Rattle.review_words.specs.declared.reply.Reply.{Reply}
 use Rattle.review_words.specs.declared.reply.Reply.TheVariants.{Done, Refused, IdentityReused, EpochClosed, NotTaken}
-use Rattle.review_words.specs.History.{Identity, is_same, latest, if_done}
-use Rattle.review_rows.specs.declared.rows.Delta.{Delta}
+use Rattle.review_rows.specs.Answer.{most_requests}
 use Rattle.review_rows.specs.Rows.{Key, Count, ClosedEpochs, AnswerRow, Stored, Answered, Tables, HasNoEffect, after, count_after, new_least, is_above, is_below}
 use Rattle.review_rows.specs.Shelf.{Answers, IsCommitted, Shows, LeavesBy, IsCounted, cause_of}
-use Rattle.review_rows.specs.declared.shelf.ShelfFault.{ShelfFault}
-use Rattle.review_rows.specs.declared.shelf.ShelfFault.TheVariants as fault
-use Rattle.review_words.specs.Texts.{IsStored, content_text}
-use Rattle.review_rows.specs.Answer.{most_requests}
-use Rattle.review_rows.specs.View.{answer_row}
-use Rattle.review_words.specs.declared.reply.NotTaken.{NotTaken as Cause}
-use Rattle.review_words.specs.declared.reply.NotTaken.TheVariants.{Memory, Store, Damaged, Pattern, Full}
+use Rattle.review_rows.specs.{View.answer_row, declared.rows.Delta.Delta, declared.shelf.ShelfFault.ShelfFault}
 use Rattle.review_deliveries.proofs.Histories.{same_from, same_to}
-use Rattle.review_deliveries.specs.declared.deliveries.Decided.{Decided}
 use Rattle.review_deliveries.specs.Deciding.{WasDecided}
 use Rattle.review_deliveries.specs.Replies.{StoresOnce, IsFoundOrStored, StoresRequest, next_row, KeepsRows, KeepsUntaken, CountsReply, IsToldAgain, reply_of, HasStored, HasTexts, HasOtherContent}
+use Rattle.review_deliveries.specs.declared.deliveries.Decided.{Decided}
+use Rattle.review_rows.specs.declared.shelf.ShelfFault.TheVariants as fault
 
 kept : (reply : Reply) (delta : Delta) (t u : Tables) → HasNoEffect reply delta → ((k : Key) → u.row k ≡ after delta k (t.row k)) → ((c : Count) → u.count c ≡ count_after delta t.row c (t.count c)) → KeepsRows reply t u
 kept (Refused r) delta t u none rows counts = (λ k. rows k ∙ none.rows k (t.row k), λ c. counts c ∙ none.counts t.row c (t.count c))

@@ -1,38 +1,30 @@
 -- The effective file by which a command is judged or a question answered, as it is gathered.
 use Rattle.std.proofs.Common.{◌≡◌, ℕ, zero, suc, Bool, List, [], ◌∷◌, Option, Some, None, true, false, cond, Result, Ok, Err, refl, sym, ap, ◌∙◌, subst}
+use Rattle.std.specs.{List.AllByRecursion, Option.option_map_or}
 use Rattle.std.specs.Prelude.{is_some, option_and_then, option_map, IfErr}
-use Rattle.std.specs.List.{AllByRecursion}
-use Rattle.std.specs.Option.{option_map_or}
 use Rattle.std.specs.Result.{IsErr, IsErrAnd}
-use Rattle.review_words.specs.History.{Entry, is_project}
-use Rattle.review_words.specs.declared.command.Command.{Command}
+use Rattle.review_words.specs.{History.Entry, History.is_project, declared.command.Command.Command}
 use Rattle.review_words.specs.declared.command.Command.TheVariants.{CreateAccount, PutGroup, PutProject, RecordBase, CloseEpoch, CreateChange, OnChange, Submit}
-use Rattle.review_words.specs.declared.command.Query.TheVariants as asked
 use Rattle.review_words.specs.declared.reply.NotTaken.{NotTaken as Cause}
 use Rattle.review_words.specs.declared.reply.NotTaken.TheVariants.{Memory, Store, Damaged, Pattern, Full}
-use Rattle.review_project.specs.Inherited.{IsEffective}
-use Rattle.review_project.specs.Reading.{named_parent}
+use Rattle.review_project.specs.{Inherited.IsEffective, Reading.named_parent}
 use Rattle.review_changes.specs.Change.{Change}
-use Rattle.review_ancestors.proofs.Effective.{effective_is, line_read}
-use Rattle.review_rows.specs.declared.rows.Rows.{Rows}
-use Rattle.review_rows.specs.declared.rows.StoredFile.{StoredFile}
-use Rattle.review_rows.specs.declared.rows.Want.TheVariants as want
+use Rattle.review_rows.proofs.Asked.{each_known, line_asked}
+use Rattle.review_rows.proofs.{Lined.own_told, Lined.texts_told, Lined.there_is, Readings.reading_of}
 use Rattle.review_rows.specs.Changes.{Reading, change, effective_of, texts_of}
 use Rattle.review_rows.specs.Decisions.{HasPatternIn, IsUnread, SomePattern, judging_project, topic_project}
 use Rattle.review_rows.specs.Files.{File}
 use Rattle.review_rows.specs.Known.{Found, Number, Name, Holder, IsSo, Members, Text, Commits, AChange, Stands, Joins, IsKnown, part_of, known, Agrees, change_in, file_in}
 use Rattle.review_rows.specs.Lines.{line_of, most_depth, with_above}
-use Rattle.review_rows.specs.Rows.{APart, Tables}
-use Rattle.review_rows.specs.Shelf.{Shows, IsDamaged}
+use Rattle.review_rows.specs.{Rows.APart, Rows.Tables, Shelf.Shows, Shelf.IsDamaged}
 use Rattle.review_rows.specs.Steps.{Topic, OfCommand, OfQuery, HasFile, asks_file, line_steps, line_wants, needs_file, next, own_in, known_parent, parent_of, parent_or, project_for, project_of, texts_for, texts_in, unknown}
-use Rattle.review_rows.specs.View.{view}
-use Rattle.review_rows.proofs.Asked.{each_known, line_asked}
-use Rattle.review_rows.proofs.Lined.{own_told, texts_told, there_is}
-use Rattle.review_rows.proofs.Readings.{reading_of}
+use Rattle.review_rows.specs.{View.view, declared.rows.Rows.Rows, declared.rows.StoredFile.StoredFile}
 use Rattle.review_change_laws.proofs.Same.{rows_tell}
+use Rattle.review_ancestors.proofs.Effective.{effective_is, line_read}
+use Rattle.review_deliveries.proofs.{Histories.view_of, Named.AreReadRight}
 use Rattle.review_deliveries.specs.Gathered.{IsJudgedByPattern, IsUngathered, StaysKnown}
-use Rattle.review_deliveries.proofs.Histories.{view_of}
-use Rattle.review_deliveries.proofs.Named.{AreReadRight}
+use Rattle.review_words.specs.declared.command.Query.TheVariants as asked
+use Rattle.review_rows.specs.declared.rows.Want.TheVariants as want
 
 -- a file that is found was looked for
 file_known : (o : Option Found) (f : StoredFile) → file_in o ≡ Some f → is_some o ≡ true

@@ -1,11 +1,9 @@
 -- Histories of requests whose identities have their forms go on as such.
 use Rattle.std.proofs.Common.{◌++◌, ◌∷◌, ◌||◌, ℕ, Bool, true, false, List, [], if◌then◌else◌, arith}
-use Rattle.review_words.specs.declared.command.Command.{Command}
-use Rattle.review_words.specs.declared.command.Delivery.{Delivery}
-use Rattle.review_words.specs.declared.command.Delivery.TheVariants.{Write, Read}
+use Rattle.review_words.specs.{History.Entry, History.entry_of, History.is_closed, declared.command.Command.Command}
+use Rattle.review_words.specs.declared.command.Delivery.{Delivery, TheVariants.Write, TheVariants.Read}
 use Rattle.review_words.specs.declared.reply.Reply.{Reply}
 use Rattle.review_words.specs.declared.reply.Reply.TheVariants.{Done, Refused, IdentityReused, EpochClosed, NotTaken}
-use Rattle.review_words.specs.History.{Entry, entry_of, is_closed}
 use Rattle.review_deliveries.specs.Formed.{AllFormed, AreFormed, HasForm, IsFormed}
 use Rattle.review_deliveries.specs.Replies.{arrivals_after, first_arrivals, has_identity, history_after, taken, with_entries, with_taken}
 

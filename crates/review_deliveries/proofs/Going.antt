@@ -1,22 +1,18 @@
 -- A run goes on by one delivery.
 use Rattle.std.proofs.Common.{◌≡◌, ℕ, zero, suc, ◌+◌, ◌-◌, ◌<◌, ◌≤◌, take, List, [], ◌∷◌, ◌++◌, length, get_or, Bool, true, false, cond, ◌||◌, refl, sym, ap, ◌∙◌, subst, inl, inr, ⊎_elim, arith, length-append}
-use Rattle.std.specs.Prelude.{is_some}
-use Rattle.std.proofs.lemmas.Bool.{cases_Bool, cases_lt}
+use Rattle.std.proofs.{Math.Seq.take-append-add, lemmas.Bool.cases_Bool, lemmas.Bool.cases_lt}
 use Rattle.std.proofs.lemmas.List.{get_or_append_left, get_or-append-add, take-append-le}
-use Rattle.std.proofs.Math.Seq.{take-append-add}
-use Rattle.review_words.specs.declared.command.Delivery.{Delivery}
-use Rattle.review_words.specs.declared.command.Delivery.TheVariants.{Write, Read}
+use Rattle.std.specs.Prelude.{is_some}
+use Rattle.review_words.specs.History.{Entry, Identity, stored, is_same, entry_of, is_closed}
+use Rattle.review_words.specs.declared.command.Delivery.{Delivery, TheVariants.Write, TheVariants.Read}
 use Rattle.review_words.specs.declared.reply.Reply.{Reply}
 use Rattle.review_words.specs.declared.reply.Reply.TheVariants.{Done, Refused, IdentityReused, EpochClosed, NotTaken}
-use Rattle.review_words.specs.History.{Entry, Identity, stored, is_same, entry_of, is_closed}
-use Rattle.review_rows.specs.Answer.{IsHistory}
+use Rattle.review_rows.proofs.Epochs.{open_before}
+use Rattle.review_rows.specs.{Answer.IsHistory, Rows.Tables, Shelf.Shown, Shelf.Views}
+use Rattle.review_deliveries.proofs.Histories.{passed_over, same_from, stored_here, stored_there}
+use Rattle.review_deliveries.proofs.Served.{leaves_since}
 use Rattle.review_deliveries.specs.Formed.{IsFormed}
 use Rattle.review_deliveries.specs.Replies.{taken, with_taken, with_write, StopGoesOnFrom, first_arrivals as first, arrivals_after as first_after, has_identity, history_after, with_entries as hist, IsRight, AreRight, CountsFollow, IsServed, IsRun, StopsWithin, HasEffect}
-use Rattle.review_rows.specs.Shelf.{Shown, Views}
-use Rattle.review_rows.specs.Rows.{Tables}
-use Rattle.review_deliveries.proofs.Histories.{passed_over, same_from, stored_here, stored_there}
-use Rattle.review_rows.proofs.Epochs.{open_before}
-use Rattle.review_deliveries.proofs.Served.{leaves_since}
 
 with_write-append : (r : Reply) (e : Entry) (es fs : List Entry) → with_write r e (es ++ fs) ≡ with_write r e es ++ fs
 with_write-append (Done a) e es fs = refl

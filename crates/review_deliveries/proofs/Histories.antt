@@ -1,42 +1,29 @@
 -- Identities in histories, and the tables of a history with one more entry.
 use Rattle.std.proofs.Common.{◌≡◌, ℕ, ◌+◌, ◌≤◌, List, [], ◌∷◌, ◌++◌, length, Option, Some, None, true, false, cond, refl, sym, ap, ◌∙◌, subst, ⊎_elim, inl, inr, arith, eqb-true, eq-eqb, ◌==◌, ◌&&◌, Bool}
-use Rattle.std.specs.Prelude.{MatchOption, nat_le, nat_lt, unwrap_or}
-use Rattle.std.specs.Str.{bytes_eq}
-use Rattle.std.proofs.lemmas.Bool.{and_parts, and_from, cases_Bool}
-use Rattle.std.proofs.lemmas.Slice.Eq.{bytes_eq-Decides}
-use Rattle.review_words.specs.Texts.{content_text, reply_text, IsStored}
-use Rattle.review_words.specs.declared.command.Command.{Command}
+use Rattle.std.proofs.lemmas.{Bool.and_parts, Bool.and_from, Bool.cases_Bool, Slice.Eq.bytes_eq-Decides}
+use Rattle.std.specs.{Prelude.MatchOption, Prelude.nat_le, Prelude.nat_lt, Prelude.unwrap_or, Str.bytes_eq}
+use Rattle.review_words.specs.History.{Entry, Identity, stored, is_same, entry_of, latest, may_follow, version_of, is_closed, least_open}
+use Rattle.review_words.specs.{Texts.content_text, Texts.reply_text, Texts.IsStored, declared.changes.NewPatch.NewPatch}
+use Rattle.review_words.specs.declared.command.{ChangeCommand.ChangeCommand, Command.Command}
 use Rattle.review_words.specs.declared.command.Command.TheVariants.{CreateAccount, PutGroup, PutProject, RecordBase, CloseEpoch, CreateChange, OnChange, Submit}
 use Rattle.review_words.specs.declared.command.Delivery.TheVariants.{Write}
-use Rattle.review_words.specs.declared.command.ChangeCommand.{ChangeCommand}
-use Rattle.review_words.specs.declared.command.ChangeCommand.TheVariants as on
-use Rattle.review_words.specs.declared.changes.NewPatch.{NewPatch}
-use Rattle.review_words.specs.declared.reply.Reply.{Reply}
+use Rattle.review_words.specs.declared.reply.{Answer.TheVariants.Nothing, Refusal.Refusal, Reply.Reply}
 use Rattle.review_words.specs.declared.reply.Reply.TheVariants.{Done, Refused, IdentityReused, EpochClosed, NotTaken}
-use Rattle.review_words.specs.declared.reply.Answer.TheVariants.{Nothing}
-use Rattle.review_words.specs.declared.reply.Refusal.{Refusal}
-use Rattle.review_words.specs.History.{Entry, Identity, stored, is_same, entry_of, latest, may_follow, version_of, is_closed, least_open}
 use Rattle.review_changes.specs.Change.{Change}
-use Rattle.review_rows.specs.declared.rows.Delta.{Delta}
-use Rattle.review_rows.specs.declared.rows.Rows.{Rows}
-use Rattle.review_rows.specs.Rows.{AnswerRow, Stored, Answered, Tables, ClosedEpochs, after, count_after, is_below}
-use Rattle.review_rows.specs.declared.rows.Want.TheVariants.{Requests}
-use Rattle.review_rows.specs.Known.{Agrees, known, number_of}
-use Rattle.review_rows.specs.Steps.{Topic, OfCommand}
-use Rattle.review_rows.specs.Changes.{Reading, Reads, change}
-use Rattle.review_rows.specs.Decisions.{IsDoneOrRefused}
-use Rattle.review_rows.specs.Files.{File}
-use Rattle.review_rows.specs.Answer.{IsHistory, IsAnswer, IsAnswerBy, IsAnswerAt, epoch_checks, IsOf, IsOutcome, IsRequestOutcome, IsUploadAnswer, file_checks, first_refusal, refused_by, refused_or, most_requests}
-use Rattle.review_rows.specs.Submits.{IsSubmitAnswer, checked_reply}
-use Rattle.review_rows.specs.View.{AreEnough, IsView, IsViewBy, IsDecidedAt, view, fact, stored_answer, kept_answer, answer_row}
-use Rattle.review_rows.specs.Shelf.{IsCommitted, Answers, Shows, Views}
-use Rattle.review_rows.proofs.Asked.{requests_are}
-use Rattle.review_rows.proofs.Epochs.{closed_stays, own_open}
-use Rattle.review_rows.proofs.Readings.{reading_of}
+use Rattle.review_rows.proofs.{Asked.requests_are, Epochs.closed_stays, Epochs.own_open, Readings.reading_of}
 use Rattle.review_rows.proofs.Requested.{IsToldDone, sent_or_done}
+use Rattle.review_rows.specs.Answer.{IsHistory, IsAnswer, IsAnswerBy, IsAnswerAt, epoch_checks, IsOf, IsOutcome, IsRequestOutcome, IsUploadAnswer, file_checks, first_refusal, refused_by, refused_or, most_requests}
+use Rattle.review_rows.specs.Changes.{Reading, Reads, change}
+use Rattle.review_rows.specs.{Decisions.IsDoneOrRefused, Files.File, Known.Agrees, Known.known, Known.number_of}
+use Rattle.review_rows.specs.Rows.{AnswerRow, Stored, Answered, Tables, ClosedEpochs, after, count_after, is_below}
+use Rattle.review_rows.specs.Shelf.{IsCommitted, Answers, Shows, Views}
+use Rattle.review_rows.specs.{Steps.Topic, Steps.OfCommand, Submits.IsSubmitAnswer, Submits.checked_reply}
+use Rattle.review_rows.specs.View.{AreEnough, IsView, IsViewBy, IsDecidedAt, view, fact, stored_answer, kept_answer, answer_row}
+use Rattle.review_rows.specs.declared.rows.{Delta.Delta, Rows.Rows, Want.TheVariants.Requests}
+use Rattle.review_deliveries.proofs.Stored.{entry_stored}
 use Rattle.review_deliveries.specs.Gathered.{IsAllAsked}
 use Rattle.review_deliveries.specs.Replies.{IsTold, IsToldWhere, with_entries as hist}
-use Rattle.review_deliveries.proofs.Stored.{entry_stored}
+use Rattle.review_words.specs.declared.command.ChangeCommand.TheVariants as on
 
 pub same_from : (a b : Identity) → is_same a b ≡ true → a ≡ b
 same_from a b t =

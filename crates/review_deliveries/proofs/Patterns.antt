@@ -1,27 +1,17 @@
 -- A file that is put goes on from one with a pattern: then the project by whose file it is judged has one in its line.
 use Rattle.std.proofs.Common.{◌≡◌, ◌⊎◌, inl, inr, ℕ, List, [], ◌∷◌, Option, Some, None, true, false, cond, refl, sym, ap, ◌∙◌, subst}
-use Rattle.std.specs.Prelude.{is_some}
-use Rattle.std.specs.List.{AllByRecursion}
-use Rattle.std.specs.Option.{option_map_or}
-use Rattle.review_words.specs.History.{Entry, is_project}
-use Rattle.review_words.specs.declared.command.Command.{Command}
+use Rattle.std.specs.{List.AllByRecursion, Option.option_map_or, Prelude.is_some}
+use Rattle.review_words.specs.{History.Entry, History.is_project, declared.command.Command.Command}
 use Rattle.review_words.specs.declared.command.Command.TheVariants.{CreateAccount, PutGroup, PutProject, RecordBase, CreateChange, OnChange, Submit, CloseEpoch}
 use Rattle.review_project.specs.Reading.{named_parent}
-use Rattle.review_ancestors.specs.Ends.{ends}
-use Rattle.review_ancestors.proofs.Ending.{line_whole}
-use Rattle.review_ancestors.proofs.Histories.{sound_files}
-use Rattle.review_ancestors.proofs.Kept.{parent_ends}
-use Rattle.review_rows.specs.declared.rows.Rows.{Rows}
-use Rattle.review_rows.specs.declared.rows.StoredFile.{StoredFile}
-use Rattle.review_rows.specs.Answer.{IsHistory}
-use Rattle.review_rows.specs.Changes.{Reading, own_of, texts_of}
+use Rattle.review_rows.proofs.{Asked.all_asked, Asked.line_asked, Lined.line_told, Lined.own_told, Lined.there_is}
+use Rattle.review_rows.specs.{Answer.IsHistory, Changes.Reading, Changes.own_of, Changes.texts_of}
 use Rattle.review_rows.specs.Decisions.{HasPatternIn, PutsPattern, ReadsPattern, SomePattern, putting_project}
-use Rattle.review_rows.specs.Files.{File}
-use Rattle.review_rows.specs.Lines.{line_of, most_depth, with_above}
+use Rattle.review_rows.specs.{Files.File, Lines.line_of, Lines.most_depth, Lines.with_above}
 use Rattle.review_rows.specs.Steps.{OfCommand, line_steps, own_in, parent_or, texts_above, texts_in, unknown}
-use Rattle.review_rows.specs.View.{AreEnough}
-use Rattle.review_rows.proofs.Asked.{all_asked, line_asked}
-use Rattle.review_rows.proofs.Lined.{line_told, own_told, there_is}
+use Rattle.review_rows.specs.{View.AreEnough, declared.rows.Rows.Rows, declared.rows.StoredFile.StoredFile}
+use Rattle.review_ancestors.proofs.{Ending.line_whole, Histories.sound_files, Kept.parent_ends}
+use Rattle.review_ancestors.specs.Ends.{ends}
 use Rattle.review_deliveries.proofs.OneFile.{spelled_once}
 
 module _ (reading : Reading) (h : List Entry) (history : IsHistory h) (caller : ℕ) (file : Option File) (rows : Rows) (project text : List ℕ) (enough : AreEnough reading h caller (OfCommand (PutProject project text)) file rows) where

@@ -1,20 +1,14 @@
 -- Runs of none, of one, and of two lists.
 use Rattle.std.proofs.Common.{◌≡◌, ℕ, List, [], ◌∷◌, ◌++◌, Option, length, arith, length-append, refl, subst}
-use Rattle.review_words.specs.declared.command.Delivery.{Delivery}
-use Rattle.review_words.specs.declared.reply.Reply.{Reply}
-use Rattle.review_words.specs.History.{Entry}
-use Rattle.review_rows.specs.Answer.{IsHistory}
-use Rattle.review_rows.specs.Rows.{Tables}
-use Rattle.review_rows.specs.Shelf.{Shown, Views}
-use Rattle.review_branch_laws.proofs.Sound.{sound_branches}
+use Rattle.review_words.specs.{History.Entry, declared.command.Delivery.Delivery, declared.reply.Reply.Reply}
+use Rattle.review_rows.specs.{Answer.IsHistory, Rows.Tables, Shelf.Shown, Shelf.Views}
 use Rattle.review_ancestors.proofs.Sound.{sound_projects}
+use Rattle.review_branch_laws.proofs.Sound.{sound_branches}
 use Rattle.review_statuses.proofs.Counting.{accounts_counted}
-use Rattle.review_deliveries.specs.Delivered.{IsDelivered, WasRun}
-use Rattle.review_deliveries.specs.Formed.{AllFormed}
 use Rattle.review_deliveries.proofs.Formed.{all_formed-append, history_formed}
+use Rattle.review_deliveries.proofs.{Going.run_none, Going.run_one, Going.run-append, OneFile.spelled_once}
+use Rattle.review_deliveries.specs.{Delivered.IsDelivered, Delivered.WasRun, Formed.AllFormed}
 use Rattle.review_deliveries.specs.Replies.{AreSteps, CountsReplies, IsRun, history_after}
-use Rattle.review_deliveries.proofs.Going.{run_none, run_one, run-append}
-use Rattle.review_deliveries.proofs.OneFile.{spelled_once}
 
 -- the branches and the projects are sound in the history of a run
 was_run : (ds : List Delivery) (rs : List Reply) (old new : Shown) → length rs ≡ length ds → AllFormed ds → (new.is_honest → old.is_honest)

@@ -1,26 +1,19 @@
 -- A list of answered entries, however long, has a reading.
 use Rattle.std.proofs.Common.{◌≡◌, ℕ, List, [], ◌∷◌, Option, Some, None, Bool, true, false, cond, refl, sym, ap, subst, ⊎_elim}
-use Rattle.std.specs.Prelude.{MatchOption}
-use Rattle.std.specs.Str.{bytes_eq}
-use Rattle.std.proofs.lemmas.Bool.{cases_Bool}
-use Rattle.std.proofs.lemmas.Slice.Eq.{bytes_eq-Decides}
+use Rattle.std.proofs.lemmas.{Bool.cases_Bool, Slice.Eq.bytes_eq-Decides}
+use Rattle.std.specs.{Prelude.MatchOption, Str.bytes_eq}
 use Rattle.review_words.specs.History.{Entry, accepted, stored, entry_of, is_closed}
 use Rattle.review_words.specs.declared.command.Command.{Command}
 use Rattle.review_words.specs.declared.command.Command.TheVariants.{CreateAccount, PutGroup, PutProject, RecordBase, CloseEpoch, CreateChange, OnChange, Submit}
-use Rattle.review_words.specs.declared.command.Delivery.{Delivery}
-use Rattle.review_words.specs.declared.command.Delivery.TheVariants.{Write, Read}
-use Rattle.review_words.specs.declared.reply.Answer.{Answer}
-use Rattle.review_words.specs.declared.reply.Refusal.{Refusal}
-use Rattle.review_words.specs.declared.reply.Refusal.TheVariants.{BadFile}
-use Rattle.review_words.specs.declared.reply.Reply.{Reply}
+use Rattle.review_words.specs.declared.command.Delivery.{Delivery, TheVariants.Write, TheVariants.Read}
+use Rattle.review_words.specs.declared.reply.{Answer.Answer, Refusal.Refusal, Refusal.TheVariants.BadFile, Reply.Reply}
 use Rattle.review_words.specs.declared.reply.Reply.TheVariants.{Done, Refused, IdentityReused, EpochClosed, NotTaken}
-use Rattle.review_rows.specs.Answer.{IsAnswer, IsAnswerBy, IsFaultAnswer, IsFileAnswer, refused_by}
 use Rattle.review_rows.proofs.Epochs.{IsDoneBy, done_by}
-use Rattle.review_rows.specs.Changes.{Reading, Reads, IsReadRight}
-use Rattle.review_rows.specs.Files.{File, IsRead}
-use Rattle.review_deliveries.specs.Replies.{IsTold, history_after}
+use Rattle.review_rows.specs.Answer.{IsAnswer, IsAnswerBy, IsFaultAnswer, IsFileAnswer, refused_by}
+use Rattle.review_rows.specs.{Changes.Reading, Changes.Reads, Changes.IsReadRight, Files.File, Files.IsRead}
 use Rattle.review_deliveries.proofs.Histories.{answer_given_in, told_where}
 use Rattle.review_deliveries.proofs.Served.{new_history, same_history, closed_history}
+use Rattle.review_deliveries.specs.Replies.{IsTold, history_after}
 
 -- something is read of each text that was put, which is right
 abbrev pub HasReading : List Entry → Type 0

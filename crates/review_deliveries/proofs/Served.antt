@@ -1,42 +1,30 @@
 -- What one delivery does.
 use Rattle.std.proofs.Common.{◌≡◌, ℕ, ◌+◌, ◌<◌, List, [], ◌∷◌, ◌++◌, length, Option, Some, None, Bool, true, false, cond, ◌||◌, refl, sym, ap, ◌∙◌, subst, inl, inr, ⊎_elim, ◌⊎◌, Result, Ok, Err}
+use Rattle.std.proofs.lemmas.{Bool.cases_Bool, Slice.Eq.bytes_eq-Decides}
 use Rattle.std.specs.Prelude.{is_some, IfOk, IfErr, nat_lt}
-use Rattle.std.specs.Result.{IsErr, IsErrAnd}
-use Rattle.std.specs.Str.{bytes_eq}
-use Rattle.std.proofs.lemmas.Bool.{cases_Bool}
-use Rattle.std.proofs.lemmas.Slice.Eq.{bytes_eq-Decides}
-use Rattle.review_words.specs.Texts.{content_text, reply_text, IsStored}
-use Rattle.review_texts.proofs.Fields.{content_text-injective, reply_text-injective}
-use Rattle.review_words.specs.declared.command.Command.{Command}
-use Rattle.review_words.specs.declared.command.Delivery.{Delivery}
-use Rattle.review_words.specs.declared.command.Delivery.TheVariants.{Write, Read}
-use Rattle.review_words.specs.declared.command.Query.{Query}
+use Rattle.std.specs.{Result.IsErr, Result.IsErrAnd, Str.bytes_eq}
+use Rattle.review_words.specs.History.{Entry, Identity, IsFirst, stored, entry_of, is_closed}
+use Rattle.review_words.specs.{Texts.content_text, Texts.reply_text, Texts.IsStored, declared.command.Command.Command}
+use Rattle.review_words.specs.declared.command.Delivery.{Delivery, TheVariants.Write, TheVariants.Read}
+use Rattle.review_words.specs.declared.{command.Query.Query, reply.NotTaken.NotTaken as Cause}
+use Rattle.review_words.specs.declared.reply.NotTaken.TheVariants.{Memory, Store, Damaged, Pattern, Full}
 use Rattle.review_words.specs.declared.reply.Reply.{Reply}
 use Rattle.review_words.specs.declared.reply.Reply.TheVariants.{Done, Refused, IdentityReused, EpochClosed, NotTaken}
-use Rattle.review_words.specs.declared.reply.NotTaken.{NotTaken as Cause}
-use Rattle.review_words.specs.declared.reply.NotTaken.TheVariants.{Memory, Store, Damaged, Pattern, Full}
-use Rattle.review_words.specs.History.{Entry, Identity, IsFirst, stored, entry_of, is_closed}
-use Rattle.review_rows.specs.declared.shelf.ShelfFault.{ShelfFault}
-use Rattle.review_rows.specs.declared.shelf.ShelfFault.TheVariants as fault
-use Rattle.review_rows.specs.declared.rows.Delta.{Delta}
-use Rattle.review_rows.specs.declared.rows.Rows.{Rows}
-use Rattle.review_rows.specs.Rows.{AnswerRow, Answered, Tables, ClosedEpochs}
-use Rattle.review_rows.specs.Steps.{OfQuery}
-use Rattle.review_rows.specs.Answer.{IsHistory, IsAnswer, most_requests}
-use Rattle.review_rows.specs.Questions.{IsQueryAnswer, IsQueryAnswerBy}
-use Rattle.review_rows.specs.View.{AreEnough, IsView, IsDecidedAt, answer_row}
-use Rattle.review_rows.specs.Shelf.{Answers, IsCommitted, Shown, Shows, Views, LeavesBy, StopLeavesOwnTables, AddsNoStop, IsCounted, Blames, cause_of, IsClosedIn}
-use Rattle.review_rows.specs.Decisions.{IsUnshown, IsDoneOrRefused, RestsOn}
-use Rattle.review_rows.specs.Changes.{Reading, Reads}
-use Rattle.review_rows.specs.Files.{File}
-use Rattle.review_rows.specs.Known.{Agrees}
+use Rattle.review_texts.proofs.Fields.{content_text-injective, reply_text-injective}
 use Rattle.review_rows.proofs.Readings.{reading_of}
-use Rattle.review_deliveries.specs.Gathered.{IsAllAsked, IsUngathered}
-use Rattle.review_deliveries.specs.Formed.{IsFormed}
+use Rattle.review_rows.specs.{Answer.IsHistory, Answer.IsAnswer, Answer.most_requests, Changes.Reading, Changes.Reads}
+use Rattle.review_rows.specs.Decisions.{IsUnshown, IsDoneOrRefused, RestsOn}
+use Rattle.review_rows.specs.{Files.File, Known.Agrees, Questions.IsQueryAnswer, Questions.IsQueryAnswerBy}
+use Rattle.review_rows.specs.Rows.{AnswerRow, Answered, Tables, ClosedEpochs}
+use Rattle.review_rows.specs.Shelf.{Answers, IsCommitted, Shown, Shows, Views, LeavesBy, StopLeavesOwnTables, AddsNoStop, IsCounted, Blames, cause_of, IsClosedIn}
+use Rattle.review_rows.specs.{Steps.OfQuery, View.AreEnough, View.IsView, View.IsDecidedAt, View.answer_row}
+use Rattle.review_rows.specs.declared.{rows.Delta.Delta, rows.Rows.Rows, shelf.ShelfFault.ShelfFault}
 use Rattle.review_deliveries.proofs.Formed.{formed_entry}
-use Rattle.review_deliveries.specs.Replies.{history_after, has_identity, with_entries as hist, IsRight, IsTold, IsToldOfStored, IsServed, IsToldAgain, IsLawful, reply_of, IsNew, HasEffect, StopGoesOnFrom, StopHasEntry, IsEntered, GoesOn, KeepsUntaken, CountsReply}
-use Rattle.review_deliveries.proofs.Resting.{rests_on}
 use Rattle.review_deliveries.proofs.Histories.{answers_are, passed_over, told_where, where_told, latest_follows, recalled, not_recalled, view_grows, answer_given, stored_given, enough_shown, stored_stays, stored_here, same_to}
+use Rattle.review_deliveries.proofs.Resting.{rests_on}
+use Rattle.review_deliveries.specs.{Formed.IsFormed, Gathered.IsAllAsked, Gathered.IsUngathered}
+use Rattle.review_deliveries.specs.Replies.{history_after, has_identity, with_entries as hist, IsRight, IsTold, IsToldOfStored, IsServed, IsToldAgain, IsLawful, reply_of, IsNew, HasEffect, StopGoesOnFrom, StopHasEntry, IsEntered, GoesOn, KeepsUntaken, CountsReply}
+use Rattle.review_rows.specs.declared.shelf.ShelfFault.TheVariants as fault
 
 -- a new identity of an open epoch adds its entry, an old one nothing, and one of a closed epoch nothing
 pub new_history : (h : List Entry) (caller epoch : ℕ) (id : List ℕ) (command : Command) (reply : Reply) → IsDoneOrRefused reply → IsFirst h (record { caller = caller; epoch = epoch; id = id }) →

@@ -1,51 +1,41 @@
 -- Each answer of a history is stored with numbers of their forms.
 use Rattle.std.proofs.Common.{◌≡◌, ◌⊎◌, ℕ, suc, ◌+◌, ◌<◌, ◌≤◌, List, [], ◌∷◌, ◌++◌, length, Option, Some, None, Bool, true, false, cond, refl, sym, ap, ◌∙◌, subst, ⊎_elim, inl, inr, arith}
-use Rattle.std.specs.Prelude.{MatchOption, nat_lt, option_map, map, ◌&&◌}
-use Rattle.std.specs.Bool.{MatchBool}
-use Rattle.std.specs.List.{All, AllByRecursion}
-use Rattle.std.proofs.lemmas.List.Elements.{All-head, All-tail}
 use Rattle.std.proofs.lemmas.Bool.{cases_Bool, ltb-true, leb-true}
+use Rattle.std.proofs.lemmas.List.Elements.{All-head, All-tail}
+use Rattle.std.specs.{Bool.MatchBool, List.All, List.AllByRecursion}
+use Rattle.std.specs.Prelude.{MatchOption, nat_lt, option_map, map, ◌&&◌}
 use Rattle.review_names.specs.Forms.{is_label, most_changes, most_comments, most_patches}
-use Rattle.review_words.specs.Texts.{IsStored, IsChangeNumber, IsCommentNumber}
-use Rattle.review_words.specs.declared.changes.Given.{Given}
-use Rattle.review_words.specs.declared.changes.NewPatch.{NewPatch}
-use Rattle.review_words.specs.declared.changes.Review.{Review as ReviewOf}
-use Rattle.review_words.specs.declared.command.Command.{Command}
-use Rattle.review_words.specs.declared.command.Command.TheVariants.{CreateAccount, PutGroup, PutProject, RecordBase, CloseEpoch, CreateChange, OnChange, Submit}
-use Rattle.review_words.specs.declared.command.ChangeCommand.{ChangeCommand}
-use Rattle.review_words.specs.declared.command.ChangeCommand.TheVariants as on
-use Rattle.review_words.specs.declared.reply.Reply.{Reply}
-use Rattle.review_words.specs.declared.reply.Reply.TheVariants.{Done, Refused}
-use Rattle.review_words.specs.declared.reply.Answer.TheVariants.{Nothing, Reviewed}
-use Rattle.review_words.specs.declared.faults.FileFault.TheVariants.{UnknownKey}
-use Rattle.review_words.specs.declared.reply.Refusal.{Refusal}
-use Rattle.review_words.specs.declared.reply.Refusal.TheVariants.{BadFile, UnknownCaller, ChainOutdated, ChainAbandoned, ChainWip, ChainTooLong, RequirementUnsatisfied}
 use Rattle.review_words.specs.History.{Entry, is_account, account_count}
+use Rattle.review_words.specs.Texts.{IsStored, IsChangeNumber, IsCommentNumber}
+use Rattle.review_words.specs.declared.changes.{Given.Given, NewPatch.NewPatch, Review.Review as ReviewOf}
+use Rattle.review_words.specs.declared.command.{ChangeCommand.ChangeCommand, Command.Command}
+use Rattle.review_words.specs.declared.command.Command.TheVariants.{CreateAccount, PutGroup, PutProject, RecordBase, CloseEpoch, CreateChange, OnChange, Submit}
+use Rattle.review_words.specs.declared.faults.FileFault.TheVariants.{UnknownKey}
+use Rattle.review_words.specs.declared.reply.{Answer.TheVariants.Nothing, Answer.TheVariants.Reviewed, Refusal.Refusal}
+use Rattle.review_words.specs.declared.reply.Refusal.TheVariants.{BadFile, UnknownCaller, ChainOutdated, ChainAbandoned, ChainWip, ChainTooLong, RequirementUnsatisfied}
+use Rattle.review_words.specs.declared.reply.Reply.{Reply, TheVariants.Done, TheVariants.Refused}
 use Rattle.review_words.specs.declared.shown.ShownRequirement.{ShownRequirement}
+use Rattle.review_chain.{proofs.Fronts.chain_ready, specs.Walks.IsReady}
+use Rattle.review_chain.specs.declared.{links.Link.Link, walks.ChainFault.ChainFault}
+use Rattle.review_chain.specs.declared.walks.ChainFault.TheVariants.{Outdated, Abandoned, Wip, TooLong, Broken, Unknown, Memory as FaultMemory}
 use Rattle.review_judging.specs.declared.facts.ChangeFacts.{ChangeFacts}
 use Rattle.review_expr.specs.declared.expr.Expr.{Expr}
-use Rattle.review_expr.specs.declared.expr.Facts.TheVariants as facts
 use Rattle.review_project.specs.View.{RequirementView}
-use Rattle.review_inheritance.proofs.Placed.{placed}
-use Rattle.review_chain.specs.declared.links.Link.{Link}
-use Rattle.review_chain.specs.declared.walks.ChainFault.{ChainFault}
-use Rattle.review_chain.specs.declared.walks.ChainFault.TheVariants.{Outdated, Abandoned, Wip, TooLong, Broken, Unknown, Memory as FaultMemory}
-use Rattle.review_chain.specs.Walks.{IsReady}
-use Rattle.review_chain.proofs.Fronts.{chain_ready}
+use Rattle.review_changes.specs.Change.{Change, Setting, current, said}
 use Rattle.review_changes.specs.Facts.{AreStanding, IsFirstUnsatisfied, is_unsatisfied, stands, unsatisfied_in}
 use Rattle.review_changes.specs.Status.{status_of}
-use Rattle.review_changes.specs.Change.{Change, Setting, current, said}
-use Rattle.review_change_laws.proofs.Sound.{Passes, all_pass, later_pass}
-use Rattle.review_rows.specs.Answer.{IsHistory, IsAnswer, IsAnswerBy, IsAnswerWithoutParents, IsOutcome, IsOf, IsRequestOutcome, IsUploadAnswer, checks, comment_numbers, file_checks, first_refusal, given_checks, numbers_after, of_change, puts_parent, refused_by, refused_or, request_checks, review_checks, submit_checks, upload_checks, IsAnswerAt, epoch_checks}
-use Rattle.review_ancestors.proofs.Effective.{line_read}
-use Rattle.review_rows.specs.Changes.{Reading, Reads, change, change_count, file_of, setting_of, texts_of}
-use Rattle.review_rows.specs.Lines.{most_depth}
-use Rattle.review_rows.specs.Links.{link_for}
-use Rattle.review_rows.specs.Submits.{IsSubmitAnswer, branch_after, checked_reply, judged_after, refusal_of}
+use Rattle.review_inheritance.proofs.Placed.{placed}
 use Rattle.review_rows.proofs.Readings.{reading_of}
-use Rattle.review_deliveries.proofs.Bounds.{votes_bound}
-use Rattle.review_deliveries.proofs.Named.{HasName, effective_names}
+use Rattle.review_rows.specs.Answer.{IsHistory, IsAnswer, IsAnswerBy, IsAnswerWithoutParents, IsOutcome, IsOf, IsRequestOutcome, IsUploadAnswer, checks, comment_numbers, file_checks, first_refusal, given_checks, numbers_after, of_change, puts_parent, refused_by, refused_or, request_checks, review_checks, submit_checks, upload_checks, IsAnswerAt, epoch_checks}
+use Rattle.review_rows.specs.Changes.{Reading, Reads, change, change_count, file_of, setting_of, texts_of}
+use Rattle.review_rows.specs.{Lines.most_depth, Links.link_for}
+use Rattle.review_rows.specs.Submits.{IsSubmitAnswer, branch_after, checked_reply, judged_after, refusal_of}
+use Rattle.review_change_laws.proofs.Sound.{Passes, all_pass, later_pass}
+use Rattle.review_ancestors.proofs.Effective.{line_read}
 use Rattle.review_branch_laws.proofs.Counted.{change_bound}
+use Rattle.review_deliveries.proofs.{Bounds.votes_bound, Named.HasName, Named.effective_names}
+use Rattle.review_words.specs.declared.command.ChangeCommand.TheVariants as on
+use Rattle.review_expr.specs.declared.expr.Facts.TheVariants as facts
 
 -- the refusals of checks are stored
 abbrev AllStored : List (Bool × Refusal) → Type 0

@@ -1,20 +1,14 @@
 -- What is decided of a command that is new, by what the tables tell.
 use Rattle.std.specs.Prelude.{ℕ, ◌≡◌, ◌≤◌, ◌<◌, ◌+◌, List, Option, length, true, false}
-use Rattle.review_words.specs.Texts.{IsStored}
-use Rattle.review_words.specs.History.{Entry, if_done}
-use Rattle.review_words.specs.declared.command.Command.{Command}
-use Rattle.review_words.specs.declared.reply.NotTaken.{NotTaken as Cause}
+use Rattle.review_words.specs.{History.Entry, History.if_done, Texts.IsStored}
+use Rattle.review_words.specs.declared.{command.Command.Command, reply.NotTaken.NotTaken as Cause}
 use Rattle.review_words.specs.declared.reply.NotTaken.TheVariants.{Memory, Store, Damaged, Pattern, Full}
-use Rattle.review_rows.specs.Answer.{IsHistory, most_requests}
-use Rattle.review_rows.specs.Changes.{Reading, Reads}
+use Rattle.review_rows.specs.{Answer.IsHistory, Answer.most_requests, Changes.Reading, Changes.Reads}
 use Rattle.review_rows.specs.Decisions.{IsUndecided, ReadsPattern, RestsOn}
-use Rattle.review_rows.specs.Files.{File}
-use Rattle.review_rows.specs.Known.{known, number_of}
+use Rattle.review_rows.specs.{Files.File, Known.known, Known.number_of}
 use Rattle.review_rows.specs.Rows.{ClosedEpochs, HasNoEffect, Tables, is_above, is_below, new_least}
 use Rattle.review_rows.specs.Shelf.{IsDamaged, Shows, Views}
-use Rattle.review_rows.specs.Steps.{OfCommand}
-use Rattle.review_rows.specs.View.{AreEnough, IsDecidedAt, IsView}
-use Rattle.review_rows.specs.declared.rows.Rows.{Rows}
+use Rattle.review_rows.specs.{Steps.OfCommand, View.AreEnough, View.IsDecidedAt, View.IsView, declared.rows.Rows.Rows}
 use Rattle.review_rows.specs.declared.rows.Want.TheVariants.{LeastEpoch, Requests}
 use Rattle.review_deliveries.specs.declared.deliveries.Decided.{Decided}
 

@@ -1,15 +1,12 @@
 -- What a delivery and a run of deliveries do, over any shelf: on the tables of a history, and on any tables whatever.
 use Rattle.std.specs.Prelude.{◌≡◌, ℕ, List, [], ◌∷◌, length, Some}
-use Rattle.review_words.specs.declared.command.Delivery.{Delivery}
-use Rattle.review_words.specs.declared.reply.Reply.{Reply}
-use Rattle.review_words.specs.History.{Entry}
+use Rattle.review_words.specs.{History.Entry, declared.command.Delivery.Delivery, declared.reply.Reply.Reply}
 use Rattle.review_changes.specs.Change.{Change}
-use Rattle.review_statuses.specs.Counting.{CountsEachOnce}
-use Rattle.review_rows.specs.Answer.{IsHistory}
-use Rattle.review_rows.specs.Changes.{Reading, Reads, change, setting_of}
+use Rattle.review_rows.specs.{Answer.IsHistory, Changes.Reading, Changes.Reads, Changes.change, Changes.setting_of}
 use Rattle.review_rows.specs.Shelf.{Shown, Views}
-use Rattle.review_branch_laws.specs.Sound.{AreSoundBranches}
 use Rattle.review_ancestors.specs.Sound.{AreSoundProjects}
+use Rattle.review_branch_laws.specs.Sound.{AreSoundBranches}
+use Rattle.review_statuses.specs.Counting.{CountsEachOnce}
 use Rattle.review_deliveries.specs.Formed.{AllFormed, AreFormed, IsFormed}
 use Rattle.review_deliveries.specs.Replies.{IsServed, IsRun, AreSteps, KeepsUntaken, StoresOnce, CountsReply, CountsReplies, StopGoesOnFrom, StopHasEntry, history_after}
 

@@ -1,10 +1,8 @@
 -- The forms that a request's identity has, and the histories in which each has them.
 use Rattle.std.specs.Prelude.{ℕ, ◌≤◌, ◌<◌, ◌≡◌, List, [], ◌∷◌, true}
 use Rattle.review_names.specs.Names.{is_word}
-use Rattle.review_words.specs.declared.command.Command.TheVariants.{CloseEpoch}
-use Rattle.review_words.specs.declared.command.Delivery.{Delivery}
-use Rattle.review_words.specs.declared.command.Delivery.TheVariants.{Write, Read}
-use Rattle.review_words.specs.History.{Entry, Identity}
+use Rattle.review_words.specs.{History.Entry, History.Identity, declared.command.Command.TheVariants.CloseEpoch}
+use Rattle.review_words.specs.declared.command.Delivery.{Delivery, TheVariants.Write, TheVariants.Read}
 
 -- the caller is the number of an account that a desk may have, the epoch is one, and the id has the form of one
 pub record HasForm (i : Identity) : Type 0 where

@@ -1,22 +1,19 @@
 -- Deliveries that each act at most once: which are first arrivals, what history they leave, and which replies are right.
 use Rattle.std.specs.Prelude.{ℕ, ◌<◌, ◌≤◌, ◌≡◌, List, [], ◌∷◌, ◌++◌, Option, Some, None, Bool, ◌||◌, is_some, length, take, slice_index_or, Result, Ok, Err, ◌+◌, if◌then◌else◌, ◌⊎◌, true, false, unwrap_or}
-use Rattle.review_words.specs.declared.command.Command.{Command}
-use Rattle.review_words.specs.declared.command.Delivery.{Delivery}
-use Rattle.review_words.specs.declared.command.Delivery.TheVariants.{Write, Read}
-use Rattle.review_words.specs.declared.reply.Reply.{Reply}
-use Rattle.review_words.specs.declared.reply.Reply.TheVariants.{Done, Refused, IdentityReused, EpochClosed, NotTaken}
+use Rattle.review_words.specs.History.{Entry, Identity, IsFirst, entry_of, stored, is_same, latest, is_closed, if_done}
+use Rattle.review_words.specs.{Texts.content_text, Texts.reply_text, Texts.IsStored, declared.command.Command.Command}
+use Rattle.review_words.specs.declared.command.Delivery.{Delivery, TheVariants.Write, TheVariants.Read}
 use Rattle.review_words.specs.declared.reply.NotTaken.{NotTaken as Cause}
 use Rattle.review_words.specs.declared.reply.NotTaken.TheVariants.{Memory, Store, Damaged, Pattern, Full}
-use Rattle.review_words.specs.History.{Entry, Identity, IsFirst, entry_of, stored, is_same, latest, is_closed, if_done}
-use Rattle.review_words.specs.Texts.{content_text, reply_text, IsStored}
-use Rattle.review_deliveries.specs.Formed.{AreFormed}
-use Rattle.review_rows.specs.Answer.{IsHistory, IsAnswer, most_requests}
+use Rattle.review_words.specs.declared.reply.Reply.{Reply}
+use Rattle.review_words.specs.declared.reply.Reply.TheVariants.{Done, Refused, IdentityReused, EpochClosed, NotTaken}
+use Rattle.review_rows.specs.{Answer.IsHistory, Answer.IsAnswer, Answer.most_requests, Changes.Reading, Changes.Reads}
+use Rattle.review_rows.specs.Decisions.{HasPatternIn, ReadsPattern, IsDoneOrRefused, asking_project}
 use Rattle.review_rows.specs.Questions.{IsQueryAnswer}
 use Rattle.review_rows.specs.Rows.{Key, Count, ClosedEpochs, Tables, AnswerRow, Answered, is_above, is_below, new_least}
-use Rattle.review_rows.specs.View.{IsView, answer_row}
-use Rattle.review_rows.specs.Changes.{Reading, Reads}
-use Rattle.review_rows.specs.Decisions.{HasPatternIn, ReadsPattern, IsDoneOrRefused, asking_project}
 use Rattle.review_rows.specs.Shelf.{greatest_count, Shown, Shows, Views, LeavesBy, StopLeavesOwnTables, Answers, IsClosedIn}
+use Rattle.review_rows.specs.View.{IsView, answer_row}
+use Rattle.review_deliveries.specs.Formed.{AreFormed}
 
 -- These entries with that of a write in front, where it was taken. Taken is here what isn't told NotTaken; of these, a clash and a write whose epoch is closed store nothing, and
 -- `history_after` passes them over.

@@ -1,24 +1,18 @@
 //! One delivery.
 ghost use Rattle.std.specs.Prelude.{◌≡◌, true, ◌≤◌, ◌<◌, ◌+◌, ◌⊎◌, ℕ, List, [], ◌∷◌, None, IfErr, IfOk, OnOk, length, string_bytes, option_copied, false};
-ghost use Rattle.review_words.specs.Texts.{IsStored, content_text};
 ghost use Rattle.review_words.specs.History.{Entry, IsFirst, if_done};
+ghost use Rattle.review_words.specs.Texts.{IsStored, content_text};
 ghost use Rattle.review_words.specs.declared.command.Delivery.TheVariants.{Write, Read};
 ghost use Rattle.review_rows.specs.Answer.{IsHistory, most_requests};
-ghost use Rattle.review_rows.specs.Changes.{Reading};
-ghost use Rattle.review_rows.specs.Decisions.{RestsOn};
-ghost use Rattle.review_rows.specs.declared.rows.Want.{Want};
-ghost use Rattle.review_rows.specs.declared.rows.Want.TheVariants as want;
-ghost use Rattle.review_rows.specs.Known.{known, number_of};
+ghost use Rattle.review_rows.specs.{Changes.Reading, Decisions.RestsOn, Known.known, Known.number_of};
 ghost use Rattle.review_rows.specs.Rows.{HasNoEffect, Tables, new_least, is_above, is_below, kept_row};
 ghost use Rattle.review_rows.specs.Shelf.{AddsNoStop, Answers, BlamesTables, CountsFaults, IsCommitted, LeavesUndone, Shows, StopLeavesOwnTables, Views};
-ghost use Rattle.review_rows.specs.Steps.{OfCommand};
-ghost use Rattle.review_rows.specs.View.{AreEnough, IsDecidedAt};
-ghost use Rattle.review_deliveries.specs.Delivered.{IsDelivered};
-ghost use Rattle.review_deliveries.specs.Formed.{IsFormed};
+ghost use Rattle.review_rows.specs.{Steps.OfCommand, View.AreEnough, View.IsDecidedAt, declared.rows.Want.Want};
 ghost use Rattle.review_deliveries.specs.Deciding.{IsDecidedBy, IsUndecidedBy, WasDecided, WasUndecided};
-ghost use Rattle.review_deliveries.specs.Gathered.{CountsCause, LeavesTables};
-ghost use Rattle.review_deliveries.specs.Kept.{row_for};
+ghost use Rattle.review_deliveries.specs.{Delivered.IsDelivered, Formed.IsFormed};
+ghost use Rattle.review_deliveries.specs.{Gathered.CountsCause, Gathered.LeavesTables, Kept.row_for};
 ghost use Rattle.review_deliveries.specs.Replies.{IsServed, IsToldAgain, KeepsUntaken, StoresOnce, CountsReply, reply_of};
+ghost use Rattle.review_rows.specs.declared.rows.Want.TheVariants as want;
 
 use crate::gathering::gathered;
 use crate::rules::Rules;

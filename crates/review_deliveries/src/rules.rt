@@ -9,17 +9,14 @@ use std::alloc::{AllocError, Global};
 /// keep what it worked out before, on which no answer may depend.
 pub trait Rules {
     ghost use Rattle.std.specs.Prelude.{◌≡◌, true, false, ◌<◌, List, length, IfOk, IfErr, option_copied};
-    ghost use Rattle.review_words.specs.Texts.{IsStored};
-    ghost use Rattle.review_words.specs.History.{Entry, if_done};
-    ghost use Rattle.review_rows.specs.Answer.{most_requests};
-    ghost use Rattle.review_rows.specs.Questions.{IsQueryAnswerBy};
-    ghost use Rattle.review_rows.specs.Changes.{Reading};
+    ghost use Rattle.review_words.specs.{History.Entry, History.if_done, Texts.IsStored};
+    ghost use Rattle.review_rows.specs.{Answer.most_requests, Changes.Reading};
+    ghost use Rattle.review_rows.specs.Decisions.{IsUndecided, IsUnread, IsUnshown, NamesEachOnce, IsDoneOrRefused, RestsOn};
+    ghost use Rattle.review_rows.specs.{Known.known, Known.number_of, Questions.IsQueryAnswerBy};
     ghost use Rattle.review_rows.specs.Rows.{HasNoEffect, new_least, is_above, is_below};
-    ghost use Rattle.review_rows.specs.Known.{known, number_of};
-    ghost use Rattle.review_rows.specs.declared.rows.Want.TheVariants as want;
     ghost use Rattle.review_rows.specs.Steps.{HasComeTo, HasFile, next, texts_for, topic_of, wants_in, unless_none, OfCommand, OfQuery};
     ghost use Rattle.review_rows.specs.View.{AreEnough, IsDecidedAt};
-    ghost use Rattle.review_rows.specs.Decisions.{IsUndecided, IsUnread, IsUnshown, NamesEachOnce, IsDoneOrRefused, RestsOn};
+    ghost use Rattle.review_rows.specs.declared.rows.Want.TheVariants as want;
 
     /// What a command or a question asks of the tables next, where this file was read; nothing where the rows decide it. A look for a chain
     /// goes on from the walk that an earlier one has come to; none is there at first.

@@ -1,7 +1,6 @@
 //! Connections on loopback, each with a time of its own.
+ghost use Rattle.std.specs.{Duration.as_nanos, Io.ReadsAtMost};
 ghost use Rattle.std.specs.Prelude.{◌≡◌, ◌⊎◌, ◌≤◌, ◌<◌, ◌+◌, ◌*◌, true, None, IfSome};
-ghost use Rattle.std.specs.Io.{ReadsAtMost};
-ghost use Rattle.std.specs.Duration.{as_nanos};
 
 use review_http::{Connections, ConnectionsFault};
 use std::io;

@@ -2,9 +2,7 @@
 ghost use Rattle.std.specs.Prelude.{◌≡◌, true, false};
 ghost use Rattle.sqlite.specs.Files.{over_files};
 ghost use Rattle.sqlite_wal.specs.Files.{image_at};
-ghost use Rattle.review_work.specs.OnFile.{ClosedAs, OpenedFrom};
-ghost use Rattle.review_work.specs.Turns.{ServedInTurns};
-ghost use Rattle.review_work.specs.Worked.{known};
+ghost use Rattle.review_work.specs.{OnFile.ClosedAs, OnFile.OpenedFrom, Turns.ServedInTurns, Worked.known};
 
 use crate::files::{FileConnection, Starts, close, open};
 use review_http::Connections;

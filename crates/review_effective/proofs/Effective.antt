@@ -1,18 +1,13 @@
 -- The effective files of lines.
 use Rattle.std.proofs.Common.{Result, map, length, take, drop, get_or, ◌-◌, ◌≤◌, ◌≡◌, ℕ, List, [], ◌∷◌, refl, subst, sym, suc, arith}
+use Rattle.std.proofs.lemmas.{Grind.common_steps, Result.err_from_is_err_and}
 use Rattle.std.specs.Result.{IfErr, IsErrAnd}
-use Rattle.std.proofs.lemmas.Grind.{common_steps}
-use Rattle.std.proofs.lemmas.Result.{err_from_is_err_and}
-use Rattle.review_effective.specs.declared.lines.LinePart.{LinePart}
 use Rattle.review_expr.specs.declared.expr.Expr.{Expr}
-use Rattle.review_project.specs.Inherited.{IsEffective, inherit}
-use Rattle.review_project.specs.Patterns.{HasPattern}
-use Rattle.review_project.specs.Reading.{IsRead, IsReadFault}
-use Rattle.review_project.specs.View.{FileView}
-use Rattle.review_project.specs.declared.fault.ReadFault.{ReadFault}
-use Rattle.review_project.specs.declared.fault.ReadFault.TheVariants as read
+use Rattle.review_project.specs.{Inherited.IsEffective, Inherited.inherit, Patterns.HasPattern}
+use Rattle.review_project.specs.{Reading.IsRead, Reading.IsReadFault, View.FileView, declared.fault.ReadFault.ReadFault}
 use Rattle.review_inheritance.proofs.Together.{never_both}
-use Rattle.review_effective.specs.Texts.{IsLineFault}
+use Rattle.review_effective.specs.{Texts.IsLineFault, declared.lines.LinePart.LinePart}
+use Rattle.review_project.specs.declared.fault.ReadFault.TheVariants as read
 
 -- an effective file of texts is one of the same texts
 effective_as : (texts others : List (List ℕ)) (f g : FileView Expr) → texts ≡ others → f ≡ g → IsEffective others g → IsEffective texts f

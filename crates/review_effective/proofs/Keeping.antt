@@ -1,11 +1,8 @@
 -- What is remembered once a line is read.
 use Rattle.std.proofs.Common.{◌≡◌, ◌∷◌, ◌∙◌, Bool, true, false, List, Option, Some, Result, Ok, Err, OnOk, OnErr, map, refl, sym, subst, inl, inr, ℕ, if◌then◌else◌}
-use Rattle.std.specs.BTreeMap.{is_at}
-use Rattle.std.specs.Ordering.{nat_cmp}
-use Rattle.std.specs.Cmp.Lexicographic.{slice_cmp}
+use Rattle.std.specs.{BTreeMap.is_at, Cmp.Lexicographic.slice_cmp, Ordering.nat_cmp}
 use Rattle.review_effective.specs.Kept.{IsKept, IsLineOf}
-use Rattle.review_effective.specs.declared.lines.LinePart.{LinePart}
-use Rattle.review_effective.specs.declared.lines.ReadLine.{ReadLine}
+use Rattle.review_effective.specs.declared.lines.{LinePart.LinePart, ReadLine.ReadLine}
 
 module _ (own : LinePart) (above : List LinePart) (name : List ℕ) (before mid : Option ReadLine) (kept : IsKept above name before mid) where
   -- nothing more is remembered

@@ -1,14 +1,9 @@
 -- Where a thing is put among others by its name.
 use Rattle.std.proofs.Common.{◌≡◌, ℕ, suc, set, Bool, true, false, Less, Equal, Greater, nat_cmp, is_eq, List, [], ◌∷◌, ◌++◌, cond, refl, ap, sym, ◌∙◌}
-use Rattle.std.specs.declared.cmp.Ordering.{Ordering}
+use Rattle.std.proofs.lemmas.{Cmp.nat_list_cmp_total, Map.Text.is_eq-slice_cmp}
+use Rattle.std.specs.{Cmp.Lexicographic.slice_cmp, List.insert, Option.option_map_or}
 use Rattle.std.specs.Ordering.{is_lt, match_ordering, ordering_reverse}
-use Rattle.std.specs.Option.{option_map_or}
-use Rattle.std.specs.Prelude.{fold, slice_get}
-use Rattle.std.specs.Str.{bytes_eq}
-use Rattle.std.specs.Cmp.Lexicographic.{slice_cmp}
-use Rattle.std.specs.List.{insert}
-use Rattle.std.proofs.lemmas.Cmp.{nat_list_cmp_total}
-use Rattle.std.proofs.lemmas.Map.Text.{is_eq-slice_cmp}
+use Rattle.std.specs.{Prelude.fold, Prelude.slice_get, Str.bytes_eq, declared.cmp.Ordering.Ordering}
 use Rattle.review_project.specs.Inherited.{put_by}
 use Rattle.review_effective.specs.Before.{count_before}
 

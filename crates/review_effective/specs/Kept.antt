@@ -1,10 +1,7 @@
 -- What is remembered of the lines of projects.
+use Rattle.std.specs.{BTreeMap.is_at, Cmp.Lexicographic.slice_cmp, Ordering.nat_cmp}
 use Rattle.std.specs.Prelude.{◌≡◌, ◌⊎◌, ℕ, true, List, [], ◌∷◌, Option, Some, map}
-use Rattle.std.specs.BTreeMap.{is_at}
-use Rattle.std.specs.Ordering.{nat_cmp}
-use Rattle.std.specs.Cmp.Lexicographic.{slice_cmp}
-use Rattle.review_effective.specs.declared.lines.LinePart.{LinePart}
-use Rattle.review_effective.specs.declared.lines.ReadLine.{ReadLine}
+use Rattle.review_effective.specs.declared.lines.{LinePart.LinePart, ReadLine.ReadLine}
 
 -- what is remembered under a name is the line of a project of that name among these, each with its ancestors behind it
 abbrev pub IsLineOf : List LinePart → List ℕ → Option ReadLine → Type 0

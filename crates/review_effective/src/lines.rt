@@ -29,9 +29,9 @@ pub struct ReadLine {
 
 impl Model for ReadLine {
     ghost use Rattle.std.specs.Coded.{codes};
-    ghost use Rattle.review_expr.specs.contracts.expr.Expr as expr;
     ghost use Rattle.review_project.specs.Inherited.{IsEffective};
     ghost use Rattle.review_effective.specs.Texts.{LineView};
+    ghost use Rattle.review_expr.specs.contracts.expr.Expr as expr;
 
     ghost Value = { LineView };
 

@@ -1,15 +1,10 @@
 //! Effective files that were read before, so that one is read once as long as the texts of its line stay. What is remembered is held to these texts
 //! byte for byte, so it is right whatever texts a project and its ancestors have by now.
+ghost use Rattle.std.specs.{BTreeMap.is_at, Cmp.Lexicographic.slice_cmp, List.All, Ordering.nat_cmp};
 ghost use Rattle.std.specs.Prelude.{◌≡◌, ◌∷◌, false, IfOk, IfErr, OnOk, OnErr, Some, None, [], if◌then◌else◌, map};
-ghost use Rattle.std.specs.BTreeMap.{is_at};
-ghost use Rattle.std.specs.List.{All};
-ghost use Rattle.std.specs.Ordering.{nat_cmp};
-ghost use Rattle.std.specs.Cmp.Lexicographic.{slice_cmp};
 ghost use Rattle.review_table.specs.Rows.{row_in, rows_of};
-ghost use Rattle.review_project.specs.Patterns.{HasPattern};
-ghost use Rattle.review_project.specs.Reading.{IsRead, IsReadFault, named_parent};
-ghost use Rattle.review_effective.specs.Kept.{IsKept};
-ghost use Rattle.review_effective.specs.Texts.{IsLineFault};
+ghost use Rattle.review_project.specs.{Patterns.HasPattern, Reading.IsRead, Reading.IsReadFault, Reading.named_parent};
+ghost use Rattle.review_effective.specs.{Kept.IsKept, Texts.IsLineFault};
 
 use crate::lines::{LinePart, ReadLine, is_same};
 use crate::texts::ReadText;

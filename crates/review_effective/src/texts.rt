@@ -1,7 +1,6 @@
 //! A text with the file that it spells.
 ghost use Rattle.std.specs.Prelude.{◌≡◌, IfOk, IfErr};
-ghost use Rattle.review_project.specs.Reading.{IsRead, IsReadFault};
-ghost use Rattle.review_project.specs.Patterns.{HasPattern};
+ghost use Rattle.review_project.specs.{Patterns.HasPattern, Reading.IsRead, Reading.IsReadFault};
 
 use review_file::{ProjectFile, read_file};
 use review_project::ReadFault;
@@ -18,9 +17,9 @@ pub struct ReadText {
 
 impl Model for ReadText {
     ghost use Rattle.std.specs.Coded.{codes};
-    ghost use Rattle.review_expr.specs.contracts.expr.Expr as expr;
     ghost use Rattle.review_project.specs.Reading.{IsRead};
     ghost use Rattle.review_effective.specs.Texts.{TextView};
+    ghost use Rattle.review_expr.specs.contracts.expr.Expr as expr;
 
     ghost Value = { TextView };
 

@@ -1,10 +1,9 @@
 -- A fault's place lies within the text.
 use Rattle.std.proofs.Common.{◌≡◌, inl, inr, ℕ, ◌+◌, ◌≤◌, ◌<◌, List, [], ◌∷◌, ◌++◌, length, ap, arith, length-append}
-use Rattle.review_terms.specs.Lexemes.{Lexeme, Word, Open, Close, IsCut}
-use Rattle.review_terms.specs.Words.{Reading}
+use Rattle.review_terms.specs.{Lexemes.Lexeme, Lexemes.Word, Lexemes.Open, Lexemes.Close, Lexemes.IsCut, Words.Reading}
 use Rattle.review_words.specs.declared.faults.ExprCode.{ExprCode}
-use Rattle.review_words.specs.declared.faults.ExprCode.TheVariants as code
 use Rattle.review_expr.specs.Faults.{IsReached, IsFault}
+use Rattle.review_words.specs.declared.faults.ExprCode.TheVariants as code
 
 -- a word begins within the text that it is cut from
 word_within : (before : List Lexeme) (place : ℕ) (w : List ℕ) (after : List Lexeme) (at : ℕ) (text : List ℕ) → IsCut at (before ++ Word place w ∷ after) text → place < at + length text

@@ -2,16 +2,12 @@
 use Rattle.std.specs.Prelude.{ℕ, Bool, false, List, []}
 use Rattle.review_terms.specs.Views.{view}
 use Rattle.review_judging.specs.Holds.{holds, requirement_holds, copy_holds}
-use Rattle.review_judging.specs.Labels.{labels}
-use Rattle.review_judging.specs.Postfix.{AreStepsOf}
+use Rattle.review_judging.specs.{Labels.labels, Postfix.AreStepsOf}
 use Rattle.review_spelling.specs.Words.{requirement_reading, copy_reading}
-use Rattle.review_expr.specs.Expressions.{HasExpr}
-use Rattle.review_expr.specs.declared.expr.Expr.{Expr}
+use Rattle.review_expr.specs.{Expressions.HasExpr, declared.compiled.TermList.TermList}
+use Rattle.review_expr.specs.declared.{compiled.Terms.Terms, expr.Expr.Expr, expr.Facts.Facts}
 use Rattle.review_expr.specs.declared.expr.Expr.TheVariants as expr
-use Rattle.review_expr.specs.declared.compiled.Terms.{Terms}
-use Rattle.review_expr.specs.declared.compiled.TermList.{TermList}
 use Rattle.review_expr.specs.declared.compiled.TermList.TheVariants as list
-use Rattle.review_expr.specs.declared.expr.Facts.{Facts}
 use Rattle.review_expr.specs.declared.expr.Facts.TheVariants as facts
 
 -- The text is this expression of a submit requirement.

@@ -3,17 +3,16 @@ use Rattle.std.specs.Prelude.{◌≡◌, ◌⊎◌, ℕ, ◌<◌, ◌≤◌, Lis
 use Rattle.review_terms.specs.Grammar.{Tok, Fault, HasFault, BadTerm, TooDeep, Mixed}
 use Rattle.review_terms.specs.Lexemes.{Lexeme, Word, IsCut, all_blank, balanced}
 use Rattle.review_terms.specs.Words.{Reading, Bad, Flaw, NoTerm, NoValue, Zero}
+use Rattle.review_terms.specs.declared.{lexemes.CutFault.CutFault, parser.ShapeFault.ShapeFault}
 use Rattle.review_terms.specs.declared.word.WordFault.{WordFault}
-use Rattle.review_terms.specs.declared.word.WordFault.TheVariants as word
-use Rattle.review_terms.specs.declared.lexemes.CutFault.{CutFault}
-use Rattle.review_terms.specs.declared.lexemes.CutFault.TheVariants as cut
-use Rattle.review_terms.specs.declared.parser.ShapeFault.{ShapeFault}
-use Rattle.review_terms.specs.declared.parser.ShapeFault.TheVariants as shape
-use Rattle.review_expr.specs.Tokens.{lexeme_tokens, tokens_before, unsigned}
-use Rattle.review_expr.specs.Expressions.{IsLaidOut, HasTokens}
 use Rattle.review_words.specs.declared.faults.ExprCode.{ExprCode}
-use Rattle.review_words.specs.declared.faults.ExprCode.TheVariants as code
+use Rattle.review_expr.specs.Expressions.{IsLaidOut, HasTokens}
+use Rattle.review_expr.specs.Tokens.{lexeme_tokens, tokens_before, unsigned}
 use Rattle.review_expr.specs.declared.fault.ParseFault.{ParseFault}
+use Rattle.review_terms.specs.declared.word.WordFault.TheVariants as word
+use Rattle.review_terms.specs.declared.lexemes.CutFault.TheVariants as cut
+use Rattle.review_terms.specs.declared.parser.ShapeFault.TheVariants as shape
+use Rattle.review_words.specs.declared.faults.ExprCode.TheVariants as code
 use Rattle.review_expr.specs.declared.fault.ParseFault.TheVariants as fault
 
 -- The text is laid out, this word stands in it at this place with these words and parentheses after it, and every word before it is good.

@@ -1,8 +1,7 @@
 //! Expressions that are compiled to flat lists.
 ghost use Rattle.std.specs.Prelude.{◌≡◌, IfOk, IfErr};
-ghost use Rattle.review_expr.specs.declared.expr.EvalFault.{EvalFault};
-ghost use Rattle.review_expr.specs.declared.expr.Expr.{Expr};
 ghost use Rattle.review_expr.specs.Exprs.{AreTermsOf, holds_for};
+ghost use Rattle.review_expr.specs.declared.expr.{EvalFault.EvalFault, Expr.Expr};
 
 use crate::expr::{EvalFault, Expr, Facts};
 use review_judging::Steps;

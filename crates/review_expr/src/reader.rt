@@ -1,8 +1,7 @@
 //! From a text to the tree.
 ghost use Rattle.std.specs.Prelude.{◌≡◌, IfOk, IfErr};
 ghost use Rattle.review_terms.specs.Views.{view};
-ghost use Rattle.review_expr.specs.Expressions.{HasExpr};
-ghost use Rattle.review_expr.specs.Faults.{IsParseFault, cut_fault, shape_fault};
+ghost use Rattle.review_expr.specs.{Expressions.HasExpr, Faults.IsParseFault, Faults.cut_fault, Faults.shape_fault};
 
 use crate::expression::Expression;
 use crate::fault::ParseFault;

@@ -1,12 +1,9 @@
 //! From words to tokens.
-ghost use Rattle.std.specs.Prelude.{◌≡◌, ◌≤◌, ◌++◌, ℕ, List, Some, IfOk, IfErr, OnOk, length};
-ghost use Rattle.review_terms.specs.Grammar.{Tok};
 ghost use Rattle.std.specs.List.{All};
-ghost use Rattle.review_terms.specs.Scanned.{lexemes, IsWithin};
-ghost use Rattle.review_terms.specs.Views.{tok, toks};
+ghost use Rattle.std.specs.Prelude.{◌≡◌, ◌≤◌, ◌++◌, ℕ, List, Some, IfOk, IfErr, OnOk, length};
+ghost use Rattle.review_terms.specs.{Grammar.Tok, Scanned.lexemes, Scanned.IsWithin, Views.tok, Views.toks};
 ghost use Rattle.review_terms.specs.Words.{Good, IsWordFault};
-ghost use Rattle.review_expr.specs.Expressions.{IsLaidOut};
-ghost use Rattle.review_expr.specs.Faults.{IsParseFault, placed};
+ghost use Rattle.review_expr.specs.{Expressions.IsLaidOut, Faults.IsParseFault, Faults.placed};
 ghost use Rattle.review_expr.specs.Tokens.{meaning, opens_at, tokens, unsigned, word_tokens};
 
 use crate::fault::ParseFault;

@@ -1,10 +1,10 @@
 -- Texts cut into their fields: equal texts have equal fields.
+use mathlib.Core.List.{append_assoc}
 use Rattle.std.proofs.Common.{◌≡◌, ℕ, List, [], ◌∷◌, ◌++◌, length, refl, sym, ap, ◌∙◌, arith}
 use Rattle.std.specs.Prelude.{flat_map}
-use mathlib.Core.List.{append_assoc}
+use Rattle.review_names.proofs.Numerals.{Plain, plain_numeral, numeral-injective}
 use Rattle.review_names.specs.Numerals.{numeral}
 use Rattle.review_words.specs.Texts.{field, text_of}
-use Rattle.review_names.proofs.Numerals.{Plain, plain_numeral, numeral-injective}
 
 split_colon : (xs ys s t : List ℕ) → Plain xs → Plain ys → xs ++ 58 ∷ s ≡ ys ++ 58 ∷ t → (xs ≡ ys) × (s ≡ t)
 split_colon [] [] s t p q e = (refl, cc)

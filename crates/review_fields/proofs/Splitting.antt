@@ -1,15 +1,14 @@
 -- Fields cut off their text one by one.
 use Rattle.std.proofs.Common.{◌≡◌, ℕ, suc, ◌+◌, ◌*◌, ◌-◌, ◌<◌, List, [], ◌∷◌, ◌++◌, append_assoc, append-nil, length, map, take, drop, refl, sym, ap, ◌∙◌, arith, cond, Option, Some, None, true, false, length-append, slice_index}
-use Rattle.std.specs.Prelude.{nat_le, nat_lt, ◌&&◌, ◌==◌, flat_map}
-use Rattle.std.specs.List.{AllByRecursion}
-use Rattle.std.specs.Int.Digits.{digits_of, number_from_digits, number_from_digits_after}
-use Rattle.std.proofs.lemmas.Int.Digits.{all_below_base_digits_of, number_digits_of, number_after_ge}
 use Rattle.std.proofs.lemmas.Bool.Decides.{nat_tests}
+use Rattle.std.proofs.lemmas.Int.Digits.{all_below_base_digits_of, number_digits_of, number_after_ge}
 use Rattle.std.proofs.lemmas.List.{take_at}
+use Rattle.std.specs.Int.Digits.{digits_of, number_from_digits, number_from_digits_after}
+use Rattle.std.specs.{List.AllByRecursion, Prelude.nat_le, Prelude.nat_lt, Prelude.◌&&◌, Prelude.◌==◌, Prelude.flat_map}
 use Rattle.review_names.specs.Numerals.{shown_digits, numeral}
 use Rattle.review_words.specs.Texts.{field, text_of}
-use Rattle.review_fields.specs.Cutting.{taken, split_after, AreShort}
 use Rattle.review_fields.proofs.Cutting.{field_shape, field_not_empty}
+use Rattle.review_fields.specs.Cutting.{taken, split_after, AreShort}
 
 shown_split : (ds : List ℕ) → AllByRecursion (λ d. d < 10) ds → (m : ℕ) (t : List ℕ) → number_from_digits_after 10 m ds < 1000000000
     → split_after m (map (λ x. 48 + x) ds ++ 58 ∷ t) ≡ taken (number_from_digits_after 10 m ds) t

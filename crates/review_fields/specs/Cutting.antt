@@ -1,6 +1,6 @@
 -- A text cut into its fields.
-use Rattle.std.specs.Prelude.{ℕ, List, [], ◌∷◌, length, take, drop, ◌+◌, ◌-◌, ◌*◌, ◌<◌, ◌&&◌, nat_le, nat_lt, ◌==◌, slice_index, slice_index_or, Option, Some, None, if◌then◌else◌}
 use Rattle.std.specs.List.{AllByRecursion}
+use Rattle.std.specs.Prelude.{ℕ, List, [], ◌∷◌, length, take, drop, ◌+◌, ◌-◌, ◌*◌, ◌<◌, ◌&&◌, nat_le, nat_lt, ◌==◌, slice_index, slice_index_or, Option, Some, None, if◌then◌else◌}
 
 -- the first n bytes and what follows the comma after them
 abbrev pub taken : ℕ → List ℕ → Option (List ℕ × List ℕ)

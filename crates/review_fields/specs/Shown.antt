@@ -2,8 +2,7 @@
 use Rattle.std.specs.Prelude.{ℕ, List}
 use Rattle.review_names.specs.Numerals.{numeral}
 use Rattle.review_words.specs.Texts.{signed}
-use Rattle.review_fields.specs.declared.pieces.Piece.{Piece}
-use Rattle.review_fields.specs.declared.pieces.Piece.TheVariants.{Text, Number, Signed}
+use Rattle.review_fields.specs.declared.pieces.Piece.{Piece, TheVariants.Text, TheVariants.Number, TheVariants.Signed}
 
 -- the field that a piece is written as
 abbrev pub shown : Piece → List ℕ

@@ -2,8 +2,7 @@
 ghost use Rattle.std.specs.Prelude.{◌≡◌, ◌<◌, ◌++◌, ℕ, List, map, length, option_map, IfOk, OnOk, Some, IfSome, string_bytes};
 ghost use Rattle.review_names.specs.Numerals.{numeral};
 ghost use Rattle.review_words.specs.Texts.{field, signed, text_of};
-ghost use Rattle.review_fields.specs.Shown.{shown};
-ghost use Rattle.review_fields.specs.Cutting.{at, split_after, taken, AreShort};
+ghost use Rattle.review_fields.specs.{Cutting.at, Cutting.split_after, Cutting.taken, Cutting.AreShort, Shown.shown};
 
 use std::alloc::{AllocError, Global};
 

@@ -1,20 +1,15 @@
 -- The names of the labels and of the requirements of a file ascend, and so do the groups that each label grants a range.
 use Rattle.std.proofs.Common.{◌≡◌, ℕ, List, [], ◌∷◌, map, filter, refl, sym, ap, ap₂, ◌∙◌, subst, codes}
-use Rattle.std.specs.List.{All, AllByRecursion}
-use Rattle.std.proofs.lemmas.List.Elements.{All-from_recursion}
+use Rattle.std.{proofs.lemmas.List.Elements.All-from_recursion, specs.List.All, specs.List.AllByRecursion}
 use Rattle.toml.specs.Data.{Data, table}
-use Rattle.review_names.specs.Forms.{is_label}
-use Rattle.review_names.specs.Names.{is_word}
+use Rattle.review_names.specs.{Forms.is_label, Names.is_word}
 use Rattle.review_document.specs.Document.{members_at}
 use Rattle.review_expr.specs.declared.expr.Expr.{Expr}
-use Rattle.review_project.specs.declared.parts.Grant.{Grant}
-use Rattle.review_project.specs.View.{LabelView, RequirementView, FileView}
 use Rattle.review_project.specs.Expressions.{EachTo, IsLabel, IsRequirement}
+use Rattle.review_project.specs.{Reading.IsRead, Sound.IsSoundFile}
 use Rattle.review_project.specs.Spelled.{grant_in, label_in, requirement_in, named}
-use Rattle.review_project.specs.Reading.{IsRead}
-use Rattle.review_project.specs.Sound.{IsSoundFile}
-use Rattle.review_file.proofs.SoundLabels.{sound_labels}
-use Rattle.review_file.proofs.KeysInOrder.{InOrder}
+use Rattle.review_project.specs.{View.LabelView, View.RequirementView, View.FileView, declared.parts.Grant.Grant}
+use Rattle.review_file.proofs.{KeysInOrder.InOrder, SoundLabels.sound_labels}
 use Rattle.review_file.proofs.TablesInOrder.{EachInOrder, Sorted, keys, inner_sorted, kept_sorted, kept_within, table_sorted, table_within}
 
 label_names : (ms : List (List ℕ × Data)) (ls : List (LabelView Expr)) → EachTo IsLabel (map label_in ms) ls → keys ms ≡ map (λ l. l.name) ls

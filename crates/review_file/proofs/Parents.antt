@@ -1,12 +1,9 @@
 -- The parent of a file.
 use Rattle.std.proofs.Common.{◌≡◌, ◌∙◌, ℕ, List, None, cond, sym, ap}
 use Rattle.std.specs.Prelude.{option_and_then}
-use Rattle.toml.specs.Data.{table}
-use Rattle.toml.specs.Parse.{parse_document}
+use Rattle.toml.specs.{Data.table, Parse.parse_document}
 use Rattle.review_expr.specs.declared.expr.Expr.{Expr}
-use Rattle.review_project.specs.Reading.{IsRead, named_parent}
-use Rattle.review_project.specs.Spelled.{parent_in}
-use Rattle.review_project.specs.View.{FileView}
+use Rattle.review_project.specs.{Reading.IsRead, Reading.named_parent, Spelled.parent_in, View.FileView}
 
 -- the parent of a file is the one that its text names
 pub parent_named : (text : List ℕ) (f : FileView Expr) → IsRead text f → f.parent ≡ named_parent text

@@ -1,9 +1,9 @@
 //! A project file.
-ghost use Rattle.std.specs.Prelude.{◌≡◌, ◌≤ℤ◌, true, IfOk, find, option_copied, option_map, string_bytes};
 ghost use Rattle.std.specs.List.{All};
+ghost use Rattle.std.specs.Prelude.{◌≡◌, ◌≤ℤ◌, true, IfOk, find, option_copied, option_map, string_bytes};
 ghost use Rattle.std.specs.Str.{bytes_eq};
-ghost use Rattle.review_project.specs.Sound.{HasGroupsInOrder, HasNamesInOrder, IsSoundFile, has_sound_labels, is_sound_label, is_value};
 ghost use Rattle.review_project.specs.Rights.{greatest_value, least_value};
+ghost use Rattle.review_project.specs.Sound.{HasGroupsInOrder, HasNamesInOrder, IsSoundFile, has_sound_labels, is_sound_label, is_value};
 
 use review_expr::Expr;
 use review_project::Grant;
@@ -71,9 +71,9 @@ pub(crate) struct LabelParts {
 
 impl Model for LabelParts {
     ghost use Rattle.std.specs.Coded.{codes};
-    ghost use Rattle.review_expr.specs.contracts.expr.Expr as expr;
     ghost use Rattle.review_expr.specs.declared.expr.Expr.{Expr};
     ghost use Rattle.review_project.specs.View.{LabelView};
+    ghost use Rattle.review_expr.specs.contracts.expr.Expr as expr;
 
     ghost Value = { LabelView Expr };
 
@@ -90,9 +90,9 @@ pub struct Label {
 
 impl Model for Label {
     ghost use Rattle.std.specs.Coded.{codes};
-    ghost use Rattle.review_expr.specs.contracts.expr.Expr as expr;
     ghost use Rattle.review_expr.specs.declared.expr.Expr.{Expr};
     ghost use Rattle.review_project.specs.View.{LabelView};
+    ghost use Rattle.review_expr.specs.contracts.expr.Expr as expr;
 
     ghost Value = { LabelView Expr };
 
@@ -203,11 +203,10 @@ pub(crate) struct RequirementParts {
 }
 
 impl Model for RequirementParts {
-    ghost use Rattle.std.specs.Prelude.{option_map, string_bytes};
-    ghost use Rattle.std.specs.Coded.{codes};
-    ghost use Rattle.review_expr.specs.contracts.expr.Expr as expr;
+    ghost use Rattle.std.specs.{Coded.codes, Prelude.option_map, Prelude.string_bytes};
     ghost use Rattle.review_expr.specs.declared.expr.Expr.{Expr};
     ghost use Rattle.review_project.specs.View.{RequirementView};
+    ghost use Rattle.review_expr.specs.contracts.expr.Expr as expr;
 
     ghost Value = { RequirementView Expr };
 
@@ -231,9 +230,9 @@ pub struct Requirement {
 
 impl Model for Requirement {
     ghost use Rattle.std.specs.Coded.{codes};
-    ghost use Rattle.review_expr.specs.contracts.expr.Expr as expr;
     ghost use Rattle.review_expr.specs.declared.expr.Expr.{Expr};
     ghost use Rattle.review_project.specs.View.{RequirementView};
+    ghost use Rattle.review_expr.specs.contracts.expr.Expr as expr;
 
     ghost Value = { RequirementView Expr };
 
@@ -320,11 +319,10 @@ pub struct Content {
 }
 
 impl Model for Content {
-    ghost use Rattle.std.specs.Prelude.{option_map, string_bytes};
-    ghost use Rattle.std.specs.Coded.{codes};
-    ghost use Rattle.review_expr.specs.contracts.expr.Expr as expr;
+    ghost use Rattle.std.specs.{Coded.codes, Prelude.option_map, Prelude.string_bytes};
     ghost use Rattle.review_expr.specs.declared.expr.Expr.{Expr};
     ghost use Rattle.review_project.specs.View.{FileView};
+    ghost use Rattle.review_expr.specs.contracts.expr.Expr as expr;
 
     ghost Value = { FileView Expr };
 
@@ -348,10 +346,9 @@ pub struct ProjectFile {
 
 impl Model for ProjectFile {
     ghost use Rattle.std.specs.Coded.{codes};
-    ghost use Rattle.review_expr.specs.contracts.expr.Expr as expr;
     ghost use Rattle.review_expr.specs.declared.expr.Expr.{Expr};
-    ghost use Rattle.review_project.specs.View.{FileView};
-    ghost use Rattle.review_project.specs.Sound.{IsSoundFile};
+    ghost use Rattle.review_project.specs.{Sound.IsSoundFile, View.FileView};
+    ghost use Rattle.review_expr.specs.contracts.expr.Expr as expr;
 
     ghost Value = { FileView Expr };
 

@@ -1,7 +1,6 @@
 //! What a project file gives an account.
+ghost use Rattle.std.specs.{Int.int_min, Int.int_max, List.list_any};
 ghost use Rattle.std.specs.Prelude.{◌≡◌, ℤ, pos, true, map, filter, find, fold, IfSome};
-ghost use Rattle.std.specs.Int.{int_min, int_max};
-ghost use Rattle.std.specs.List.{list_any};
 ghost use Rattle.std.specs.Str.{bytes_eq};
 ghost use Rattle.review_names.specs.Groups.{has_account};
 ghost use Rattle.review_project.specs.Rights.{granted, grants_of, greatest_of, least_of, may};

@@ -1,8 +1,6 @@
 //! Reading a project file.
 ghost use Rattle.std.specs.Prelude.{◌≡◌, ◌≢◌, false, IfOk, IfErr, length, nat_lt, option_map};
-ghost use Rattle.toml.specs.View.{table_view, view};
-ghost use Rattle.toml.specs.Data.{table};
-ghost use Rattle.toml.specs.Parse.{parse_document};
+ghost use Rattle.toml.specs.{Data.table, Parse.parse_document, View.table_view, View.view};
 ghost use Rattle.review_document.specs.Limits.{most_bytes};
 ghost use Rattle.review_project.specs.Expressions.{IsFile, IsStoppedBy, has_unknown_label};
 ghost use Rattle.review_project.specs.Patterns.{HasPattern};

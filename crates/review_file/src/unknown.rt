@@ -1,7 +1,6 @@
 //! Labels that a file's requirements name and the file hasn't.
+ghost use Rattle.std.specs.{List.list_any, Option.option_map_or};
 ghost use Rattle.std.specs.Prelude.{◌≡◌, IfOk, Bool, false, not, option_copied};
-ghost use Rattle.std.specs.List.{list_any};
-ghost use Rattle.std.specs.Option.{option_map_or};
 ghost use Rattle.std.specs.Str.{bytes_eq};
 ghost use Rattle.review_project.specs.Expressions.{has_unknown_label, names_other, requires_other};
 

@@ -2,12 +2,9 @@
 use Rattle.std.proofs.Common.{Result, Ok, Err, lit≤, lit<}
 use Rattle.http.specs.StatusCode.{IsStatusCode}
 use Rattle.review_words.specs.Refusals.{refusal_status}
-use Rattle.review_words.specs.declared.reply.Refusal.{Refusal}
-use Rattle.review_words.specs.declared.reply.Refusal.TheVariants.{UnknownCaller}
-use Rattle.review_words.specs.declared.reply.Reply.{Reply}
+use Rattle.review_words.specs.declared.reply.{Refusal.Refusal, Refusal.TheVariants.UnknownCaller, Reply.Reply}
 use Rattle.review_words.specs.declared.reply.Reply.TheVariants.{Done, Refused, IdentityReused, EpochClosed, NotTaken}
-use Rattle.review_paths.specs.declared.fault.HttpFault.{HttpFault}
-use Rattle.review_paths.specs.declared.fault.HttpFault.TheVariants.{BadHead}
+use Rattle.review_paths.specs.declared.fault.HttpFault.{HttpFault, TheVariants.BadHead}
 use Rattle.review_http.specs.Statuses.{status_of, fault_status}
 
 of_refusal : (r : Refusal) → IsStatusCode (refusal_status r)

@@ -1,15 +1,12 @@
 -- What serving connections does, one after the other.
 use Rattle.std.specs.Prelude.{◌≡◌, ◌≢◌, ◌≤◌, ◌<◌, ◌+◌, ◌⊎◌, ℕ, List, [], ◌∷◌, ◌++◌, Bool, Option, Some, None, Result, Ok, IfOk, OnOk, length, map}
-use Rattle.review_words.specs.declared.command.Delivery.{Delivery}
-use Rattle.review_words.specs.declared.reply.Reply.{Reply}
+use Rattle.review_counted.specs.Bytes.{IsFirstPart}
+use Rattle.review_words.specs.declared.{command.Delivery.Delivery, reply.Reply.Reply}
+use Rattle.review_requests.specs.Wire.{CallsFor}
 use Rattle.review_rows.specs.Shelf.{Shown}
 use Rattle.review_deliveries.specs.Delivered.{IsDelivered, WasRun}
-use Rattle.review_counted.specs.Bytes.{IsFirstPart}
-use Rattle.review_requests.specs.Wire.{CallsFor}
-use Rattle.review_http.specs.Responses.{response}
-use Rattle.review_http.specs.declared.serve.Served.{Served}
-use Rattle.review_http.specs.declared.serve.ServeFault.{ServeFault}
-use Rattle.review_http.specs.Served.{WasServed}
+use Rattle.review_http.specs.{Responses.response, Served.WasServed}
+use Rattle.review_http.specs.declared.serve.{ServeFault.ServeFault, Served.Served}
 
 -- What is known of the peers of connections: what those to come send, and what those were told whose connections were closed.
 pub record Peers : Type 0 where

@@ -1,13 +1,11 @@
 -- The bytes of responses.
 use Rattle.std.specs.Prelude.{ℕ, ◌+◌, List, [], ◌++◌, codes, decimal, length, Result, Ok, Err}
-use Rattle.serde_json.specs.Data.{Data, string, object, no_members, member}
-use Rattle.serde_json.specs.Written.{compact_text}
 use Rattle.http.specs.StatusCode.{status_text}
+use Rattle.serde_json.specs.{Data.Data, Data.string, Data.object, Data.no_members, Data.member, Written.compact_text}
 use Rattle.review_words.specs.declared.reply.Reply.{Reply}
 use Rattle.review_json.specs.Answer.{reply_data}
 use Rattle.review_paths.specs.Methods.{methods_text}
-use Rattle.review_paths.specs.declared.fault.HttpFault.{HttpFault}
-use Rattle.review_paths.specs.declared.fault.HttpFault.TheVariants.{Method}
+use Rattle.review_paths.specs.declared.fault.HttpFault.{HttpFault, TheVariants.Method}
 use Rattle.review_http.specs.Statuses.{fault_name, status_of}
 
 -- a fault as JSON

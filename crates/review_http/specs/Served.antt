@@ -1,19 +1,15 @@
 -- What serving one request does, for the bytes that were read and those that were written.
-use Rattle.std.specs.Prelude.{◌≡◌, ◌⊎◌, ℕ, List, [], Bool, true, false, Option, Result, Ok, Err}
 use Rattle.std.specs.Io.KnownBytes.{Appends}
-use Rattle.review_words.specs.declared.command.Delivery.{Delivery}
-use Rattle.review_words.specs.declared.reply.Reply.{Reply}
-use Rattle.review_rows.specs.Shelf.{Shown}
-use Rattle.review_deliveries.specs.Delivered.{IsDelivered}
+use Rattle.std.specs.Prelude.{◌≡◌, ◌⊎◌, ℕ, List, [], Bool, true, false, Option, Result, Ok, Err}
 use Rattle.review_counted.specs.Bytes.{Gave, IsFirstPart}
+use Rattle.review_words.specs.declared.{command.Delivery.Delivery, reply.Reply.Reply}
 use Rattle.review_paths.specs.declared.fault.HttpFault.{HttpFault}
 use Rattle.review_requests.specs.Wire.{CallsFor, IsNotWhole}
-use Rattle.review_http.specs.Statuses.{status_of}
-use Rattle.review_http.specs.Responses.{response}
-use Rattle.review_http.specs.declared.serve.Served.{Served}
-use Rattle.review_http.specs.declared.serve.Served.TheVariants.{Answered, Empty}
-use Rattle.review_http.specs.declared.serve.ServeFault.{ServeFault}
+use Rattle.review_rows.specs.Shelf.{Shown}
+use Rattle.review_deliveries.specs.Delivered.{IsDelivered}
+use Rattle.review_http.specs.{Responses.response, Statuses.status_of, declared.serve.ServeFault.ServeFault}
 use Rattle.review_http.specs.declared.serve.ServeFault.TheVariants.{Read, Reads, Write, Memory}
+use Rattle.review_http.specs.declared.serve.Served.{Served, TheVariants.Answered, TheVariants.Empty}
 
 -- the response that was written, or what there is of it
 abbrev pub IsWritten : Result Reply HttpFault → List ℕ → Result Served ServeFault → Type 0

@@ -1,7 +1,6 @@
 -- The statuses of responses, and the names of faults.
 use Rattle.std.specs.Prelude.{ℕ, List, codes, Result, Ok, Err}
-use Rattle.review_words.specs.Refusals.{refusal_status}
-use Rattle.review_words.specs.declared.reply.Reply.{Reply}
+use Rattle.review_words.specs.{Refusals.refusal_status, declared.reply.Reply.Reply}
 use Rattle.review_words.specs.declared.reply.Reply.TheVariants.{Done, Refused, IdentityReused, EpochClosed, NotTaken}
 use Rattle.review_paths.specs.declared.fault.HttpFault.{HttpFault}
 use Rattle.review_paths.specs.declared.fault.HttpFault.TheVariants.{BadHead, HeadTooLarge, NoRoute, Method, NoCaller, NoRequestId, BadEpoch, LengthRequired, TooLarge, BadBody}

@@ -1,7 +1,6 @@
 //! Connections, served one after the other.
 ghost use Rattle.std.specs.Prelude.{◌≡◌, ℕ, true, List, [], ◌∷◌, Some, IfSome};
-ghost use Rattle.review_words.specs.declared.command.Delivery.{Delivery};
-ghost use Rattle.review_words.specs.declared.reply.Reply.{Reply};
+ghost use Rattle.review_words.specs.declared.{command.Delivery.Delivery, reply.Reply.Reply};
 ghost use Rattle.review_http.specs.Peers.{ServedOne, ServedAll, WereTold};
 
 use crate::serve::serve_request;

@@ -1,6 +1,6 @@
 //! One request, taken and answered.
-ghost use Rattle.std.specs.Prelude.{◌≡◌, ◌+◌, ◌≤◌, ℕ, List, length, Err, IfSome, min};
 ghost use Rattle.std.specs.Io.KnownBytes.{Appends};
+ghost use Rattle.std.specs.Prelude.{◌≡◌, ◌+◌, ◌≤◌, ℕ, List, length, Err, IfSome, min};
 ghost use Rattle.review_counted.specs.Counts.{greatest, one_more};
 ghost use Rattle.review_counted.specs.Shown.{inner_of, reads_of, faults_of};
 ghost use Rattle.review_http.specs.Served.{IsWritten, WasServed};

@@ -1,24 +1,19 @@
 -- No word of an expression has a pattern that nests too deep: it would be one, and none.
 use Rattle.std.proofs.Common.{◌≡◌, ℕ, ◌+◌, Bool, true, false, ◌==◌, List, [], ◌∷◌, Option, Some, None, cond, refl, sym, ap, subst}
 use Rattle.std.proofs.lemmas.Slice.Eq.{bytes_eq-Decides}
-use Rattle.std.specs.Prelude.{if◌then◌else◌, codes, option_map, IsSomeAnd}
-use Rattle.std.specs.Str.{bytes_eq}
-use Rattle.review_terms.specs.Grammar.{Tok, Tree}
-use Rattle.review_terms.specs.Lexemes.{Word}
-use Rattle.review_terms.specs.Words.{Reading, Good, Bad, NoTerm}
+use Rattle.std.specs.{Prelude.if◌then◌else◌, Prelude.codes, Prelude.option_map, Prelude.IsSomeAnd, Str.bytes_eq}
+use Rattle.review_terms.{proofs.Refused.never_deep, specs.Grammar.Tok, specs.Grammar.Tree, specs.Lexemes.Word}
 use Rattle.review_terms.specs.Patterns.{is_pattern, IsDeepPattern, IsEnginePattern}
-use Rattle.review_terms.proofs.Refused.{never_deep}
+use Rattle.review_terms.specs.Words.{Reading, Good, Bad, NoTerm}
 use Rattle.review_terms.specs.declared.terms.RequirementTerm.{RequirementTerm}
 use Rattle.review_terms.specs.declared.terms.RequirementTerm.TheVariants.{BranchMatches, PathMatches}
-use Rattle.review_spelling.specs.Cuts.{behind, cut_at, key_and_value}
-use Rattle.review_spelling.specs.Readings.{◌>>=◌, in_value}
-use Rattle.review_spelling.specs.Words.{pattern_or, pattern_of, pattern_in, keyed, requirement_value, requirement_reading, IsDeep, IsPattern}
+use Rattle.review_spelling.specs.{Cuts.behind, Cuts.cut_at, Cuts.key_and_value, Readings.◌>>=◌, Readings.in_value}
+use Rattle.review_spelling.specs.Words.{pattern_or, pattern_of, pattern_in, keyed, requirement_value}
+use Rattle.review_spelling.specs.Words.{requirement_reading, IsDeep, IsPattern}
 use Rattle.review_spelling.specs.declared.keys.RequirementKey.{RequirementKey}
-use Rattle.review_spelling.specs.declared.keys.RequirementKey.TheVariants as key
+use Rattle.review_expr.{proofs.Excluded.no_flaw, specs.Expressions.HasExpr, specs.Faults.HasWord}
 use Rattle.review_expr.specs.Tokens.{operator_by, operator_or, term_token, meaning, is_signed, unsigned, alone, behind_minus, after_minus, opens_at, lexeme_tokens}
-use Rattle.review_expr.specs.Expressions.{HasExpr}
-use Rattle.review_expr.specs.Faults.{HasWord}
-use Rattle.review_expr.proofs.Excluded.{no_flaw}
+use Rattle.review_spelling.specs.declared.keys.RequirementKey.TheVariants as key
 
 by_form : (b : Bool) (re : List ℕ) (term : List ℕ → RequirementTerm) (a : RequirementTerm) → in_value (option_map term (cond b (Some re) None)) ≡ Good a → b ≡ true
 by_form true re term a good = refl

@@ -2,18 +2,14 @@
 use Rattle.std.proofs.Common.{◌≡◌, ℕ, List, [], ◌∷◌, map, Option, Some, None, option_map, refl, ap, ap₂, sym, subst, ◌∙◌}
 use Rattle.toml.specs.Data.{Members, table}
 use Rattle.review_terms.specs.Grammar.{Tree}
-use Rattle.review_terms.specs.declared.terms.CopyTerm.{CopyTerm}
-use Rattle.review_terms.specs.declared.terms.RequirementTerm.{RequirementTerm}
+use Rattle.review_terms.specs.declared.terms.{CopyTerm.CopyTerm, RequirementTerm.RequirementTerm}
 use Rattle.review_spelling.specs.Words.{copy_reading, requirement_reading}
-use Rattle.review_expr.specs.Expressions.{HasExpr}
-use Rattle.review_expr.specs.declared.expr.Expr.{Expr}
-use Rattle.review_expr.specs.declared.expr.Expr.TheVariants as expr
-use Rattle.review_expr.specs.Exprs.{IsCopyOf, IsRequirementOf}
+use Rattle.review_expr.specs.{Expressions.HasExpr, Exprs.IsCopyOf, Exprs.IsRequirementOf, declared.expr.Expr.Expr}
 use Rattle.review_project.specs.Expressions.{EachTo, IfThere, IsLabel, IsRequirement, IsFile}
-use Rattle.review_project.specs.Reading.{IsRead, IsFaultless}
-use Rattle.review_project.specs.Spelled.{spelled}
+use Rattle.review_project.specs.{Reading.IsRead, Reading.IsFaultless, Spelled.spelled}
 use Rattle.review_project.specs.Trees.{OfRequirement, OfCopy, tree_of, label_trees, requirement_trees, file_trees}
 use Rattle.review_project.specs.View.{LabelView, RequirementView, FileView}
+use Rattle.review_expr.specs.declared.expr.Expr.TheVariants as expr
 
 -- a text is at most one expression
 abbrev pub OneTree : (List ℕ → Expr → Type 0) → Type 0

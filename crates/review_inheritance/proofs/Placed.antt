@@ -1,24 +1,17 @@
 -- A fault's place is below 2^64.
 use Rattle.std.proofs.Common.{◌≡◌, inl, inr, ℕ, ◌≤◌, Bool, true, false, List, [], ◌∷◌, Option, Some, None, arith}
-use Rattle.std.specs.Prelude.{length, nat_lt}
-use Rattle.std.specs.Bool.{MatchBool}
-use Rattle.toml.specs.Data.{Members, table}
-use Rattle.toml.specs.Parse.{parse_document}
-use Rattle.review_words.specs.Texts.{IsPlaced}
-use Rattle.review_words.specs.declared.faults.ExprFault.{ExprFault}
-use Rattle.review_words.specs.declared.faults.FileFault.{FileFault}
-use Rattle.review_words.specs.declared.faults.FileFault.TheVariants.{Toml, UnknownKey, Missing, BadName, Twice, BadValues, UnknownLabel, Limit}
-use Rattle.review_words.specs.declared.faults.FileFault.TheVariants.{Expr as Faulty}
-use Rattle.review_spelling.specs.Words.{requirement_reading, copy_reading, IsDeep}
+use Rattle.std.specs.{Bool.MatchBool, Prelude.length, Prelude.nat_lt}
+use Rattle.toml.specs.{Data.Members, Data.table, Parse.parse_document}
 use Rattle.review_document.specs.Limits.{most_bytes}
-use Rattle.review_expr.specs.declared.fault.ParseFault.TheVariants as parse
-use Rattle.review_expr.specs.Exprs.{IsCopyOf, IsRequirementOf, NoWord}
+use Rattle.review_words.specs.{Texts.IsPlaced, declared.faults.ExprFault.ExprFault, declared.faults.FileFault.FileFault}
+use Rattle.review_words.specs.declared.faults.FileFault.TheVariants.{Toml, UnknownKey, Missing, BadName, Twice, BadValues, UnknownLabel, Limit, Expr as Faulty}
+use Rattle.review_spelling.specs.Words.{requirement_reading, copy_reading, IsDeep}
 use Rattle.review_expr.proofs.Within.{place_within}
-use Rattle.review_project.specs.declared.fault.ReadFault.TheVariants.{File}
-use Rattle.review_project.specs.Spelled.{spelled}
-use Rattle.review_project.specs.View.{FileView}
+use Rattle.review_expr.specs.Exprs.{IsCopyOf, IsRequirementOf, NoWord}
 use Rattle.review_project.specs.Expressions.{FirstFault, IsNoCopy, IsNoRequirement, IsStoppedBy, copy_texts, requirement_texts}
 use Rattle.review_project.specs.Reading.{IsRefused, IsFileFault}
+use Rattle.review_project.specs.{Spelled.spelled, View.FileView, declared.fault.ReadFault.TheVariants.File}
+use Rattle.review_expr.specs.declared.fault.ParseFault.TheVariants as parse
 
 copy_placed : (texts : List (List ℕ)) (e : ExprFault) → FirstFault IsCopyOf IsNoCopy texts (parse.Text e) → e.place ≤ 4096
 copy_placed [] e h = absurd h

@@ -1,39 +1,30 @@
 -- What two answers to one text have in common: two files that it spells, a file and a fault, two faults.
 use Rattle.std.proofs.Common.{◌≡◌, ◌⊎◌, inl, inr, ℕ, ℤ, Bool, true, false, List, [], ◌∷◌, Option, Some, None, refl, sym, ap, ap₂, ◌∙◌, subst}
 use Rattle.std.proofs.lemmas.Option.{same_Some}
+use Rattle.std.specs.{Bool.MatchBool, List.list_all, List.list_any, Option.option_map_or}
 use Rattle.std.specs.Prelude.{not, ◌&&◌, ◌||◌, length, nat_lt, is_none}
-use Rattle.std.specs.Bool.{MatchBool}
-use Rattle.std.specs.List.{list_all, list_any}
-use Rattle.std.specs.Option.{option_map_or}
 use Rattle.std.specs.Str.{bytes_eq}
-use Rattle.toml.specs.Data.{Data, Members, table}
-use Rattle.toml.specs.Parse.{parse_document}
+use Rattle.toml.specs.{Data.Data, Data.Members, Data.table, Parse.parse_document}
 use Rattle.review_names.specs.Forms.{text_set}
-use Rattle.review_words.specs.declared.faults.ExprCode.TheVariants.{BadValue}
-use Rattle.review_words.specs.declared.faults.ExprFault.{ExprFault}
-use Rattle.review_words.specs.declared.faults.FileFault.{FileFault}
-use Rattle.review_words.specs.declared.faults.FileFault.TheVariants.{Toml, UnknownKey, Missing, BadName, Twice, BadValues, UnknownLabel, Limit}
-use Rattle.review_words.specs.declared.faults.FileFault.TheVariants.{Expr as Faulty}
+use Rattle.review_document.specs.Limits.{most_bytes}
 use Rattle.review_terms.specs.Views.{view}
+use Rattle.review_words.specs.declared.faults.{ExprCode.TheVariants.BadValue, ExprFault.ExprFault, FileFault.FileFault}
+use Rattle.review_words.specs.declared.faults.FileFault.TheVariants.{Toml, UnknownKey, Missing, BadName, Twice, BadValues, UnknownLabel, Limit, Expr as Faulty}
 use Rattle.review_judging.specs.Labels.{labels}
 use Rattle.review_spelling.specs.Words.{requirement_reading, copy_reading, IsDeep}
-use Rattle.review_document.specs.Limits.{most_bytes}
-use Rattle.review_expr.specs.declared.expr.Expr.{Expr}
-use Rattle.review_expr.specs.declared.expr.Expr.TheVariants as expr
-use Rattle.review_expr.specs.declared.fault.ParseFault.TheVariants as parse
+use Rattle.review_expr.proofs.{Excluded.bad_value, Excluded.one_tree, OneFault.one_fault}
 use Rattle.review_expr.specs.Exprs.{IsCopyOf, IsRequirementOf, NoWord, labels_in}
-use Rattle.review_expr.specs.Faults.{IsFault, HasWord}
-use Rattle.review_expr.proofs.Excluded.{bad_value, one_tree}
-use Rattle.review_expr.proofs.OneFault.{one_fault}
-use Rattle.review_project.specs.declared.fault.ReadFault.TheVariants.{File}
-use Rattle.review_project.specs.View.{LabelView, RequirementView, FileView}
-use Rattle.review_project.specs.Rights.{covers, is_covered, has_values}
-use Rattle.review_project.specs.Spelled.{spelled}
+use Rattle.review_expr.specs.{Faults.IsFault, Faults.HasWord, declared.expr.Expr.Expr}
+use Rattle.review_project.proofs.Verdicts.{all_copies, all_requirements}
 use Rattle.review_project.specs.Expressions.{EachTo, IfThere, AllRead, FirstFault, IsNoCopy, IsNoRequirement, IsLabel, IsRequirement, IsFile, IsStoppedBy, copy_texts, requirement_texts, names_other, requires_other, has_unknown_label}
 use Rattle.review_project.specs.Patterns.{SomeWord, HasDeepPattern}
 use Rattle.review_project.specs.Reading.{first_fault, HasFile, IsFaultless, IsLeast, IsBadValue, IsRefused, IsFileFault, IsRead}
+use Rattle.review_project.specs.Rights.{covers, is_covered, has_values}
+use Rattle.review_project.specs.{Spelled.spelled, View.LabelView, View.RequirementView, View.FileView}
+use Rattle.review_project.specs.declared.fault.ReadFault.TheVariants.{File}
 use Rattle.review_inheritance.proofs.DeepWords.{no_deep_word}
-use Rattle.review_project.proofs.Verdicts.{all_copies, all_requirements}
+use Rattle.review_expr.specs.declared.expr.Expr.TheVariants as expr
+use Rattle.review_expr.specs.declared.fault.ParseFault.TheVariants as parse
 
 -- ---- labels of two files that one document spells
 

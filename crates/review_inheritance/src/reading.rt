@@ -1,15 +1,12 @@
 //! Laws of project files.
 ghost use Rattle.std.specs.Prelude.{◌≡◌, ◌⊎◌, ◌≤◌, ℕ, List};
 ghost use Rattle.review_words.specs.declared.faults.ExprFault.{ExprFault};
-ghost use Rattle.review_words.specs.declared.faults.FileFault.{FileFault};
-ghost use Rattle.review_words.specs.declared.faults.FileFault.TheVariants.{Expr as Faulty};
+ghost use Rattle.review_words.specs.declared.faults.FileFault.{FileFault, TheVariants.Expr as Faulty};
 ghost use Rattle.review_expr.specs.declared.expr.Expr.{Expr};
-ghost use Rattle.review_project.specs.declared.fault.ReadFault.TheVariants.{Pattern};
 ghost use Rattle.review_project.specs.Patterns.{HasDeepPattern, HasPattern};
 ghost use Rattle.review_project.specs.Reading.{IsBadValue, IsFileFault, IsRead, IsReadFault};
-ghost use Rattle.review_project.specs.Rights.{covers};
-ghost use Rattle.review_project.specs.Trees.{file_trees};
-ghost use Rattle.review_project.specs.View.{FileView};
+ghost use Rattle.review_project.specs.{Rights.covers, Trees.file_trees, View.FileView};
+ghost use Rattle.review_project.specs.declared.fault.ReadFault.TheVariants.{Pattern};
 
 use review_expr::one_expression;
 use review_terms::{CopyTerm, RequirementTerm};

@@ -1,10 +1,8 @@
 -- The change whose number a text is.
 use Rattle.std.proofs.Common.{◌≡◌, ◌<◌, ℕ, List, Bool, true, false, Option, Some, None, arith, refl, subst}
-use Rattle.std.proofs.lemmas.Bool.Decides.{nat_tests}
-use Rattle.std.specs.Prelude.{option_and_then, if◌then◌else◌}
-use Rattle.review_names.specs.Forms.{is_within, most_changes}
-use Rattle.review_names.specs.Numerals.{number_of, numeral}
+use Rattle.std.{proofs.lemmas.Bool.Decides.nat_tests, specs.Prelude.option_and_then, specs.Prelude.if◌then◌else◌}
 use Rattle.review_names.proofs.Numerals.{number_back, number_shown}
+use Rattle.review_names.specs.{Forms.is_within, Forms.most_changes, Numerals.number_of, Numerals.numeral}
 use Rattle.review_jobs.specs.Jobs.{change_numbered, change_of}
 
 low : (n : ℕ) → is_within most_changes n ≡ true → n < 18446744073709551616

@@ -1,23 +1,19 @@
 -- The kinds that an error of the command line may have give one fault.
 use Rattle.std.proofs.Common.{◌≡◌, ℕ, Bool, true, false, not, List, [], ◌∷◌, Option, Some, None, zero, suc, inl, inr, refl, sym, ap}
+use Rattle.std.specs.{List.list_all, Option.option_map_or}
 use Rattle.std.specs.Prelude.{◌&&◌, ◌||◌, codes, if◌then◌else◌, find, length, encode_utf8, drop, is_some}
-use Rattle.std.specs.List.{list_all}
-use Rattle.std.specs.Option.{option_map_or}
 use Rattle.std.specs.Str.{bytes_eq}
-use Rattle.clap.specs.Lexer.{long_of, short_of}
-use Rattle.clap.specs.Walk.{Held, Names, Row, Rule, Step, Text, Waiting, Walk, action_of, arg_by_id, arg_by_index, arg_by_long, arg_by_short, has_row, is_empty, is_pending, nothing_held, settled, answers_to, takes_several, next, trailing, subcommand, value, subcommand_met, walk_from, walked, walk, word_met, with_default}
-use Rattle.clap.specs.Simple.{App, Shape, argument_words, built, label_of, names_of}
-use Rattle.clap.specs.Kinds.{IsAmong, Kinds, check_kinds, or_else, range_kinds, request_kinds, values_kinds}
+use Rattle.clap.proofs.{OnLiterals.clap_on_literals, WalkLemmas.both}
 use Rattle.clap.specs.Faults.{action_fault, bundle_step_fault, built_fault, count_fault, default_fault, defaults_fault, entered_fault, fault_of, flag_word_fault, flags_fault, level_fault, long_fault, option_fault, other_fault, positional_fault, react_fault, settle_fault, short_fault, step_fault, stray_fault, turn_fault, use_fault, walk_fault, word_fault}
-use Rattle.clap.specs.declared.builder.action.ArgAction.{ArgAction}
-use Rattle.clap.specs.declared.builder.action.ArgAction.TheVariants as action
-use Rattle.clap.specs.declared.builder.value_parser.ValueParser.{ValueParser}
+use Rattle.clap.specs.Kinds.{IsAmong, Kinds, check_kinds, or_else, range_kinds, request_kinds, values_kinds}
+use Rattle.clap.specs.Lexer.{long_of, short_of}
+use Rattle.clap.specs.Simple.{App, Shape, argument_words, built, label_of, names_of}
+use Rattle.clap.specs.Walk.{Held, Names, Row, Rule, Step, Text, Waiting, Walk, action_of, arg_by_id, arg_by_index, arg_by_long, arg_by_short, has_row, is_empty, is_pending, nothing_held, settled, answers_to, takes_several, next, trailing, subcommand, value, subcommand_met, walk_from, walked, walk, word_met, with_default}
+use Rattle.clap.specs.declared.builder.{action.ArgAction.ArgAction, value_parser.ValueParser.ValueParser}
 use Rattle.clap.specs.declared.error.kind.ErrorKind.{ErrorKind}
+use Rattle.review_jobs.specs.{CommandLine.desk, Faults.fault_of_kind, Faults.refusal}
+use Rattle.clap.specs.declared.builder.action.ArgAction.TheVariants as action
 use Rattle.clap.specs.declared.error.kind.ErrorKind.TheVariants as kind
-use Rattle.clap.proofs.OnLiterals.{clap_on_literals}
-use Rattle.clap.proofs.WalkLemmas.{both}
-use Rattle.review_jobs.specs.CommandLine.{desk}
-use Rattle.review_jobs.specs.Faults.{fault_of_kind, refusal}
 
 -- each of the kinds gives the fault of the first
 pub record Agree (ks : Kinds) : Type 0 where

@@ -1,15 +1,13 @@
 use Rattle.std.proofs.Common.{◌≡◌, ◌∙◌, List, [], true, inl, inr, refl, sym, ap, subst}
 use Rattle.std.specs.Prelude.{◌⊎◌, Result, Err}
-use Rattle.clap.specs.Words.{App, HasKind, HasMatchesOf, Kinds, Text, fault_of, is_simple, is_simple_and_free, kind_of, subcommand_of, subcommand_rows_of}
-use Rattle.clap.specs.declared.parser.matches.ArgMatches.{ArgMatches}
-use Rattle.clap.specs.declared.error.Error.{Error}
 use Rattle.clap.proofs.OnLiterals.{clap_on_literals}
-use Rattle.review_jobs.specs.declared.fault.WordsFault.{WordsFault}
-use Rattle.review_jobs.specs.declared.fault.WordsFault.TheVariants as fault
-use Rattle.review_jobs.specs.CommandLine.{desk}
-use Rattle.review_jobs.specs.Faults.{fault_of_kind, refusal, unless}
-use Rattle.review_jobs.specs.Jobs.{Spelled, job_found, job_taken}
+use Rattle.clap.specs.Words.{App, HasKind, HasMatchesOf, Kinds, Text, fault_of, is_simple, is_simple_and_free, kind_of}
+use Rattle.clap.specs.Words.{subcommand_of, subcommand_rows_of}
+use Rattle.clap.specs.declared.{error.Error.Error, parser.matches.ArgMatches.ArgMatches}
 use Rattle.review_jobs.proofs.Refusals.{Agree, desk_agrees}
+use Rattle.review_jobs.specs.{CommandLine.desk, Faults.fault_of_kind, Faults.refusal, Faults.unless}
+use Rattle.review_jobs.specs.{Jobs.Spelled, Jobs.job_found, Jobs.job_taken, declared.fault.WordsFault.WordsFault}
+use Rattle.review_jobs.specs.declared.fault.WordsFault.TheVariants as fault
 
 is_free : is_simple_and_free desk ≡ true
 unfolding clap_on_literals

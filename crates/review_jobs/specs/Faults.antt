@@ -1,13 +1,11 @@
 -- Why words give no job, and what is told of it.
-use Rattle.std.specs.Prelude.{ℕ, Bool, ◌||◌, List, [], ◌∷◌, map, Option, Some, None, codes, if◌then◌else◌, Result, Err}
 use Rattle.std.specs.List.{list_any}
+use Rattle.std.specs.Prelude.{ℕ, Bool, ◌||◌, List, [], ◌∷◌, map, Option, Some, None, codes, if◌then◌else◌, Result, Err}
 use Rattle.std.specs.Str.{bytes_eq}
-use Rattle.clap.specs.Words.{Kinds, Text}
-use Rattle.clap.specs.declared.error.kind.ErrorKind.{ErrorKind}
+use Rattle.clap.specs.{Words.Kinds, Words.Text, declared.error.kind.ErrorKind.ErrorKind}
+use Rattle.review_jobs.specs.{CommandLine.desk, declared.fault.WordsFault.WordsFault}
 use Rattle.clap.specs.declared.error.kind.ErrorKind.TheVariants as kind
-use Rattle.review_jobs.specs.declared.fault.WordsFault.{WordsFault}
 use Rattle.review_jobs.specs.declared.fault.WordsFault.TheVariants as fault
-use Rattle.review_jobs.specs.CommandLine.{desk}
 
 -- a word is the name of a command
 abbrev pub is_command : Text → Bool

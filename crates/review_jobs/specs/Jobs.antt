@@ -2,16 +2,13 @@
 use Rattle.std.specs.Prelude.{◌≡◌, ◌⊎◌, ◌&&◌, ℕ, nat_le, List, Option, Some, None, ok_or, option_and_then, codes, if◌then◌else◌, Result, Ok, Err}
 use Rattle.std.specs.Str.{bytes_eq}
 use Rattle.clap.specs.Words.{Row, Text, first_of, subcommand_of, fault_of}
-use Rattle.review_names.specs.Forms.{is_slashed_name, is_within, most_changes}
-use Rattle.review_names.specs.Numerals.{number_of}
-use Rattle.review_jobs.specs.declared.job.Job.{Job}
+use Rattle.review_names.specs.{Forms.is_slashed_name, Forms.is_within, Forms.most_changes, Numerals.number_of}
+use Rattle.review_jobs.specs.{CommandLine.desk, Faults.command_fault, Faults.refusal, Faults.unless}
+use Rattle.review_jobs.specs.declared.{fault.WordsFault.WordsFault, job.Job.Job}
 use Rattle.review_jobs.specs.declared.job.Job.TheVariants.{Init, Migrate, Apply, Serve, Show, Joined}
 use Rattle.review_jobs.specs.declared.job.Place.{Place}
 use Rattle.review_jobs.specs.declared.job.Place.TheVariants as place
-use Rattle.review_jobs.specs.declared.fault.WordsFault.{WordsFault}
 use Rattle.review_jobs.specs.declared.fault.WordsFault.TheVariants as fault
-use Rattle.review_jobs.specs.CommandLine.{desk}
-use Rattle.review_jobs.specs.Faults.{command_fault, refusal, unless}
 
 -- a job with its values, where a file is its text
 pub data Spelled : Type 0 where

@@ -1,9 +1,9 @@
 //! Words read as a job.
 ghost use Rattle.std.specs.Prelude.{◌≡◌, map, ok_or, option_map, string_bytes};
 ghost use Rattle.clap.specs.Words.{first_of, found_of, rows_of, subcommand_rows_of};
-ghost use Rattle.review_jobs.specs.declared.fault.WordsFault.TheVariants as fault;
 ghost use Rattle.review_jobs.specs.Faults.{asks_help, command_fault, is_command};
 ghost use Rattle.review_jobs.specs.Jobs.{Gives, branch_in, change_in, change_of, count_in, count_of, job_found, job_from, job_on, job_spelled, job_taken, joined_in, port_in, port_of, project_in, serve_in, show_in, spelled};
+ghost use Rattle.review_jobs.specs.declared.fault.WordsFault.TheVariants as fault;
 
 use crate::command::desk_command;
 use crate::fault::WordsFault;

@@ -1,36 +1,28 @@
 -- The comments of whatever a line or a body spells go by the bytes of their places.
 use Rattle.std.proofs.Common.{◌==◌, ℕ, List, length, Option, Some, None}
+use Rattle.std.specs.{Cmp.Lexicographic.slice_cmp, List.Sorted.IsSortedByKey, Ordering.nat_cmp}
 use Rattle.std.specs.Prelude.{IfSome, codes}
-use Rattle.std.specs.Cmp.Lexicographic.{slice_cmp}
-use Rattle.std.specs.List.Sorted.{IsSortedByKey}
-use Rattle.std.specs.Ordering.{nat_cmp}
-use Rattle.serde_json.specs.Data.{Data, object, no_members}
-use Rattle.serde_json.specs.Find.{get, as_object}
-use Rattle.serde_json.specs.Read.{read}
-use Rattle.review_names.specs.Forms.{is_commit, is_line}
-use Rattle.review_names.specs.Names.{is_word}
+use Rattle.serde_json.specs.{Data.Data, Data.object, Data.no_members, Find.get, Find.as_object, Read.read}
+use Rattle.review_names.specs.{Forms.is_commit, Forms.is_line, Names.is_word}
 use Rattle.review_words.specs.declared.changes.NewComment.{NewComment}
-use Rattle.review_words.specs.declared.command.ChangeCommand.{ChangeCommand}
-use Rattle.review_words.specs.declared.command.Command.{Command}
-use Rattle.review_words.specs.declared.command.Delivery.{Delivery}
-use Rattle.review_routes.specs.Parts.{text_at, name_at, members_at, account_at, epoch_at, epoch_or_first}
+use Rattle.review_words.specs.declared.command.{ChangeCommand.ChangeCommand, Command.Command, Delivery.Delivery}
 use Rattle.review_routes.specs.Changes.{new_change, new_patch}
+use Rattle.review_routes.specs.Commands.{change_command_in, command_in, command_of}
 use Rattle.review_routes.specs.Comments.{comments_in}
+use Rattle.review_routes.specs.Parts.{text_at, name_at, members_at, account_at, epoch_at, epoch_or_first}
+use Rattle.review_routes.specs.Questions.{query_of, is_question}
 use Rattle.review_routes.specs.Reviews.{message_in, has_refused, said}
 use Rattle.review_routes.specs.Roles.{account_named_at, role_in}
-use Rattle.review_routes.specs.Votes.{labels_in}
-use Rattle.review_routes.specs.declared.route.ChangeRoute.{ChangeRoute}
+use Rattle.review_routes.specs.Texts.{text_of, value_spelled, if_object, body_spelled}
+use Rattle.review_routes.specs.{Votes.labels_in, declared.route.ChangeRoute.ChangeRoute}
 use Rattle.review_routes.specs.declared.route.ChangeRoute.TheVariants.{Upload, Review, AddReviewer, RemoveReviewer, SetWip, SetReady, Abandon, Restore, AddAttention, RemoveAttention}
 use Rattle.review_routes.specs.declared.route.Route.{Route}
 use Rattle.review_routes.specs.declared.route.Route.TheVariants.{CreateAccount, PutGroup, PutProject, RecordBase, CreateChange, OnChange, Submit, CloseEpoch, Branch, AskChange}
-use Rattle.review_routes.specs.Texts.{text_of, value_spelled, if_object, body_spelled}
-use Rattle.review_routes.specs.Commands.{change_command_in, command_in, command_of}
-use Rattle.review_routes.specs.Questions.{query_of, is_question}
-use Rattle.review_json.specs.Routes.{route_named}
-use Rattle.review_json.specs.Line.{body_in, command_in_line, write_in, read_in, delivery_in, delivery_spelled}
-use Rattle.review_json.specs.Laws.{asked_comments, made_comments, delivered_comments, CommentsOfBodiesGoByPlace, CommentsGoByPlace}
 use Rattle.review_json.proofs.Ordered.{map_some, map_any, then_some, then_any, either_some, IsInOrder, read_in_order, get_in_order}
 use Rattle.review_json.proofs.Places.{bind_some, next_some, absent_some, GoByPlace, comments_by_place, sorted}
+use Rattle.review_json.specs.Laws.{asked_comments, made_comments, delivered_comments, CommentsOfBodiesGoByPlace, CommentsGoByPlace}
+use Rattle.review_json.specs.Line.{body_in, command_in_line, write_in, read_in, delivery_in, delivery_spelled}
+use Rattle.review_json.specs.Routes.{route_named}
 
 in_said : (patch : Option ℕ) (body : Data) → IsInOrder body → IfSome (said patch body) (λ r. GoByPlace r.comments)
 unfolding said

@@ -1,23 +1,19 @@
 -- No reply has a float.
 use Rattle.std.proofs.Common.{◌≡◌, ℕ, ℤ, pos, negsuc, List, [], ◌∷◌, map, Option, Some, None, false, refl}
+use Rattle.serde_json.specs.{Data.Data, Data.number, Data.string, Data.Members, Find.of_integer, View.items_of}
 use Rattle.serde_json.specs.Written.{has_float, items_have_float, members_have_float}
-use Rattle.serde_json.specs.Data.{Data, number, string, Members}
-use Rattle.serde_json.specs.Find.{of_integer}
-use Rattle.serde_json.specs.View.{items_of}
-use Rattle.review_json.specs.Values.{number_data, texts_data, numbers_data}
-use Rattle.review_json.specs.Shown.{vote_data, change_data, joined_change_data, requirement_data, with_answered, comment_data, thread_data, call_data}
-use Rattle.review_json.specs.Answer.{bad_file_data, refusal_data, reply_data}
-use Rattle.review_words.specs.declared.shown.ShownChange.{ShownChange}
-use Rattle.review_words.specs.declared.shown.ShownComment.{ShownComment}
-use Rattle.review_words.specs.declared.shown.ShownVote.{ShownVote}
-use Rattle.review_words.specs.declared.shown.Thread.{Thread}
-use Rattle.review_words.specs.declared.reply.Reply.{Reply}
-use Rattle.review_words.specs.declared.reply.Reply.TheVariants.{Done, Refused, IdentityReused, EpochClosed, NotTaken}
+use Rattle.review_words.specs.declared.faults.FileFault.{FileFault}
+use Rattle.review_words.specs.declared.faults.FileFault.TheVariants.{Toml, UnknownKey, Missing, BadName, Twice, BadValues, Expr, UnknownLabel, Limit as PastLimit}
 use Rattle.review_words.specs.declared.reply.Answer.TheVariants.{Account, Nothing, Change, Patch, Reviewed, Submitted, Branch, Shown, Requirements, Threads, Attention}
 use Rattle.review_words.specs.declared.reply.Refusal.{Refusal}
 use Rattle.review_words.specs.declared.reply.Refusal.TheVariants.{UnknownCaller, NotAdmin, NoProject, NoBranch, NoChange, NoPatchSet, NoAccount, NoComment, NotAllowed, Closed, SameState, WorkInProgress, StalePatchSet, NoLabel, ValueOut, VoteRestricted, CommitKnown, UnknownParent, ChainOutdated, ChainAbandoned, ChainWip, ChainTooLong, RequirementUnsatisfied, NotEligible, NameTaken, BadFile, LabelNarrowed, Limit, NoParent, ParentFixed, ParentDepth, EpochAhead}
-use Rattle.review_words.specs.declared.faults.FileFault.{FileFault}
-use Rattle.review_words.specs.declared.faults.FileFault.TheVariants.{Toml, UnknownKey, Missing, BadName, Twice, BadValues, Expr, UnknownLabel, Limit as PastLimit}
+use Rattle.review_words.specs.declared.reply.Reply.{Reply}
+use Rattle.review_words.specs.declared.reply.Reply.TheVariants.{Done, Refused, IdentityReused, EpochClosed, NotTaken}
+use Rattle.review_words.specs.declared.shown.{ShownChange.ShownChange, ShownComment.ShownComment, ShownVote.ShownVote}
+use Rattle.review_words.specs.declared.shown.Thread.{Thread}
+use Rattle.review_json.specs.Answer.{bad_file_data, refusal_data, reply_data}
+use Rattle.review_json.specs.Shown.{vote_data, change_data, joined_change_data, requirement_data, with_answered, comment_data, thread_data, call_data}
+use Rattle.review_json.specs.Values.{number_data, texts_data, numbers_data}
 
 in_list : {A : Type 0} (data_of : A → Data) → ((x : A) → has_float (data_of x) ≡ false) → (xs : List A) → items_have_float (items_of (map data_of xs)) ≡ false
 in_list data_of one [] = refl

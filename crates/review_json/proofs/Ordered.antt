@@ -1,13 +1,12 @@
 -- What a text spells has the members of each object in the order of their keys.
 use Rattle.std.proofs.Common.{◌≡◌, ℕ, List, Bool, true, false, Option, Some, None, option_map, option_and_then, Ordering, Less, Equal, Greater, cond, refl, ap, ◌∙◌}
-use Rattle.std.specs.Prelude.{⊤, IfSome}
 use Rattle.std.specs.Cmp.Lexicographic.{slice_cmp, nat_list_cmp_total}
-use Rattle.std.specs.Ordering.{nat_cmp, match_ordering, ordering_reverse}
-use Rattle.json.specs.Json as json
+use Rattle.std.specs.{Ordering.nat_cmp, Ordering.match_ordering, Ordering.ordering_reverse, Prelude.⊤, Prelude.IfSome}
 use Rattle.json.specs.Lex.{tokens}
 use Rattle.serde_json.specs.Data.{Data, null, boolean, number, string, array, object, Items, no_items, item, Members, no_members, member, put}
 use Rattle.serde_json.specs.Find.{get, get_member, as_object}
 use Rattle.serde_json.specs.Read.{number_of, of_json, of_items, of_members, max_depth, read}
+use Rattle.json.specs.Json as json
 
 pub map_some : {A B : Type 0} (P : A → Type 0) (Q : B → Type 0) (f : A → B) → ((a : A) → P a → Q (f a)) → (o : Option A) → IfSome o P → IfSome (option_map f o) Q
 map_some P Q f h None x = tt

@@ -1,19 +1,15 @@
 -- The comments that a line spells go by the bytes of their places.
 use Rattle.std.proofs.Common.{◌≡◌, ℕ, suc, zero, ◌<◌, List, [], ◌∷◌, ◌++◌, length, Bool, false, Option, Some, None, refl, sym, ap, subst, ◌∙◌, slice_index_or, add-one, arith}
-use Rattle.std.specs.Prelude.{⊤, IfSome, codes}
-use Rattle.std.specs.Cmp.Lexicographic.{slice_cmp}
-use Rattle.std.specs.List.{AllByRecursion}
-use Rattle.std.specs.List.Sorted.{IsSortedByKey}
-use Rattle.std.specs.Ordering.{nat_cmp, is_lt, ordering_reverse}
 use Rattle.std.proofs.lemmas.Cmp.{nat_list_cmp_total, tied_itself}
+use Rattle.std.specs.{Cmp.Lexicographic.slice_cmp, List.AllByRecursion, List.Sorted.IsSortedByKey}
+use Rattle.std.specs.Ordering.{nat_cmp, is_lt, ordering_reverse}
+use Rattle.std.specs.Prelude.{⊤, IfSome, codes}
 use Rattle.serde_json.specs.Data.{Data, Items, no_items, item, Members, no_members, member}
 use Rattle.serde_json.specs.Find.{get, as_array, as_object}
-use Rattle.review_names.specs.Forms.{is_message, is_place}
-use Rattle.review_names.specs.Numerals.{◌>>=◌}
-use Rattle.review_words.specs.Reviews.{all_written}
-use Rattle.review_words.specs.declared.changes.NewComment.{NewComment}
-use Rattle.review_routes.specs.Parts.{formed, or_absent, name_at, flag_at}
+use Rattle.review_names.specs.{Forms.is_message, Forms.is_place, Numerals.◌>>=◌}
+use Rattle.review_words.specs.{Reviews.all_written, declared.changes.NewComment.NewComment}
 use Rattle.review_routes.specs.Comments.{line_in, answered_in, comment_of, comments_on, comments_at, comments_from, written, comments_of, comments_in}
+use Rattle.review_routes.specs.Parts.{formed, or_absent, name_at, flag_at}
 use Rattle.review_json.proofs.Ordered.{map_some, then_some, either_some, IsBelow, AreAbove, IsInOrder, MembersInOrder, get_in_order, object_in_order}
 
 pub bind_some : {A B : Type 0} (P : A → Type 0) (Q : B → Type 0) (f : A → Option B) → ((a : A) → P a → IfSome (f a) Q) → (o : Option A) → IfSome o P → IfSome (o >>= f) Q

@@ -1,20 +1,17 @@
 -- The JSON of a reply.
 use Rattle.std.specs.Prelude.{ℕ, List, codes, Bool, true, false}
 use Rattle.serde_json.specs.Data.{Data, string, array, object, no_members, member}
-use Rattle.review_words.specs.Refusals.{refusal_number, refusal_name}
-use Rattle.review_words.specs.Faults.{code_name, file_fault_name}
-use Rattle.review_words.specs.declared.reply.Reply.{Reply}
-use Rattle.review_words.specs.declared.reply.Reply.TheVariants.{Done, Refused, IdentityReused, EpochClosed, NotTaken}
+use Rattle.review_words.specs.{Faults.code_name, Faults.file_fault_name, Refusals.refusal_number, Refusals.refusal_name}
+use Rattle.review_words.specs.declared.faults.FileFault.{FileFault, TheVariants.Expr}
 use Rattle.review_words.specs.declared.reply.Answer.{Answer}
 use Rattle.review_words.specs.declared.reply.Answer.TheVariants.{Account, Nothing, Change, Patch, Reviewed, Submitted, Branch, Shown, Requirements, Threads, Attention}
-use Rattle.review_words.specs.declared.reply.Refusal.{Refusal}
-use Rattle.review_words.specs.declared.reply.Refusal.TheVariants.{BadFile, RequirementUnsatisfied}
-use Rattle.review_words.specs.declared.faults.FileFault.{FileFault}
-use Rattle.review_words.specs.declared.faults.FileFault.TheVariants.{Expr}
 use Rattle.review_words.specs.declared.reply.NotTaken.{NotTaken as Cause}
 use Rattle.review_words.specs.declared.reply.NotTaken.TheVariants.{Memory, Store, Damaged, Pattern, Full}
-use Rattle.review_json.specs.Values.{number_data, texts_data, numbers_data}
+use Rattle.review_words.specs.declared.reply.Refusal.{Refusal, TheVariants.BadFile, TheVariants.RequirementUnsatisfied}
+use Rattle.review_words.specs.declared.reply.Reply.{Reply}
+use Rattle.review_words.specs.declared.reply.Reply.TheVariants.{Done, Refused, IdentityReused, EpochClosed, NotTaken}
 use Rattle.review_json.specs.Shown.{joined_data, change_data, requirements_data, threads_data, calls_data}
+use Rattle.review_json.specs.Values.{number_data, texts_data, numbers_data}
 
 -- the name of a cause for which a delivery was not taken
 abbrev pub cause_name : Cause → List ℕ

@@ -1,17 +1,11 @@
 -- What is said of lines and bodies in other words than those by which they are read.
+use Rattle.std.specs.{Cmp.Lexicographic.slice_cmp, List.Sorted.IsSortedByKey, Ordering.nat_cmp}
 use Rattle.std.specs.Prelude.{ℕ, List, [], IfSome}
-use Rattle.std.specs.Cmp.Lexicographic.{slice_cmp}
-use Rattle.std.specs.List.Sorted.{IsSortedByKey}
-use Rattle.std.specs.Ordering.{nat_cmp}
 use Rattle.review_words.specs.declared.changes.NewComment.{NewComment}
-use Rattle.review_words.specs.declared.command.ChangeCommand.{ChangeCommand}
-use Rattle.review_words.specs.declared.command.ChangeCommand.TheVariants.{Review}
-use Rattle.review_words.specs.declared.command.Command.{Command}
-use Rattle.review_words.specs.declared.command.Command.TheVariants.{OnChange}
-use Rattle.review_words.specs.declared.command.Delivery.{Delivery}
-use Rattle.review_words.specs.declared.command.Delivery.TheVariants.{Write, Read}
-use Rattle.review_routes.specs.declared.route.Route.{Route}
-use Rattle.review_routes.specs.Commands.{command_of}
+use Rattle.review_words.specs.declared.command.ChangeCommand.{ChangeCommand, TheVariants.Review}
+use Rattle.review_words.specs.declared.command.Command.{Command, TheVariants.OnChange}
+use Rattle.review_words.specs.declared.command.Delivery.{Delivery, TheVariants.Write, TheVariants.Read}
+use Rattle.review_routes.specs.{Commands.command_of, declared.route.Route.Route}
 use Rattle.review_json.specs.Line.{delivery_spelled}
 
 -- the comments that something asked of a change makes, which is a review alone

@@ -1,17 +1,13 @@
 -- The delivery that a line spells.
 use Rattle.std.specs.Prelude.{ℕ, List, if◌then◌else◌, Option, Some, option_map, option_and_then, codes}
-use Rattle.serde_json.specs.Data.{Data, object, no_members}
-use Rattle.serde_json.specs.Find.{get}
-use Rattle.review_names.specs.Names.{is_word}
-use Rattle.review_names.specs.Numerals.{◌>>=◌}
-use Rattle.review_words.specs.declared.command.Command.{Command}
-use Rattle.review_words.specs.declared.command.Delivery.{Delivery}
+use Rattle.serde_json.specs.{Data.Data, Data.object, Data.no_members, Find.get}
+use Rattle.review_names.specs.{Names.is_word, Numerals.◌>>=◌}
+use Rattle.review_words.specs.declared.command.{Command.Command, Delivery.Delivery}
 use Rattle.review_words.specs.declared.command.Delivery.TheVariants.{Write, Read}
-use Rattle.review_routes.specs.Parts.{or_absent, text_at, name_at, account_at, epoch_or_first}
-use Rattle.review_routes.specs.declared.route.Route.{Route}
-use Rattle.review_routes.specs.Texts.{value_spelled, if_object}
 use Rattle.review_routes.specs.Commands.{command_in}
+use Rattle.review_routes.specs.Parts.{or_absent, text_at, name_at, account_at, epoch_or_first}
 use Rattle.review_routes.specs.Questions.{query_of, is_question}
+use Rattle.review_routes.specs.{Texts.value_spelled, Texts.if_object, declared.route.Route.Route}
 use Rattle.review_json.specs.Routes.{route_named}
 
 -- the body of a line, an object, `{}` where it is absent

@@ -2,14 +2,11 @@
 use Rattle.std.specs.Prelude.{ℕ, List, if◌then◌else◌, Option, Some, None, option_map, option_and_then, codes}
 use Rattle.std.specs.Str.{bytes_eq}
 use Rattle.serde_json.specs.Data.{Data}
-use Rattle.review_names.specs.Names.{is_word}
-use Rattle.review_names.specs.Forms.{is_slashed_name}
-use Rattle.review_names.specs.Numerals.{◌>>=◌}
+use Rattle.review_names.specs.{Forms.is_slashed_name, Names.is_word, Numerals.◌>>=◌}
 use Rattle.review_words.specs.declared.command.ChangeQuery.{ChangeQuery}
 use Rattle.review_words.specs.declared.command.ChangeQuery.TheVariants.{Change, Requirements, Threads, Attention}
 use Rattle.review_routes.specs.Parts.{name_at, account_at, change_at}
-use Rattle.review_routes.specs.Reviews.{patch_in}
-use Rattle.review_routes.specs.declared.route.ChangeRoute.{ChangeRoute}
+use Rattle.review_routes.specs.{Reviews.patch_in, declared.route.ChangeRoute.ChangeRoute}
 use Rattle.review_routes.specs.declared.route.ChangeRoute.TheVariants.{Upload, Review, AddReviewer, RemoveReviewer, SetWip, SetReady, Abandon, Restore, AddAttention, RemoveAttention}
 use Rattle.review_routes.specs.declared.route.Route.{Route}
 use Rattle.review_routes.specs.declared.route.Route.TheVariants.{CreateAccount, PutGroup, PutProject, RecordBase, CreateChange, OnChange, Submit, CloseEpoch, Branch, AskChange}

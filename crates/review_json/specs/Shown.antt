@@ -1,15 +1,10 @@
 -- The JSON of what questions about a change or a branch are told; the members of an object stand in the order of their keys.
 use Rattle.std.specs.Prelude.{ℕ, List, map, codes, Option, Some, None}
 use Rattle.serde_json.specs.Data.{Data, boolean, number, string, array, object, Items, Members, no_members, member}
-use Rattle.serde_json.specs.Find.{of_integer}
-use Rattle.serde_json.specs.View.{items_of}
-use Rattle.review_words.specs.declared.shown.JoinedChange.{JoinedChange}
-use Rattle.review_words.specs.declared.shown.ShownCall.{ShownCall}
-use Rattle.review_words.specs.declared.shown.ShownChange.{ShownChange}
-use Rattle.review_words.specs.declared.shown.ShownComment.{ShownComment}
-use Rattle.review_words.specs.declared.shown.ShownRequirement.{ShownRequirement}
-use Rattle.review_words.specs.declared.shown.ShownVote.{ShownVote}
-use Rattle.review_words.specs.declared.shown.State.{State}
+use Rattle.serde_json.specs.{Find.of_integer, View.items_of}
+use Rattle.review_words.specs.declared.shown.{JoinedChange.JoinedChange, ShownCall.ShownCall, ShownChange.ShownChange}
+use Rattle.review_words.specs.declared.shown.{ShownComment.ShownComment, ShownRequirement.ShownRequirement}
+use Rattle.review_words.specs.declared.shown.{ShownVote.ShownVote, State.State}
 use Rattle.review_words.specs.declared.shown.State.TheVariants.{New, Merged, Abandoned}
 use Rattle.review_words.specs.declared.shown.Status.{Status}
 use Rattle.review_words.specs.declared.shown.Status.TheVariants.{NotApplicable, Overridden, Satisfied, Unsatisfied}

@@ -1,7 +1,6 @@
 -- Numbers and texts as JSON.
 use Rattle.std.specs.Prelude.{ℕ, List, map}
-use Rattle.serde_json.specs.Data.{Data, number, unsigned, string, Items}
-use Rattle.serde_json.specs.View.{items_of}
+use Rattle.serde_json.specs.{Data.Data, Data.number, Data.unsigned, Data.string, Data.Items, View.items_of}
 
 -- a whole number as JSON
 abbrev pub number_data : ℕ → Data

@@ -1,11 +1,10 @@
 //! The JSON text of a reply.
 ghost use Rattle.std.specs.Prelude.{◌≡◌, IfOk, OnOk, false, string_bytes};
-ghost use Rattle.review_words.specs.declared.reply.Answer.TheVariants.{Attention, Branch, Change, Patch, Requirements, Reviewed, Submitted};
 ghost use Rattle.serde_json.specs.Data.{no_members, object};
-ghost use Rattle.serde_json.specs.View.{view, items_view, members_view};
-ghost use Rattle.serde_json.specs.Written.{compact_text};
-ghost use Rattle.review_json.specs.Values.{texts_data, numbers_data};
+ghost use Rattle.serde_json.specs.{View.view, View.items_view, View.members_view, Written.compact_text};
+ghost use Rattle.review_words.specs.declared.reply.Answer.TheVariants.{Attention, Branch, Change, Patch, Requirements, Reviewed, Submitted};
 ghost use Rattle.review_json.specs.Answer.{are_threads, tells_threads, cause_name, answer_data, bad_file_data, refusal_data, reply_data, unsatisfied_data};
+ghost use Rattle.review_json.specs.Values.{texts_data, numbers_data};
 
 use crate::shown::{
     call_values, change_value, joined_values, put_number, put_text, requirement_values,

@@ -2,8 +2,8 @@
 ghost use Rattle.std.specs.Prelude.{◌≡◌, IfOk, OnOk, codes};
 ghost use Rattle.serde_json.specs.Data.{boolean, no_members, object, string, put as with_member};
 ghost use Rattle.serde_json.specs.View.{view, items_view, members_view};
-ghost use Rattle.review_json.specs.Values.{number_data, numbers_data};
 ghost use Rattle.review_json.specs.Shown.{state_name, status_name, vote_data, votes_data, first_members, last_members, change_data, joined_change_data, joined_data, requirement_data, requirements_data, comment_data, call_data, calls_data};
+ghost use Rattle.review_json.specs.Values.{number_data, numbers_data};
 
 use review_words::{
     AccountNo, JoinedChange, ShownCall, ShownChange, ShownComment, ShownRequirement, ShownVote,

@@ -2,8 +2,7 @@
 ghost use Rattle.std.specs.Prelude.{◌≡◌, ◌++◌, ◌∷◌, true, codes, decimal, IfOk, OnOk, map, string_bytes};
 ghost use Rattle.json.specs.Print.{quoted};
 ghost use Rattle.serde_json.specs.Data.{Data, array, boolean, member, no_members};
-ghost use Rattle.serde_json.specs.View.{items_of};
-ghost use Rattle.serde_json.specs.Written.{compact_text, comma_if, members_text};
+ghost use Rattle.serde_json.specs.{View.items_of, Written.compact_text, Written.comma_if, Written.members_text};
 ghost use Rattle.review_json.specs.Shown.{comment_data, ending_members, thread_data, threads_data};
 
 use crate::shown::comment_value;

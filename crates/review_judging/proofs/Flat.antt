@@ -1,16 +1,13 @@
 -- Flat lists: a node behind its members, and a stack that a flat list is run on.
 use Rattle.std.proofs.Common.{◌≡◌, ℕ, zero, suc, ◌+◌, ◌-◌, ◌≤◌, Bool, ◌&&◌, ◌||◌, List, [], ◌∷◌, ◌++◌, length, map, take, drop, get_or, refl, sym, ap, ap₂, ◌∙◌, arith, append_assoc}
+use Rattle.std.proofs.Math.{ListN.drop_of_length-le, Seq.drop-append_seam, Seq.take-append_seam}
 use Rattle.std.proofs.lemmas.List.{append-nil, length-append, length-map, map-append}
-use Rattle.std.proofs.Math.ListN.{drop_of_length-le}
-use Rattle.std.proofs.Math.Seq.{drop-append_seam, take-append_seam}
 use Rattle.std.specs.List.{list_all, list_any}
-use Rattle.review_terms.specs.declared.tree.Node.{Node}
 use Rattle.review_terms.specs.Grammar.{Tree, Term, Neg, All, Any, Trees, End, With, trees}
-use Rattle.review_terms.specs.Views.{view}
-use Rattle.review_judging.specs.declared.compiled.Step.{Step}
+use Rattle.review_terms.specs.{Views.view, declared.tree.Node.Node}
 use Rattle.review_judging.specs.Holds.{holds, all_hold, any_holds}
 use Rattle.review_judging.specs.Postfix.{Entry, NotEntry, AndEntry, OrEntry, entry, how_many, postfix, postfixes}
-use Rattle.review_judging.specs.Stack.{LeadsTo}
+use Rattle.review_judging.specs.{Stack.LeadsTo, declared.compiled.Step.Step}
 
 how_many_trees : {A : Type 0} (ts : List (Tree A)) → how_many (trees ts) ≡ length ts
 how_many_trees [] = refl

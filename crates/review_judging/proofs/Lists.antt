@@ -1,8 +1,8 @@
 -- A test of some component of a text.
 use Rattle.std.proofs.Common.{◌≡◌, ℕ, Bool, true, false, ◌||◌, List, length, refl, sym, ap, ap₂, ◌∙◌}
 use Rattle.std.specs.List.{list_any, position_or_len}
-use Rattle.review_names.specs.Forms.{components}
 use Rattle.review_names.proofs.Components.{Splits, components_split, components_whole, is_slash}
+use Rattle.review_names.specs.Forms.{components}
 
 split_any : (f : List ℕ → Bool) (s first rest : List ℕ) (b : Bool) → Splits s first rest → f first ≡ b → list_any f (components s) ≡ b || list_any f (components rest)
 split_any f s first rest b h e =

@@ -1,31 +1,20 @@
 -- When an expression holds.
-use Rattle.std.specs.Prelude.{ℕ, ℤ, pos, Bool, true, false, not, ◌&&◌, ◌||◌, ◌==◌, nat_le, nat_lt, int_lt, int_le, List, [], Option, Some, None, count_by}
-use Rattle.std.specs.BTreeMap.{BTreeMap, get}
-use Rattle.std.specs.Cmp.Lexicographic.{slice_cmp}
-use Rattle.std.specs.List.{list_any}
+use Rattle.std.specs.{BTreeMap.BTreeMap, BTreeMap.get, Cmp.Lexicographic.slice_cmp, List.list_any}
 use Rattle.std.specs.Ordering.{nat_cmp, int_eq}
+use Rattle.std.specs.Prelude.{ℕ, ℤ, pos, Bool, true, false, not, ◌&&◌, ◌||◌, ◌==◌, nat_le, nat_lt, int_lt, int_le, List, [], Option, Some, None, count_by}
 use Rattle.std.specs.Str.{bytes_eq}
+use Rattle.review_names.specs.{Forms.components, Groups.has_account, declared.kinds.ChangeKind.ChangeKind}
 use Rattle.review_terms.specs.Grammar.{Tree, Term, Neg, All, Any, Trees, End, With}
-use Rattle.review_names.specs.Forms.{components}
-use Rattle.review_names.specs.Groups.{has_account}
-use Rattle.review_terms.specs.Patterns.{matches_whole}
-use Rattle.review_judging.specs.declared.facts.ChangeFacts.{ChangeFacts}
-use Rattle.review_judging.specs.declared.facts.VoteFacts.{VoteFacts}
-use Rattle.review_judging.specs.declared.facts.ValueRange.{ValueRange}
-use Rattle.review_terms.specs.declared.terms.VoteValue.{VoteValue}
+use Rattle.review_terms.specs.{Patterns.matches_whole, declared.terms.Comparison.Comparison}
+use Rattle.review_terms.specs.declared.terms.{CopyTerm.CopyTerm, Count.Count, LabelTerm.LabelTerm}
+use Rattle.review_terms.specs.declared.terms.{RequirementTerm.RequirementTerm, VoteValue.VoteValue, Voters.Voters}
+use Rattle.review_judging.specs.declared.facts.{ChangeFacts.ChangeFacts, ValueRange.ValueRange, VoteFacts.VoteFacts}
 use Rattle.review_terms.specs.declared.terms.VoteValue.TheVariants as value
-use Rattle.review_terms.specs.declared.terms.Comparison.{Comparison}
 use Rattle.review_terms.specs.declared.terms.Comparison.TheVariants as comparison
-use Rattle.review_terms.specs.declared.terms.Voters.{Voters}
 use Rattle.review_terms.specs.declared.terms.Voters.TheVariants as voters
-use Rattle.review_terms.specs.declared.terms.Count.{Count}
 use Rattle.review_terms.specs.declared.terms.Count.TheVariants as count
-use Rattle.review_terms.specs.declared.terms.LabelTerm.{LabelTerm}
-use Rattle.review_names.specs.declared.kinds.ChangeKind.{ChangeKind}
 use Rattle.review_names.specs.declared.kinds.ChangeKind.TheVariants as kind
-use Rattle.review_terms.specs.declared.terms.RequirementTerm.{RequirementTerm}
 use Rattle.review_terms.specs.declared.terms.RequirementTerm.TheVariants as requirement
-use Rattle.review_terms.specs.declared.terms.CopyTerm.{CopyTerm}
 use Rattle.review_terms.specs.declared.terms.CopyTerm.TheVariants as copy
 
 -- a tree holds by the terms that hold

@@ -1,6 +1,6 @@
 -- A stack of truth values on which the entries of a flat list are taken one after the other. Its top is at the end.
-use Rattle.std.specs.Prelude.{◌≡◌, Bool, not, List, [], ◌∷◌, ◌++◌, length}
 use Rattle.std.specs.List.{list_all, list_any}
+use Rattle.std.specs.Prelude.{◌≡◌, Bool, not, List, [], ◌∷◌, ◌++◌, length}
 use Rattle.review_judging.specs.Postfix.{Entry, TermEntry, NotEntry, AndEntry, OrEntry}
 
 -- From a stack, these entries lead to one truth value. A term puts its own on top; NOT takes the one on top, and AND and OR as many as they have members, and each puts one in their place.

@@ -1,8 +1,7 @@
 //! Expressions as flat lists.
-ghost use Rattle.std.specs.Prelude.{◌≡◌, ◌≤◌, ◌<◌, ◌+◌, ◌++◌, ◌∷◌, [], Bool, List, map, length, take, IfOk, OnOk};
 ghost use Rattle.std.specs.List.{list_all, list_any};
-ghost use Rattle.review_terms.specs.Grammar.{Tree, trees};
-ghost use Rattle.review_terms.specs.Views.{view};
+ghost use Rattle.std.specs.Prelude.{◌≡◌, ◌≤◌, ◌<◌, ◌+◌, ◌++◌, ◌∷◌, [], Bool, List, map, length, take, IfOk, OnOk};
+ghost use Rattle.review_terms.specs.{Grammar.Tree, Grammar.trees, Views.view};
 ghost use Rattle.review_judging.specs.Holds.{holds};
 ghost use Rattle.review_judging.specs.Postfix.{AreStepsOfATree, AreStepsOf, Entry, entry, postfix, postfixes};
 ghost use Rattle.review_judging.specs.Stack.{LeadsTo};

@@ -1,8 +1,7 @@
 //! The labels that an expression names.
 ghost use Rattle.std.specs.Prelude.{◌≡◌, ◌++◌, IfOk, OnOk, map};
 ghost use Rattle.review_names.specs.Forms.{text_set};
-ghost use Rattle.review_terms.specs.Grammar.{trees};
-ghost use Rattle.review_terms.specs.Views.{view};
+ghost use Rattle.review_terms.specs.{Grammar.trees, Views.view};
 ghost use Rattle.review_judging.specs.Labels.{all_labels, label_in, labels};
 
 use review_names::LabelName;

@@ -1,9 +1,6 @@
 //! Whether a term of a submit requirement holds for a change.
+ghost use Rattle.std.specs.{List.list_any, List.Sorted.IsStrictlySortedBy, Map.keys_of, Ordering.nat_cmp};
 ghost use Rattle.std.specs.Prelude.{◌≡◌, ◌==◌, ℕ, ℤ, Bool, IfOk, Some, map, count_by};
-ghost use Rattle.std.specs.List.{list_any};
-ghost use Rattle.std.specs.List.Sorted.{IsStrictlySortedBy};
-ghost use Rattle.std.specs.Map.{keys_of};
-ghost use Rattle.std.specs.Ordering.{nat_cmp};
 ghost use Rattle.std.specs.Str.{bytes_eq};
 ghost use Rattle.review_names.specs.Forms.{components};
 ghost use Rattle.review_judging.specs.Holds.{compares, is_count, is_counted, is_value, is_voter, label_holds, meets, range_of, requirement_holds, votes_of};

@@ -1,19 +1,13 @@
 -- Which keys are those of lower epochs, and what stands without them.
 use Rattle.std.proofs.Common.{◌≡◌, ℕ, ◌+◌, ◌<◌, Bool, true, false, cond, ◌||◌, List, [], ◌∷◌, ◌++◌, Option, Some, None, length, get_or, take, map, Bor, refl, sym, ap, ◌∙◌, ⊎_elim, arith}
-use Rattle.std.specs.Prelude.{flat_map, nat_lt}
-use Rattle.std.specs.BTreeMap.{is_at}
-use Rattle.std.specs.Ordering.{is_eq}
-use Rattle.std.specs.Map.Iter.{deref_pair}
-use Rattle.std.proofs.lemmas.Bool.{cases_Bool}
-use Rattle.std.proofs.lemmas.List.{append_assoc, append-nil, map-append, take_more}
-use Rattle.std.proofs.lemmas.List.Folds.{list_any-append}
-use Rattle.std.proofs.lemmas.Cmp.{tied_itself}
+use Rattle.std.proofs.lemmas.{Bool.cases_Bool, Cmp.tied_itself}
+use Rattle.std.proofs.lemmas.List.{append_assoc, append-nil, map-append, take_more, Folds.list_any-append}
 use Rattle.std.proofs.lemmas.Map.Views.{tells_apart}
+use Rattle.std.specs.{BTreeMap.is_at, Map.Iter.deref_pair, Ordering.is_eq, Prelude.flat_map, Prelude.nat_lt}
 use Rattle.review_table.specs.Rows.{row_in}
-use Rattle.review_kept_answers.specs.declared.keys.AnswerKey.{AnswerKey}
-use Rattle.review_kept_answers.specs.declared.keys.StoredAnswer.{StoredAnswer}
-use Rattle.review_kept_answers.specs.Answers.{answer_cmp, is_among, if_lower, lower}
 use Rattle.review_kept_answers.proofs.Orders.{answer_total, exact_answer}
+use Rattle.review_kept_answers.specs.Answers.{answer_cmp, is_among, if_lower, lower}
+use Rattle.review_kept_answers.specs.declared.keys.{AnswerKey.AnswerKey, StoredAnswer.StoredAnswer}
 
 flat_map-append : {A B : Type 0} (f : A → List B) (xs ys : List A) → flat_map f (xs ++ ys) ≡ flat_map f xs ++ flat_map f ys
 flat_map-append f [] ys = refl

@@ -1,17 +1,12 @@
 -- The order of the keys of answers: it is total, and ties only equal keys.
 use Rattle.std.proofs.Common.{◌≡◌, ℕ, Bool, true, false, ◌&&◌, ◌==◌, refl, sym, ◌∙◌}
-use Rattle.std.specs.declared.cmp.Ordering.{Ordering}
-use Rattle.std.specs.declared.cmp.Ordering.TheVariants.{Less, Equal, Greater}
-use Rattle.std.specs.Ordering.{is_eq, nat_cmp, ordering_then}
-use Rattle.std.specs.Cmp.{IsTotalOrder, unsigned_ties}
-use Rattle.std.specs.Cmp.Lexicographic.{slice_cmp}
-use Rattle.std.specs.BTreeMap.{is_at}
-use Rattle.std.specs.Str.{bytes_eq}
 use Rattle.std.proofs.lemmas.Cmp.{then_total, on_total, nat_cmp_total, nat_list_cmp_total}
 use Rattle.std.proofs.lemmas.Map.Lookups.{CmpEqualImpliesEq, exact_unsigned, exact_bytes}
-use Rattle.std.proofs.lemmas.Map.Text.{is_eq-slice_cmp}
-use Rattle.review_kept_answers.specs.declared.keys.AnswerKey.{AnswerKey}
-use Rattle.review_kept_answers.specs.Answers.{answer_cmp}
+use Rattle.std.{proofs.lemmas.Map.Text.is_eq-slice_cmp, specs.BTreeMap.is_at}
+use Rattle.std.specs.Cmp.{IsTotalOrder, unsigned_ties, Lexicographic.slice_cmp}
+use Rattle.std.specs.{Ordering.is_eq, Ordering.nat_cmp, Ordering.ordering_then, Str.bytes_eq}
+use Rattle.std.specs.declared.cmp.Ordering.{Ordering, TheVariants.Less, TheVariants.Equal, TheVariants.Greater}
+use Rattle.review_kept_answers.specs.{Answers.answer_cmp, declared.keys.AnswerKey.AnswerKey}
 
 equal_parts : (a b : Ordering) → ordering_then a b ≡ Equal → (a ≡ Equal) × (b ≡ Equal)
 equal_parts Equal b e = (refl, e)

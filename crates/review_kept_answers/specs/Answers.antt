@@ -1,13 +1,10 @@
 -- Stored requests by their identities, and which of them are of lower epochs.
-use Rattle.std.specs.Prelude.{Bool, nat_lt, flat_map, ◌++◌, if◌then◌else◌, ℕ, List, [], ◌∷◌, Option, Some, None}
-use Rattle.std.specs.List.{list_any}
-use Rattle.std.specs.BTreeMap.{is_at}
-use Rattle.std.specs.declared.cmp.Ordering.{Ordering}
+use Rattle.std.specs.{BTreeMap.is_at, Cmp.Lexicographic.slice_cmp, List.list_any}
 use Rattle.std.specs.Ordering.{nat_cmp, ordering_then}
-use Rattle.std.specs.Cmp.Lexicographic.{slice_cmp}
+use Rattle.std.specs.Prelude.{Bool, nat_lt, flat_map, ◌++◌, if◌then◌else◌, ℕ, List, [], ◌∷◌, Option, Some, None}
+use Rattle.std.specs.declared.cmp.Ordering.{Ordering}
 use Rattle.review_words.specs.History.{Identity}
-use Rattle.review_kept_answers.specs.declared.keys.AnswerKey.{AnswerKey}
-use Rattle.review_kept_answers.specs.declared.keys.StoredAnswer.{StoredAnswer}
+use Rattle.review_kept_answers.specs.declared.keys.{AnswerKey.AnswerKey, StoredAnswer.StoredAnswer}
 
 -- by epoch, then by caller, then by id
 abbrev pub answer_cmp : AnswerKey → AnswerKey → Ordering

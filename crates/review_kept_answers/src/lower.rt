@@ -1,10 +1,10 @@
 //! What is given up of lower epochs.
-ghost use Rattle.std.specs.Prelude.{◌≡◌, ◌++◌, IfOk, OnOk, None, map, if◌then◌else◌};
 ghost use Rattle.std.specs.Map.Iter.{deref_pair};
+ghost use Rattle.std.specs.Prelude.{◌≡◌, ◌++◌, IfOk, OnOk, None, map, if◌then◌else◌};
 ghost use Rattle.review_table.specs.Rows.{row_in, rows_of, HasNoEmptyPlace};
 ghost use Rattle.review_rows.specs.Rows.{kept_row};
-ghost use Rattle.review_kept_answers.specs.declared.keys.AnswerKey.{AnswerKey};
 ghost use Rattle.review_kept_answers.specs.Answers.{answer_cmp, if_lower, is_among, key_of, lower, lower_of};
+ghost use Rattle.review_kept_answers.specs.declared.keys.AnswerKey.{AnswerKey};
 
 use crate::keys::{AnswerKey, StoredAnswer};
 use review_rows::Kept;

@@ -1,28 +1,17 @@
 -- Bases of branches, after one more is put at its place.
-use Rattle.std.specs.Prelude.{max}
-use Rattle.std.specs.Int.{from_bool}
 use Rattle.std.proofs.Common.{zero, suc, ◌≡◌, ℕ, ◌+◌, ◌<◌, ◌≤◌, ◌==◌, Bool, true, false, cond, not, ◌&&◌, List, [], ◌∷◌, Option, Some, None, ap, sym, ◌∙◌, refl, subst, ⊎_elim, ◌⊎◌, inl, inr, eqb-true, arith}
-use Rattle.std.specs.Option.{is_some, IsSome, unwrap_or}
-use Rattle.std.specs.declared.cmp.Ordering.{Ordering}
-use Rattle.std.specs.Ordering.{nat_cmp}
-use Rattle.std.specs.Cmp.{IsTotalOrder}
-use Rattle.std.specs.Cmp.Lexicographic.{slice_cmp}
-use Rattle.std.specs.Str.{bytes_eq}
-use Rattle.std.specs.BTreeMap.{is_at}
 use Rattle.std.proofs.lemmas.Bool.{cases_Bool, and_parts, cases_lt, eqb-false}
-use Rattle.std.proofs.lemmas.Slice.Eq.{bytes_eq-Decides}
-use Rattle.std.proofs.lemmas.Map.Text.{is_eq-slice_cmp}
 use Rattle.std.proofs.lemmas.Cmp.{then_total, on_total, nat_cmp_total, nat_list_cmp_total}
+use Rattle.std.proofs.lemmas.{Map.Text.is_eq-slice_cmp, Slice.Eq.bytes_eq-Decides}
+use Rattle.std.specs.{BTreeMap.is_at, Cmp.IsTotalOrder, Cmp.Lexicographic.slice_cmp, Int.from_bool, List.All}
+use Rattle.std.specs.Option.{is_some, IsSome, unwrap_or}
+use Rattle.std.specs.{Ordering.nat_cmp, Prelude.max, Str.bytes_eq, declared.cmp.Ordering.Ordering}
 use Rattle.review_table.specs.Rows.{row_in, after_change, changed, HasNoEmptyPlace, HasEmptyOnly}
-use Rattle.std.specs.List.{All}
 use Rattle.review_table.specs.declared.table.Change.{Change}
-use Rattle.review_rows.specs.declared.rows.BranchKey.{BranchKey}
-use Rattle.review_rows.specs.declared.rows.Put.{Put}
-use Rattle.review_rows.specs.Rows.{branch_cmp, place_cmp}
-use Rattle.review_rows.specs.declared.rows.PlaceKey.{PlaceKey}
-use Rattle.review_rows.proofs.Puts.{at_place_of, is_eq-then}
-use Rattle.review_kept_rows.specs.declared.keys.CommitKey.{CommitKey}
+use Rattle.review_rows.{proofs.Puts.at_place_of, proofs.Puts.is_eq-then, specs.Rows.branch_cmp, specs.Rows.place_cmp}
+use Rattle.review_rows.specs.declared.rows.{BranchKey.BranchKey, PlaceKey.PlaceKey, Put.Put}
 use Rattle.review_kept_rows.specs.Bases.{commit_cmp, base_at, total_in, last_in, AreListed, AreLast, IsLastPlace}
+use Rattle.review_kept_rows.specs.declared.keys.CommitKey.{CommitKey}
 
 pub commit_total : IsTotalOrder commit_cmp
 commit_total =

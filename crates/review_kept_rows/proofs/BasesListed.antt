@@ -1,24 +1,16 @@
 -- The index of bases by commit, after one more is put at its place.
 use Rattle.std.proofs.Common.{◌≡◌, ℕ, ◌≤◌, Bool, true, false, cond, not, ◌&&◌, List, Option, Some, None, ap, sym, ◌∙◌, refl, subst, ⊎_elim}
-use Rattle.std.specs.Option.{option_map}
-use Rattle.std.specs.Ordering.{is_eq, nat_cmp, ordering_then}
-use Rattle.std.specs.Cmp.Lexicographic.{slice_cmp}
-use Rattle.std.specs.Str.{bytes_eq}
-use Rattle.std.specs.BTreeMap.{is_at}
-use Rattle.std.proofs.lemmas.Bool.{cases_Bool, and_parts}
-use Rattle.std.proofs.lemmas.Cmp.{tied_itself}
-use Rattle.std.proofs.lemmas.Option.{same_Some}
-use Rattle.std.proofs.lemmas.Slice.Eq.{bytes_eq-Decides}
+use Rattle.std.proofs.lemmas.{Bool.cases_Bool, Bool.and_parts, Cmp.tied_itself}
 use Rattle.std.proofs.lemmas.Map.Lookups.{CmpEqualImpliesEq, exact_unsigned, exact_bytes}
-use Rattle.std.proofs.lemmas.Map.Views.{tells_apart}
+use Rattle.std.proofs.lemmas.{Map.Views.tells_apart, Option.same_Some, Slice.Eq.bytes_eq-Decides}
+use Rattle.std.specs.{BTreeMap.is_at, Cmp.Lexicographic.slice_cmp, Option.option_map}
+use Rattle.std.specs.{Ordering.is_eq, Ordering.nat_cmp, Ordering.ordering_then, Str.bytes_eq}
 use Rattle.review_table.specs.Rows.{row_in}
-use Rattle.review_rows.specs.declared.rows.Put.{Put}
-use Rattle.review_rows.specs.declared.rows.PlaceKey.{PlaceKey}
-use Rattle.review_kept_rows.specs.declared.keys.CommitKey.{CommitKey}
-use Rattle.review_rows.specs.Rows.{place_cmp}
-use Rattle.review_kept_rows.specs.Bases.{commit_cmp, commit_at, greatest_place, is_stale, AreListed}
 use Rattle.review_rows.proofs.Puts.{exact_place, place_total, both_equal}
+use Rattle.review_rows.specs.{Rows.place_cmp, declared.rows.PlaceKey.PlaceKey, declared.rows.Put.Put}
 use Rattle.review_kept_rows.proofs.Based.{WithRow, commit_total}
+use Rattle.review_kept_rows.specs.Bases.{commit_cmp, commit_at, greatest_place, is_stale, AreListed}
+use Rattle.review_kept_rows.specs.declared.keys.CommitKey.{CommitKey}
 
 exact_commit : CmpEqualImpliesEq commit_cmp
 exact_commit x y e =

@@ -1,14 +1,10 @@
 -- The places of a branch: as a list, and found by a commit.
 use Rattle.std.proofs.Common.{◌≡◌, ℕ, ◌+◌, ◌<◌, ◌≤◌, ◌==◌, zero, suc, Bool, true, false, cond, ◌&&◌, not, List, [], ◌∷◌, ◌++◌, length, Some, None, ap, sym, ◌∙◌, refl, ⊎_elim, eqb-true, eq-eqb, arith, length-append}
-use Rattle.std.specs.Option.{is_some, IsSome}
+use Rattle.std.proofs.lemmas.{Bool.cases_lt, Cmp.nat_list_cmp_total, Cmp.tied_itself}
+use Rattle.std.specs.{Cmp.unsigned_ties, Option.is_some, Option.IsSome}
 use Rattle.std.specs.Ordering.{is_le, is_lt, nat_cmp, ordering_then}
-use Rattle.std.specs.Cmp.{unsigned_ties}
-use Rattle.std.proofs.lemmas.Cmp.{nat_list_cmp_total, tied_itself}
-use Rattle.std.proofs.lemmas.Bool.{cases_lt}
-use Rattle.review_rows.specs.declared.rows.BranchKey.{BranchKey}
-use Rattle.review_rows.specs.Known.{at_place}
 use Rattle.review_rows.proofs.Placing.{nothing_at_zero, past_end, some_at, placed_more}
-use Rattle.review_rows.specs.declared.rows.PlaceKey.{PlaceKey}
+use Rattle.review_rows.specs.{Known.at_place, declared.rows.BranchKey.BranchKey, declared.rows.PlaceKey.PlaceKey}
 use Rattle.review_kept_rows.specs.Bases.{base_at, commit_cmp, AreBases, IsLastPlace, greatest_place}
 
 -- a place before the last one that has none makes a gap

@@ -1,31 +1,20 @@
 -- The changes that joined a branch, by the index of their places.
 use Rattle.std.proofs.Common.{◌≡◌, ℕ, ◌<◌, ◌≤◌, ◌==◌, ◌⊎◌, inl, inr, ⊎_elim, Bool, true, false, cond, ◌&&◌, not, max, List, ◌∷◌, Option, Some, None, refl, sym, ap, ◌∙◌, subst, eqb-true, eq-eqb, arith}
-use Rattle.std.specs.Option.{option_map}
-use Rattle.std.specs.declared.cmp.Ordering.{Ordering}
-use Rattle.std.specs.declared.cmp.Ordering.TheVariants.{Less, Equal, Greater}
-use Rattle.std.specs.declared.ops.Bound.TheVariants.{Included}
-use Rattle.std.specs.BTreeMap.{is_at}
-use Rattle.std.specs.BTreeMap.Range.{range_contains}
-use Rattle.std.specs.Ordering.{is_le, is_lt, nat_cmp, ordering_then}
-use Rattle.std.specs.Cmp.{nat_cmp_is}
-use Rattle.std.specs.Str.{bytes_eq}
-use Rattle.std.proofs.lemmas.Bool.{and_parts}
-use Rattle.std.proofs.lemmas.Cmp.{tied_itself}
-use Rattle.std.proofs.lemmas.Map.Lookups.{CmpEqualImpliesEq}
-use Rattle.std.proofs.lemmas.Map.Views.{tells_apart}
+use Rattle.std.proofs.lemmas.{Bool.and_parts, Cmp.tied_itself, Map.Lookups.CmpEqualImpliesEq, Map.Views.tells_apart}
 use Rattle.std.proofs.lemmas.Slice.Eq.{bytes_eq-Decides}
+use Rattle.std.specs.{BTreeMap.is_at, BTreeMap.Range.range_contains, Cmp.nat_cmp_is, Option.option_map}
+use Rattle.std.specs.{Ordering.is_le, Ordering.is_lt, Ordering.nat_cmp, Ordering.ordering_then, Str.bytes_eq}
+use Rattle.std.specs.declared.cmp.Ordering.{Ordering, TheVariants.Less, TheVariants.Equal, TheVariants.Greater}
+use Rattle.std.specs.declared.ops.Bound.TheVariants.{Included}
 use Rattle.review_table.specs.Rows.{row_in}
-use Rattle.review_changes.specs.Parts.{TheHeader, PartRow, AHeader}
-use Rattle.review_changes.specs.declared.rows.Header.{Header}
-use Rattle.review_rows.specs.Rows.{APart, branch_cmp}
-use Rattle.review_rows.specs.Known.{IsAtPlace, IsLastJoined}
-use Rattle.review_rows.specs.declared.rows.BranchKey.{BranchKey as Branch}
+use Rattle.review_changes.specs.{Parts.TheHeader, Parts.PartRow, Parts.AHeader, declared.rows.Header.Header}
 use Rattle.review_rows.proofs.Learning.{branch_total, exact_branch}
+use Rattle.review_rows.specs.Known.{IsAtPlace, IsLastJoined}
+use Rattle.review_rows.specs.{Rows.APart, Rows.branch_cmp, declared.rows.BranchKey.BranchKey as Branch}
 use Rattle.review_change_rows.specs.declared.tables.ChangeTables.{ChangeTables}
-use Rattle.review_kept_rows.specs.declared.places.PlaceKey.{PlaceKey}
+use Rattle.review_kept_rows.proofs.{Placed.exact_place, Sending.between_parts, Sending.header_is}
 use Rattle.review_kept_rows.specs.Kept.{is_placed, part_at, part_where, place_cmp, row_of, ArePlaced, IsPlaceKey}
-use Rattle.review_kept_rows.proofs.Placed.{exact_place}
-use Rattle.review_kept_rows.proofs.Sending.{between_parts, header_is}
+use Rattle.review_kept_rows.specs.declared.places.PlaceKey.{PlaceKey}
 
 -- the ends of a branch's part of the index
 abbrev pub from_place : Branch → PlaceKey

@@ -1,9 +1,7 @@
 -- Keys that are left once one is looked at.
 use Rattle.std.proofs.Common.{◌≡◌, Bool, true, false, cond, List, ◌∷◌, Some, refl, subst}
-use Rattle.std.specs.declared.cmp.Ordering.{Ordering}
-use Rattle.std.specs.BTreeMap.{is_at}
-use Rattle.std.proofs.lemmas.Map.Lookups.{CmpEqualImpliesEq}
-use Rattle.std.proofs.lemmas.Map.Views.{tells_apart}
+use Rattle.std.proofs.lemmas.Map.{Lookups.CmpEqualImpliesEq, Views.tells_apart}
+use Rattle.std.specs.{BTreeMap.is_at, declared.cmp.Ordering.Ordering}
 use Rattle.review_table.specs.Rows.{row_in}
 
 -- a key for which something holds is not missed where it doesn't hold for the one that was looked at

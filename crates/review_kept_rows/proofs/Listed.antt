@@ -1,37 +1,28 @@
 -- The list of the changes that joined a branch.
 use Rattle.std.proofs.Common.{◌≡◌, ℕ, zero, suc, ◌<◌, ◌⊎◌, inl, inr, ⊎_elim, Bool, true, false, cond, ◌&&◌, not, List, [], ◌∷◌, ◌++◌, get_or, Option, Some, None, refl, sym, ap, ◌∙◌, subst, arith}
-use Rattle.std.specs.Prelude.{AllPairs, option_to_list}
-use Rattle.std.specs.Option.{option_map}
-use Rattle.std.specs.List.{All, AllByRecursion, Contains, filter}
-use Rattle.std.specs.List.Sorted.{IsStrictlySortedBy}
-use Rattle.std.specs.Map.{keys_of}
-use Rattle.std.specs.declared.cmp.Ordering.{Ordering}
-use Rattle.std.specs.declared.cmp.Ordering.TheVariants.{Less, Equal, Greater}
-use Rattle.std.specs.declared.ops.Bound.TheVariants.{Included}
-use Rattle.std.specs.BTreeMap.Range.{range_contains}
-use Rattle.std.specs.Ordering.{is_le, is_lt, nat_cmp, ordering_then}
 use Rattle.std.proofs.lemmas.Cmp.{ranked, tied_itself}
 use Rattle.std.proofs.lemmas.List.Elements.{All-push, Contains-append_left, Contains-push}
-use Rattle.std.proofs.lemmas.List.Quantifiers.{all_pairs_push}
-use Rattle.std.proofs.lemmas.List.Kept.{IsStrictlySortedBy-filter}
-use Rattle.std.proofs.lemmas.Map.Lookups.{exact_unsigned}
-use Rattle.review_words.specs.declared.shown.JoinedChange.{JoinedChange}
+use Rattle.std.proofs.lemmas.List.{Kept.IsStrictlySortedBy-filter, Quantifiers.all_pairs_push}
+use Rattle.std.{proofs.lemmas.Map.Lookups.exact_unsigned, specs.BTreeMap.Range.range_contains}
+use Rattle.std.specs.List.{All, AllByRecursion, Contains, filter, Sorted.IsStrictlySortedBy}
+use Rattle.std.specs.{Map.keys_of, Option.option_map}
+use Rattle.std.specs.Ordering.{is_le, is_lt, nat_cmp, ordering_then}
+use Rattle.std.specs.Prelude.{AllPairs, option_to_list}
+use Rattle.std.specs.declared.cmp.Ordering.{Ordering, TheVariants.Less, TheVariants.Equal, TheVariants.Greater}
+use Rattle.std.specs.declared.ops.Bound.TheVariants.{Included}
+use Rattle.review_table.proofs.{Lasts.between, Lasts.keys_filtered, Places.row_between}
 use Rattle.review_table.specs.Rows.{row_in, rows_of}
-use Rattle.review_table.proofs.Lasts.{between, keys_filtered}
-use Rattle.review_table.proofs.Places.{row_between}
-use Rattle.review_changes.specs.Parts.{TheHeader, AHeader}
-use Rattle.review_changes.specs.declared.rows.PatchRow.{PatchRow}
-use Rattle.review_rows.specs.Rows.{Key, Row, APart, branch_cmp}
+use Rattle.review_words.specs.declared.shown.JoinedChange.{JoinedChange}
+use Rattle.review_changes.specs.{Parts.TheHeader, Parts.AHeader, declared.rows.PatchRow.PatchRow}
+use Rattle.review_rows.proofs.{Joins.one_joined, Joins.one_place, Learning.branch_total}
 use Rattle.review_rows.specs.Known.{HaveJoined, IsAtPlace, IsBefore, IsJoinedAt}
+use Rattle.review_rows.specs.Rows.{Key, Row, APart, branch_cmp}
 use Rattle.review_rows.specs.declared.rows.BranchKey.{BranchKey as Branch}
-use Rattle.review_rows.proofs.Learning.{branch_total}
 use Rattle.review_change_rows.specs.declared.tables.ChangeTables.{ChangeTables}
-use Rattle.review_kept_rows.specs.declared.places.PlaceKey.{PlaceKey}
-use Rattle.review_rows.proofs.Joins.{one_joined, one_place}
-use Rattle.review_kept_rows.specs.Kept.{is_placed, part_where, place_cmp, row_of, AddsJoined, ArePlaced, IsCurrentOf, IsJoinedOrNot}
-use Rattle.review_kept_rows.proofs.Placed.{exact_place, place_total}
-use Rattle.review_kept_rows.proofs.Merged.{current_is, no_patch}
 use Rattle.review_kept_rows.proofs.Joined.{first_or_rest, from_place, to_place, key_at, own_branch, place_between, place_listed, placed_found, placed_is}
+use Rattle.review_kept_rows.proofs.{Merged.current_is, Merged.no_patch, Placed.exact_place, Placed.place_total}
+use Rattle.review_kept_rows.specs.Kept.{is_placed, part_where, place_cmp, row_of, AddsJoined, ArePlaced, IsCurrentOf, IsJoinedOrNot}
+use Rattle.review_kept_rows.specs.declared.places.PlaceKey.{PlaceKey}
 
 module _ (row : Key → Option Row) (key : Branch) where
   -- the list so far, and the keys that are left

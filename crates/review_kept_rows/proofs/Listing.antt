@@ -1,13 +1,12 @@
 -- Lists of edits and of keys, one more each.
 use Rattle.std.proofs.Common.{◌≡◌, ℕ, zero, suc, arith, ◌+◌, ◌<◌, List, [], ◌∷◌, ◌++◌, Option, Some, None, length, take, drop, get_or, refl, sym, ap, ◌∙◌, subst}
-use Rattle.std.specs.Prelude.{flat_map}
-use Rattle.std.proofs.lemmas.List.{take_more}
+use Rattle.std.{proofs.lemmas.List.take_more, specs.Prelude.flat_map}
 use Rattle.review_table.specs.declared.table.Change.{Change}
 use Rattle.review_changes.specs.declared.rows.PatchRow.{PatchRow}
 use Rattle.review_rows.specs.declared.rows.ChangeEdit.{ChangeEdit}
 use Rattle.review_change_rows.specs.declared.tables.ChangeTables.{ChangeTables}
-use Rattle.review_kept_rows.specs.declared.kept.SentKey.{SentKey}
 use Rattle.review_kept_rows.specs.Kept.{sent_by, sent_in, with_sent, PutsEdited, PutAllEdited}
+use Rattle.review_kept_rows.specs.declared.kept.SentKey.{SentKey}
 
 assoc : {X : Type 0} (xs ys zs : List X) → (xs ++ ys) ++ zs ≡ xs ++ (ys ++ zs)
 assoc [] ys zs = refl

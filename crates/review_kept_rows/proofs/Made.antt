@@ -1,15 +1,11 @@
 -- What edits make of the tables of changes.
 use Rattle.std.proofs.Common.{◌≡◌, ℕ, ◌==◌, List, [], ◌∷◌, Option, Some, None, Bool, true, false, cond, refl, sym, ap, ◌∙◌, eqb-true}
-use Rattle.std.specs.Option.{IsSome}
-use Rattle.std.specs.List.{All, AllByRecursion}
-use Rattle.std.specs.Ordering.{nat_cmp}
-use Rattle.std.specs.Cmp.{unsigned_tied}
 use Rattle.std.proofs.lemmas.List.Elements.{All-from_recursion}
-use Rattle.review_table.specs.declared.table.Change.{Change}
+use Rattle.std.specs.{Cmp.unsigned_tied, List.All, List.AllByRecursion, Option.IsSome, Ordering.nat_cmp}
 use Rattle.review_table.specs.Rows.{after_change, changed, change_of, row_in}
+use Rattle.review_table.specs.declared.table.Change.{Change}
 use Rattle.review_changes.specs.Parts.{Part}
-use Rattle.review_rows.specs.Rows.{edited, part_change}
-use Rattle.review_rows.specs.declared.rows.ChangeEdit.{ChangeEdit}
+use Rattle.review_rows.specs.{Rows.edited, Rows.part_change, declared.rows.ChangeEdit.ChangeEdit}
 use Rattle.review_change_rows.specs.declared.tables.ChangeTables.{ChangeTables}
 use Rattle.review_kept_rows.specs.Kept.{part_at, part_where, PutAllEdited}
 

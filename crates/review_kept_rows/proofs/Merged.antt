@@ -1,24 +1,16 @@
 -- Which change has sent a commit, and which of them is merged with it.
 use Rattle.std.proofs.Common.{◌≡◌, ℕ, Bool, true, false, ◌&&◌, List, Option, Some, None, Result, Ok, Err, refl, ap, ◌∙◌, subst, sym}
+use Rattle.std.proofs.lemmas.{Bool.and_parts, Slice.Eq.bytes_eq-Decides}
+use Rattle.std.specs.{Cmp.nat_cmp_is, Option.option_map, Option.IsSome, Ordering.nat_cmp}
 use Rattle.std.specs.Prelude.{IfOk, MatchBool, is_some}
-use Rattle.std.specs.declared.alloc.AllocError.{AllocError}
-use Rattle.std.specs.Option.{option_map, IsSome}
-use Rattle.std.specs.Ordering.{nat_cmp}
-use Rattle.std.specs.Cmp.{nat_cmp_is}
-use Rattle.std.specs.declared.cmp.Ordering.TheVariants.{Less}
-use Rattle.std.specs.Str.{bytes_eq}
-use Rattle.std.proofs.lemmas.Bool.{and_parts}
-use Rattle.std.proofs.lemmas.Slice.Eq.{bytes_eq-Decides}
+use Rattle.std.specs.{Str.bytes_eq, declared.alloc.AllocError.AllocError, declared.cmp.Ordering.TheVariants.Less}
 use Rattle.review_table.specs.Rows.{row_in, rows_of}
 use Rattle.review_changes.specs.Parts.{TheHeader, PatchOf, APatch}
-use Rattle.review_changes.specs.declared.rows.Header.{Header}
-use Rattle.review_changes.specs.declared.rows.PatchRow.{PatchRow}
-use Rattle.review_rows.specs.Rows.{APart}
-use Rattle.review_rows.specs.Known.{IsCurrent, IsMergedWith, IsSentBy}
-use Rattle.review_rows.specs.declared.rows.Base.{Base}
+use Rattle.review_changes.specs.declared.rows.{Header.Header, PatchRow.PatchRow}
+use Rattle.review_rows.specs.{Known.IsCurrent, Known.IsMergedWith, Known.IsSentBy, Rows.APart, declared.rows.Base.Base}
 use Rattle.review_change_rows.specs.declared.tables.ChangeTables.{ChangeTables}
-use Rattle.review_kept_rows.specs.Kept.{has_commit, is_sent, part_where, row_of, IsCurrentOf, IsFoundSent, IsLastOf, IsSentAs, IsSentIn}
 use Rattle.review_kept_rows.proofs.Sending.{sender_found, sender_with, patch_of, header_is}
+use Rattle.review_kept_rows.specs.Kept.{has_commit, is_sent, part_where, row_of, IsCurrentOf, IsFoundSent, IsLastOf, IsSentAs, IsSentIn}
 
 pub sent_of : (merged : Bool) (o : Option ChangeTables) (base : Base) (p : ℕ) → IsSentAs merged o base p → is_sent o base p ≡ true
 sent_of merged None base p is = absurd is

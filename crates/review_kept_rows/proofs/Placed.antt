@@ -1,24 +1,17 @@
 -- The index of changes by their places in branches, once changes are edited.
 use Rattle.std.proofs.Common.{◌≡◌, ℕ, ◌<◌, ◌==◌, List, [], ◌∷◌, ◌++◌, Option, Some, None, Bool, true, false, cond, refl, sym, ap, ◌∙◌, subst, eqb-true, arith}
-use Rattle.std.specs.Prelude.{flat_map}
-use Rattle.std.specs.declared.cmp.Ordering.{Ordering}
-use Rattle.std.specs.declared.cmp.Ordering.TheVariants.{Less, Equal, Greater}
-use Rattle.std.specs.Ordering.{nat_cmp, ordering_then}
-use Rattle.std.specs.Cmp.{IsTotalOrder}
-use Rattle.std.proofs.lemmas.Bool.Decides.{nat_tests}
-use Rattle.std.proofs.lemmas.Cmp.{then_total, on_total, nat_cmp_total}
+use Rattle.std.proofs.lemmas.{Bool.Decides.nat_tests, Cmp.then_total, Cmp.on_total, Cmp.nat_cmp_total}
 use Rattle.std.proofs.lemmas.Map.Lookups.{CmpEqualImpliesEq, exact_unsigned}
-use Rattle.review_table.specs.declared.table.Change.{Change}
-use Rattle.review_table.specs.Rows.{after_change, is_named, row_in}
-use Rattle.review_changes.specs.Parts.{Part, TheHeader, PartRow, AHeader}
-use Rattle.review_changes.specs.declared.rows.Header.{Header}
-use Rattle.review_rows.specs.Rows.{branch_cmp, edited, part_change}
-use Rattle.review_rows.specs.declared.rows.ChangeEdit.{ChangeEdit}
+use Rattle.std.specs.{Cmp.IsTotalOrder, Ordering.nat_cmp, Ordering.ordering_then, Prelude.flat_map}
+use Rattle.std.specs.declared.cmp.Ordering.{Ordering, TheVariants.Less, TheVariants.Equal, TheVariants.Greater}
+use Rattle.review_table.specs.{Rows.after_change, Rows.is_named, Rows.row_in, declared.table.Change.Change}
+use Rattle.review_changes.specs.{Parts.Part, Parts.TheHeader, Parts.PartRow, Parts.AHeader, declared.rows.Header.Header}
 use Rattle.review_rows.proofs.Learning.{branch_total, exact_branch}
+use Rattle.review_rows.specs.{Rows.branch_cmp, Rows.edited, Rows.part_change, declared.rows.ChangeEdit.ChangeEdit}
 use Rattle.review_change_rows.specs.declared.tables.ChangeTables.{ChangeTables}
-use Rattle.review_kept_rows.specs.declared.places.PlaceKey.{PlaceKey}
-use Rattle.review_kept_rows.specs.Kept.{part_at, place_cmp, place_of, placed_in, ArePlaced, ArePlaceKeys, IsPlaceKey}
 use Rattle.review_kept_rows.proofs.Puts.{all_so, first_named, named_left, named_right, put_there, puts_append, stays_there, OnlyPuts, WithKeys}
+use Rattle.review_kept_rows.specs.Kept.{part_at, place_cmp, place_of, placed_in, ArePlaced, ArePlaceKeys, IsPlaceKey}
+use Rattle.review_kept_rows.specs.declared.places.PlaceKey.{PlaceKey}
 
 both_equal : (a b : Ordering) → ordering_then a b ≡ Equal → (a ≡ Equal) × (b ≡ Equal)
 both_equal Equal b e = (refl, e)

@@ -1,19 +1,11 @@
 -- Keys that are put into an index.
 use Rattle.std.proofs.Common.{◌≡◌, List, [], ◌∷◌, ◌++◌, Option, Some, None, Bool, true, false, cond, refl, sym, ap, ◌∙◌, subst}
-use Rattle.std.specs.Option.{is_some}
-use Rattle.std.specs.Prelude.{IsSome}
-use Rattle.std.specs.List.{All, AllByRecursion}
-use Rattle.std.specs.declared.cmp.Ordering.{Ordering}
-use Rattle.std.specs.Ordering.{is_eq}
-use Rattle.std.specs.Cmp.{IsTotalOrder}
-use Rattle.std.specs.BTreeMap.{is_at}
-use Rattle.std.proofs.lemmas.Cmp.{tied_itself}
-use Rattle.std.proofs.lemmas.List.Elements.{All-from_recursion, recursion_from_All}
-use Rattle.std.proofs.lemmas.Map.Lookups.{CmpEqualImpliesEq}
-use Rattle.std.proofs.lemmas.Map.Views.{tells_apart}
-use Rattle.std.proofs.lemmas.Option.{same_Some}
-use Rattle.review_table.specs.declared.table.Change.{Change}
+use Rattle.std.proofs.lemmas.{Cmp.tied_itself, List.Elements.All-from_recursion, List.Elements.recursion_from_All}
+use Rattle.std.proofs.lemmas.{Map.Lookups.CmpEqualImpliesEq, Map.Views.tells_apart, Option.same_Some}
+use Rattle.std.specs.{BTreeMap.is_at, Cmp.IsTotalOrder, List.All, List.AllByRecursion, Option.is_some, Ordering.is_eq}
+use Rattle.std.specs.{Prelude.IsSome, declared.cmp.Ordering.Ordering}
 use Rattle.review_table.specs.Rows.{after_change, changed, change_of, is_named, row_in}
+use Rattle.review_table.specs.declared.table.Change.{Change}
 
 pub itself : {K : Type 0} {R : K → K → Ordering} → IsTotalOrder R → (q : K) → is_at (R q) q ≡ true
 itself total q = ap is_eq (tied_itself total q)

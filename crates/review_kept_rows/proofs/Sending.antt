@@ -1,24 +1,16 @@
 -- Which change has a patch set of a commit, by its tables.
 use Rattle.std.proofs.Common.{◌≡◌, ℕ, ◌≤◌, true, false, ◌&&◌, not, List, Option, Some, None, refl, ap, ◌∙◌, subst, arith}
-use Rattle.std.specs.Option.{option_map}
-use Rattle.std.specs.declared.cmp.Ordering.{Ordering}
-use Rattle.std.specs.declared.cmp.Ordering.TheVariants.{Less, Equal, Greater}
-use Rattle.std.specs.Ordering.{is_le, is_lt, nat_cmp, ordering_then}
-use Rattle.std.specs.Cmp.{unsigned_ties, IsTotalOrder}
-use Rattle.std.specs.Str.{bytes_eq}
-use Rattle.std.proofs.lemmas.Bool.{and_parts}
-use Rattle.std.proofs.lemmas.Cmp.{nat_list_cmp_total, tied_itself}
-use Rattle.std.proofs.lemmas.Slice.Eq.{bytes_eq-Decides}
+use Rattle.std.proofs.lemmas.{Bool.and_parts, Cmp.nat_list_cmp_total, Cmp.tied_itself, Slice.Eq.bytes_eq-Decides}
+use Rattle.std.specs.{Cmp.unsigned_ties, Cmp.IsTotalOrder, Option.option_map}
+use Rattle.std.specs.{Ordering.is_le, Ordering.is_lt, Ordering.nat_cmp, Ordering.ordering_then, Str.bytes_eq}
+use Rattle.std.specs.declared.cmp.Ordering.{Ordering, TheVariants.Less, TheVariants.Equal, TheVariants.Greater}
 use Rattle.review_table.specs.Rows.{row_in, rows_of}
 use Rattle.review_changes.specs.Parts.{TheHeader, PatchOf, AHeader, APatch}
-use Rattle.review_changes.specs.declared.rows.Header.{Header}
-use Rattle.review_changes.specs.declared.rows.PatchRow.{PatchRow}
-use Rattle.review_rows.specs.Rows.{APart}
-use Rattle.review_rows.specs.Known.{IsSender}
-use Rattle.review_rows.specs.declared.rows.Base.{Base}
+use Rattle.review_changes.specs.declared.rows.{Header.Header, PatchRow.PatchRow}
+use Rattle.review_rows.specs.{Known.IsSender, Rows.APart, declared.rows.Base.Base}
 use Rattle.review_change_rows.specs.declared.tables.ChangeTables.{ChangeTables}
-use Rattle.review_kept_rows.specs.declared.kept.SentKey.{SentKey}
 use Rattle.review_kept_rows.specs.Kept.{has_commit, is_sent, part_where, row_of, sent_cmp, AreListed, IsNumbered}
+use Rattle.review_kept_rows.specs.declared.kept.SentKey.{SentKey}
 
 -- a patch set of the commit is there
 pub record HasPatch (o : Option PatchRow) (commit : List ℕ) : Type 0 where

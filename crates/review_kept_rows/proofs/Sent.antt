@@ -1,25 +1,19 @@
 -- The index of patch sets by commit, once changes are edited.
 use Rattle.std.proofs.Common.{◌≡◌, ℕ, ◌==◌, List, [], ◌∷◌, ◌++◌, Option, Some, None, Bool, true, false, cond, refl, sym, ap, ◌∙◌, subst, eqb-true}
-use Rattle.std.specs.Option.{option_map}
-use Rattle.std.specs.declared.cmp.Ordering.{Ordering}
-use Rattle.std.specs.declared.cmp.Ordering.TheVariants.{Less, Equal, Greater}
-use Rattle.std.specs.Ordering.{nat_cmp, ordering_then}
-use Rattle.std.specs.Cmp.{unsigned_tied, IsTotalOrder}
-use Rattle.std.specs.Cmp.Lexicographic.{slice_cmp}
-use Rattle.std.specs.BTreeMap.{is_at}
 use Rattle.std.proofs.lemmas.Cmp.{then_total, on_total, nat_cmp_total, nat_list_cmp_total}
 use Rattle.std.proofs.lemmas.Map.Lookups.{CmpEqualImpliesEq, exact_unsigned, exact_bytes}
-use Rattle.std.proofs.lemmas.Option.{same_Some}
-use Rattle.review_table.specs.declared.table.Change.{Change}
+use Rattle.std.{proofs.lemmas.Option.same_Some, specs.BTreeMap.is_at, specs.Cmp.unsigned_tied, specs.Cmp.IsTotalOrder}
+use Rattle.std.specs.{Cmp.Lexicographic.slice_cmp, Option.option_map, Ordering.nat_cmp, Ordering.ordering_then}
+use Rattle.std.specs.declared.cmp.Ordering.{Ordering, TheVariants.Less, TheVariants.Equal, TheVariants.Greater}
 use Rattle.review_table.specs.Rows.{after_change, change_of, is_named, row_in}
+use Rattle.review_table.specs.declared.table.Change.{Change}
 use Rattle.review_changes.specs.Parts.{Part, PatchOf, PartRow, APatch}
 use Rattle.review_changes.specs.declared.rows.PatchRow.{PatchRow}
-use Rattle.review_rows.specs.Rows.{edited, part_change}
-use Rattle.review_rows.specs.declared.rows.ChangeEdit.{ChangeEdit}
+use Rattle.review_rows.specs.{Rows.edited, Rows.part_change, declared.rows.ChangeEdit.ChangeEdit}
 use Rattle.review_change_rows.specs.declared.tables.ChangeTables.{ChangeTables}
-use Rattle.review_kept_rows.specs.declared.kept.SentKey.{SentKey}
 use Rattle.review_kept_rows.proofs.Puts.{all_so, first_named, later_named, named_left, named_right, put_there, puts_append, stays_there, OnlyPuts, WithKeys}
 use Rattle.review_kept_rows.specs.Kept.{part_at, sent_by, sent_cmp, sent_in, with_sent, AreListed, AreNumbered, IsNumbered}
+use Rattle.review_kept_rows.specs.declared.kept.SentKey.{SentKey}
 
 both_equal : (a b : Ordering) → ordering_then a b ≡ Equal → (a ≡ Equal) × (b ≡ Equal)
 both_equal Equal b e = (refl, e)

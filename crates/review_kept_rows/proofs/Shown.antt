@@ -1,16 +1,12 @@
 -- The change of a number.
 use Rattle.std.proofs.Common.{◌≡◌, ℕ, Option, Some, None, List, refl, sym, ap, ◌∙◌}
-use Rattle.std.specs.Prelude.{option_map}
-use Rattle.std.specs.Ordering.{nat_cmp}
+use Rattle.std.specs.{Ordering.nat_cmp, Prelude.option_map}
 use Rattle.review_table.specs.Rows.{row_in}
-use Rattle.review_changes.specs.Change.{Change}
-use Rattle.review_changes.specs.Parts.{TheHeader, PartRow, AHeader, part_row}
-use Rattle.review_rows.specs.Rows.{APart}
-use Rattle.review_rows.specs.Known.{HasChange}
-use Rattle.review_change_rows.specs.declared.tables.ChangeTables.{ChangeTables}
-use Rattle.review_change_rows.specs.declared.loading.ChangeFault.{ChangeFault}
-use Rattle.review_change_rows.specs.declared.loading.ChangeFault.TheVariants.{Memory, Gap}
+use Rattle.review_changes.specs.{Change.Change, Parts.TheHeader, Parts.PartRow, Parts.AHeader, Parts.part_row}
+use Rattle.review_rows.specs.{Known.HasChange, Rows.APart}
 use Rattle.review_change_rows.specs.Tables.{part_in, HaveFault, Show}
+use Rattle.review_change_rows.specs.declared.loading.ChangeFault.{ChangeFault, TheVariants.Memory, TheVariants.Gap}
+use Rattle.review_change_rows.specs.declared.tables.ChangeTables.{ChangeTables}
 use Rattle.review_kept_rows.specs.Kept.{part_where, row_of, IsUnread}
 
 part_from : (o p : Option PartRow) → option_map APart o ≡ option_map APart p → o ≡ p

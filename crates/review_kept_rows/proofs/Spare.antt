@@ -1,8 +1,8 @@
 -- Places without a row.
 use Rattle.std.proofs.Common.{◌≡◌, Bool, Option, Some, None, List, [], sym, ap, ◌∙◌, subst}
 use Rattle.std.specs.declared.cmp.Ordering.{Ordering}
-use Rattle.review_table.specs.declared.table.Change.{Change}
 use Rattle.review_table.specs.Rows.{is_named, place_at, HasEmptyOnly, HasNoEmptyPlace}
+use Rattle.review_table.specs.declared.table.Change.{Change}
 
 -- where no place is spare, only those of any keys are
 pub none_spare : {K X : Type 0} (R : K → K → Ordering) (test : K → Bool) (t : List (K × Option X)) → HasNoEmptyPlace R t → HasEmptyOnly R test t

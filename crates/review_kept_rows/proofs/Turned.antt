@@ -1,19 +1,13 @@
 -- What an edit makes of the tables of a change, row by row.
 use Rattle.std.proofs.Common.{◌≡◌, ℕ, ℤ, [], Option, Some, None, refl, ap, ◌∙◌}
-use Rattle.std.specs.Prelude.{option_map}
-use Rattle.std.specs.Ordering.{nat_cmp}
+use Rattle.std.specs.{Ordering.nat_cmp, Prelude.option_map}
 use Rattle.review_table.specs.Rows.{after_change, changed, change_of, row_in, rows_of}
+use Rattle.review_words.specs.declared.changes.Role.{Role}
 use Rattle.review_changes.specs.Parts.{Part, TheHeader, PatchOf, VoteOf, RoleOf, CommentOf, AttentionOf, PartRow, AHeader, APatch, ARole, AComment, ACall}
 use Rattle.review_changes.specs.Seen.{vote_cmp}
-use Rattle.review_words.specs.declared.changes.Role.{Role}
-use Rattle.review_changes.specs.declared.rows.Called.{Called}
-use Rattle.review_changes.specs.declared.rows.CommentRow.{CommentRow}
-use Rattle.review_changes.specs.declared.rows.PatchRow.{PatchRow}
-use Rattle.review_changes.specs.declared.rows.VoteKey.{VoteKey}
-use Rattle.review_rows.specs.Rows.{part_change, vote_row}
-use Rattle.review_rows.specs.declared.rows.ChangeEdit.{ChangeEdit}
-use Rattle.review_change_rows.specs.declared.tables.ChangeTables.{ChangeTables}
-use Rattle.review_change_rows.specs.Tables.{part_in}
+use Rattle.review_changes.specs.declared.rows.{Called.Called, CommentRow.CommentRow, PatchRow.PatchRow, VoteKey.VoteKey}
+use Rattle.review_rows.specs.{Rows.part_change, Rows.vote_row, declared.rows.ChangeEdit.ChangeEdit}
+use Rattle.review_change_rows.specs.{Tables.part_in, declared.tables.ChangeTables.ChangeTables}
 use Rattle.review_kept_rows.specs.Kept.{AreEdited}
 
 after_mapped : {X Y : Type 0} (f : X → Y) (o : Option (Option X)) (was : Option X) → option_map f (after_change o was) ≡ after_change (option_map (option_map f) o) (option_map f was)

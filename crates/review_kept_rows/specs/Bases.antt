@@ -1,20 +1,12 @@
 -- The bases of branches, in memory.
+use Rattle.std.specs.{BTreeMap.is_at, Cmp.Lexicographic.slice_cmp, Ordering.nat_cmp, Ordering.ordering_then}
 use Rattle.std.specs.Prelude.{ℕ, ◌+◌, ◌<◌, ◌≤◌, ◌≡◌, ◌↔◌, ◌⊎◌, ◌&&◌, not, List, [], ◌∷◌, Option, Some, None, IsSome, Bool, true, false, unwrap_or, is_some, if◌then◌else◌}
-use Rattle.std.specs.declared.cmp.Ordering.{Ordering}
-use Rattle.std.specs.Ordering.{nat_cmp, ordering_then}
-use Rattle.std.specs.Cmp.Lexicographic.{slice_cmp}
-use Rattle.std.specs.BTreeMap.{is_at}
-use Rattle.std.specs.Str.{bytes_eq}
+use Rattle.std.specs.{Str.bytes_eq, declared.cmp.Ordering.Ordering}
 use Rattle.review_table.specs.Rows.{row_in, is_named, HasNoEmptyPlace, HasEmptyOnly}
-use Rattle.review_rows.specs.declared.rows.BranchKey.{BranchKey}
-use Rattle.review_rows.specs.declared.rows.Put.{Put}
-use Rattle.review_rows.specs.declared.rows.Base.{Base}
-use Rattle.review_rows.specs.Rows.{branch_cmp, place_cmp}
-use Rattle.review_rows.specs.Known.{at_place}
-use Rattle.review_kept_rows.specs.declared.bases.BasesFault.{BasesFault}
+use Rattle.review_rows.specs.{Known.at_place, Rows.branch_cmp, Rows.place_cmp}
+use Rattle.review_rows.specs.declared.rows.{Base.Base, BranchKey.BranchKey, PlaceKey.PlaceKey, Put.Put}
+use Rattle.review_kept_rows.specs.declared.bases.{BaseChanges.BaseChanges, BasesFault.BasesFault}
 use Rattle.review_kept_rows.specs.declared.bases.BasesFault.TheVariants.{Memory, Gap}
-use Rattle.review_kept_rows.specs.declared.bases.BaseChanges.{BaseChanges}
-use Rattle.review_rows.specs.declared.rows.PlaceKey.{PlaceKey}
 use Rattle.review_kept_rows.specs.declared.keys.CommitKey.{CommitKey}
 
 -- by commit, then by project, then by branch, then by place

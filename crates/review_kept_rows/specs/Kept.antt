@@ -1,31 +1,21 @@
 -- Rows of changes in memory.
+use Rattle.std.specs.{Cmp.Lexicographic.slice_cmp, List.All, Ordering.nat_cmp, Ordering.ordering_then}
 use Rattle.std.specs.Prelude.{ℕ, Bool, true, false, ◌&&◌, ◌==◌, ◌<◌, ◌≤◌, ◌≡◌, ◌++◌, List, [], ◌∷◌, Option, Some, None, option_map, option_to_list, flat_map, if◌then◌else◌}
-use Rattle.std.specs.declared.cmp.Ordering.{Ordering}
-use Rattle.std.specs.Ordering.{nat_cmp, ordering_then}
-use Rattle.std.specs.List.{All}
-use Rattle.std.specs.Str.{bytes_eq}
-use Rattle.std.specs.Cmp.Lexicographic.{slice_cmp}
+use Rattle.std.specs.{Str.bytes_eq, declared.cmp.Ordering.Ordering}
 use Rattle.review_names.specs.Forms.{most_changes, most_patches}
-use Rattle.review_table.specs.declared.table.Change.{Change}
 use Rattle.review_table.specs.Rows.{after_change, is_named, row_in, rows_of, HasEmptyOnly, HasNoEmptyPlace, HavePlaces}
+use Rattle.review_table.specs.declared.table.Change.{Change}
+use Rattle.review_words.specs.declared.shown.{JoinedChange.JoinedChange, State.TheVariants.Merged}
 use Rattle.review_changes.specs.Change.{Change as ChangeSeen}
 use Rattle.review_changes.specs.Parts.{Part, TheHeader, PatchOf, PartRow, AHeader, APatch}
-use Rattle.review_words.specs.declared.shown.JoinedChange.{JoinedChange}
-use Rattle.review_words.specs.declared.shown.State.TheVariants.{Merged}
-use Rattle.review_changes.specs.declared.rows.Header.{Header}
-use Rattle.review_changes.specs.declared.rows.PatchRow.{PatchRow}
-use Rattle.review_rows.specs.Rows.{Key, PartKey, Row, APart, branch_cmp, part_change}
+use Rattle.review_changes.specs.declared.rows.{Header.Header, PatchRow.PatchRow}
 use Rattle.review_rows.specs.Known.{HasChange, IsJoinedAt, IsSender, IsSentBy}
-use Rattle.review_rows.specs.declared.rows.Base.{Base}
-use Rattle.review_rows.specs.declared.rows.BranchKey.{BranchKey as Branch}
-use Rattle.review_rows.specs.declared.rows.ChangeEdit.{ChangeEdit}
-use Rattle.review_change_rows.specs.declared.tables.ChangeTables.{ChangeTables}
-use Rattle.review_change_rows.specs.declared.loading.ChangeFault.{ChangeFault}
-use Rattle.review_change_rows.specs.declared.loading.ChangeFault.TheVariants.{Memory, Gap}
+use Rattle.review_rows.specs.Rows.{Key, PartKey, Row, APart, branch_cmp, part_change}
+use Rattle.review_rows.specs.declared.rows.{Base.Base, BranchKey.BranchKey as Branch, ChangeEdit.ChangeEdit}
 use Rattle.review_change_rows.specs.Tables.{part_in}
-use Rattle.review_kept_rows.specs.declared.kept.Prepared.{Prepared}
-use Rattle.review_kept_rows.specs.declared.kept.SentKey.{SentKey}
-use Rattle.review_kept_rows.specs.declared.places.PlaceKey.{PlaceKey}
+use Rattle.review_change_rows.specs.declared.loading.ChangeFault.{ChangeFault, TheVariants.Memory, TheVariants.Gap}
+use Rattle.review_change_rows.specs.declared.tables.ChangeTables.{ChangeTables}
+use Rattle.review_kept_rows.specs.declared.{kept.Prepared.Prepared, kept.SentKey.SentKey, places.PlaceKey.PlaceKey}
 
 -- the row of a change, where it has tables
 abbrev pub part_where : Option ChangeTables → Part → Option PartRow

@@ -1,6 +1,5 @@
 -- Why bases in memory are not given, as the fault of a shelf.
-use Rattle.review_rows.specs.declared.shelf.ShelfFault.{ShelfFault}
-use Rattle.review_rows.specs.declared.shelf.ShelfFault.TheVariants.{Memory, Damaged}
+use Rattle.review_rows.specs.declared.shelf.ShelfFault.{ShelfFault, TheVariants.Memory, TheVariants.Damaged}
 use Rattle.review_kept_rows.specs.declared.bases.BasesFault.{BasesFault}
 use Rattle.review_kept_rows.specs.declared.bases.BasesFault.TheVariants as bases
 

@@ -1,13 +1,10 @@
 //! The bases of branches in memory.
+ghost use Rattle.std.specs.{BTreeMap.is_at, Cmp.Lexicographic.slice_cmp, Ordering.nat_cmp};
 ghost use Rattle.std.specs.Prelude.{◌≡◌, ◌∷◌, ◌-◌, ◌^◌, ◌<◌, ◌↔◌, [], List, Option, ℕ, Some, None, IsTrue, IfOk, IfErr, OnOk, OnErr, option_map, if◌then◌else◌};
-ghost use Rattle.std.specs.Ordering.{nat_cmp};
-ghost use Rattle.std.specs.Cmp.Lexicographic.{slice_cmp};
 ghost use Rattle.review_table.specs.Rows.{rows_of, row_in, HasNoEmptyPlace, HavePlaces};
-ghost use Rattle.std.specs.BTreeMap.{is_at};
-ghost use Rattle.review_rows.specs.declared.rows.PlaceKey.{PlaceKey};
-ghost use Rattle.review_rows.specs.Rows.{branch_cmp, place_cmp};
-ghost use Rattle.review_kept_rows.specs.declared.keys.CommitKey.{CommitKey};
+ghost use Rattle.review_rows.specs.{Rows.branch_cmp, Rows.place_cmp, declared.rows.PlaceKey.PlaceKey};
 ghost use Rattle.review_kept_rows.specs.Bases.{commit_cmp, base_at, total_in, IsLastPlace, IsPut, commit_at, is_stale, AreBases, IsCommitThere, IsUnlisted, PutsBase, HasNoSpare, HasSpareOnly};
+ghost use Rattle.review_kept_rows.specs.declared.keys.CommitKey.{CommitKey};
 
 use crate::keys::CommitKey;
 use review_rows::{Base, BranchKey, PlaceKey, Put, ShelfFault};

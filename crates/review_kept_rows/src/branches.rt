@@ -1,6 +1,6 @@
 //! Which changes joined a branch.
-ghost use Rattle.std.specs.Prelude.{◌≡◌, IfOk, OnOk, max, option_copied, if◌then◌else◌};
 ghost use Rattle.std.specs.Ordering.{nat_cmp};
+ghost use Rattle.std.specs.Prelude.{◌≡◌, IfOk, OnOk, max, option_copied, if◌then◌else◌};
 ghost use Rattle.review_table.specs.Rows.{row_in, rows_of};
 ghost use Rattle.review_rows.specs.Known.{HaveJoined, IsLastJoined};
 ghost use Rattle.review_kept_rows.specs.Kept.{is_placed, row_of, AddsJoined, IsCurrentOf, IsJoinedOrNot};

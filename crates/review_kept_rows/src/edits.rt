@@ -1,10 +1,8 @@
 //! What an edit makes of the tables of one change.
+ghost use Rattle.std.specs.{BTreeMap.is_at, Ordering.nat_cmp};
 ghost use Rattle.std.specs.Prelude.{◌≡◌, ℕ, [], IfOk, OnOk, None, if◌then◌else◌};
-ghost use Rattle.std.specs.BTreeMap.{is_at};
-ghost use Rattle.std.specs.Ordering.{nat_cmp};
-ghost use Rattle.review_changes.specs.Seen.{vote_cmp};
-ghost use Rattle.review_changes.specs.declared.rows.VoteKey.{VoteKey};
 ghost use Rattle.review_table.specs.Rows.{changed, row_in, rows_of};
+ghost use Rattle.review_changes.specs.{Seen.vote_cmp, declared.rows.VoteKey.VoteKey};
 ghost use Rattle.review_change_rows.specs.Tables.{part_in};
 ghost use Rattle.review_kept_rows.specs.Kept.{AreEdited};
 

@@ -1,9 +1,9 @@
 //! The rows of all changes in memory, with an index by commit and one by place.
-ghost use Rattle.std.specs.Prelude.{◌≡◌, Some, ◌++◌, [], ℕ, IfErr, IfOk, MatchBool, OnOk, OnErr, option_map};
 ghost use Rattle.std.specs.Ordering.{nat_cmp};
+ghost use Rattle.std.specs.Prelude.{◌≡◌, Some, ◌++◌, [], ℕ, IfErr, IfOk, MatchBool, OnOk, OnErr, option_map};
 ghost use Rattle.review_table.specs.Rows.{changed, row_in, rows_of};
-ghost use Rattle.review_rows.specs.Known.{HasChange, IsLast, IsMergedWith, IsSentBy, header_key};
 ghost use Rattle.review_changes.specs.Seen.{seen};
+ghost use Rattle.review_rows.specs.Known.{HasChange, IsLast, IsMergedWith, IsSentBy, header_key};
 ghost use Rattle.review_change_rows.specs.Tables.{HaveFault, Show};
 ghost use Rattle.review_kept_rows.specs.Kept.{is_sent, row_of, sent_by, sent_in, with_sent, AreNumbered, ArePrepared, HasRoomFor, IsFoundSent, IsFull, IsFullBut, IsLastOf, IsReady, IsSentAs, IsSentIn, IsUnread, PutsEdited, PutAllEdited};
 

@@ -1,20 +1,16 @@
 -- The answers to lines, one by one.
 use Rattle.std.proofs.Common.{◌≡◌, ◌++◌, ◌&&◌, Bool, true, false, ℕ, List, [], ◌∷◌, length, refl, Option, arith, sym, ap, subst, ◌∙◌, append_assoc, append-nil, length-append}
-use Rattle.std.specs.Io.KnownBytes.{Appends}
-use Rattle.std.proofs.KnownBytes.{Appends-nil, Appends-trans}
-use Rattle.review_words.specs.declared.command.Delivery.{Delivery}
-use Rattle.review_words.specs.declared.reply.Reply.{Reply}
-use Rattle.review_rows.specs.Shelf.{Shown}
-use Rattle.review_deliveries.specs.Delivered.{WasRun}
-use Rattle.review_deliveries.proofs.Ran.{ran_none, ran-append}
-use Rattle.std.specs.declared.alloc.AllocError.{AllocError}
+use Rattle.std.{proofs.KnownBytes.Appends-nil, proofs.KnownBytes.Appends-trans, specs.Io.KnownBytes.Appends}
 use Rattle.std.specs.Prelude.{Result, Ok, Err, IfOk, OnOk}
-use Rattle.review_lines.specs.declared.fault.Outcome.{Outcome}
-use Rattle.review_lines.specs.declared.apply.Asked.{Asked}
-use Rattle.review_lines.specs.declared.apply.Asked.TheVariants.{Nothing, Unreadable, Asks}
-use Rattle.review_lines.specs.Lines.{HasNoEnd, GaveLine}
-use Rattle.review_lines.specs.Answers.{asked, with_asked, deliveries, answered, answers, bad_line, reply_line, IsRunOf, is_taken, is_done, all_done}
+use Rattle.std.specs.declared.alloc.AllocError.{AllocError}
+use Rattle.review_words.specs.declared.{command.Delivery.Delivery, reply.Reply.Reply}
+use Rattle.review_rows.specs.Shelf.{Shown}
+use Rattle.review_deliveries.{proofs.Ran.ran_none, proofs.Ran.ran-append, specs.Delivered.WasRun}
 use Rattle.review_lines.proofs.LinesOf.{GaveLines, gave_more, gave_none}
+use Rattle.review_lines.specs.Answers.{asked, with_asked, deliveries, answered, answers, bad_line, reply_line, IsRunOf, is_taken, is_done, all_done}
+use Rattle.review_lines.specs.{Lines.HasNoEnd, Lines.GaveLine, declared.apply.Asked.Asked}
+use Rattle.review_lines.specs.declared.apply.Asked.TheVariants.{Nothing, Unreadable, Asks}
+use Rattle.review_lines.specs.declared.fault.Outcome.{Outcome}
 
 -- These lines were read, what they ask for was done, and their answers were sent or wait.
 pub record AreAnswered (lines : List (List ℕ)) (replies : List Reply) (complete : Bool) (input left before after : Option (List ℕ)) (waiting : List ℕ) (old new : Shown) : Type 0 where

@@ -1,12 +1,10 @@
 -- Lines that were begun, and how they end.
 use Rattle.std.proofs.Common.{◌≡◌, ◌≢◌, ◌<◌, ◌++◌, ◌==◌, ℕ, List, [], ◌∷◌, length, refl, true, false, Option, Some, None, arith, sym, subst, ◌∙◌, append_assoc, append-nil, inl, inr}
-use Rattle.std.proofs.lemmas.List.Elements.{All-append}
-use Rattle.std.proofs.lemmas.Bool.{eqb-true}
-use Rattle.std.proofs.lemmas.Bool.Decides.{nat_tests}
-use Rattle.std.specs.Io.KnownBytes.{Consumes, IsAtEnd, prepend_known}
 use Rattle.std.proofs.KnownBytes.{Consumes-nil, Consumes-trans}
-use Rattle.review_lines.specs.declared.lines.Line.{Line}
+use Rattle.std.proofs.lemmas.{Bool.eqb-true, Bool.Decides.nat_tests, List.Elements.All-append}
+use Rattle.std.specs.Io.KnownBytes.{Consumes, IsAtEnd, prepend_known}
 use Rattle.review_lines.specs.Lines.{IsLineOf, HasNoEnd, GavePart, IsNext, line_feed}
+use Rattle.review_lines.specs.declared.lines.Line.{Line}
 
 -- a line that was begun has these bytes so far
 abbrev pub IsBegun : Option (List ℕ) → Option (List ℕ) → Line → Type 0

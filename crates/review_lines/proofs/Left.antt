@@ -2,13 +2,12 @@
 use Rattle.std.proofs.Common.{◌≡◌, ◌++◌, ℕ, List, [], ◌∷◌, length, refl, arith, sym, ap, subst, ◌∙◌, append_assoc, append-nil, take, drop, take-append-drop}
 use Rattle.std.specs.Prelude.{IfOk, IfErr, IsErrAnd, Result, Ok, Err}
 use Rattle.review_words.specs.declared.reply.Reply.{Reply}
-use Rattle.review_lines.specs.declared.fault.Fault.{Fault}
-use Rattle.review_lines.specs.declared.fault.Fault.TheVariants.{Memory, Input, Output}
-use Rattle.review_lines.specs.declared.fault.Outcome.{Outcome}
+use Rattle.review_lines.proofs.Answering.{answers-append}
+use Rattle.review_lines.specs.Answers.{asked, answered, answers, bad_line, deliveries, reply_line, IsPartOf, IsLeftBy}
 use Rattle.review_lines.specs.declared.apply.Asked.{Asked}
 use Rattle.review_lines.specs.declared.apply.Asked.TheVariants.{Nothing, Unreadable, Asks}
-use Rattle.review_lines.specs.Answers.{asked, answered, answers, bad_line, deliveries, reply_line, IsPartOf, IsLeftBy}
-use Rattle.review_lines.proofs.Answering.{answers-append}
+use Rattle.review_lines.specs.declared.fault.Fault.{Fault, TheVariants.Memory, TheVariants.Input, TheVariants.Output}
+use Rattle.review_lines.specs.declared.fault.Outcome.{Outcome}
 
 -- a first part by its length
 pub taken_part : (n : ℕ) (bytes : List ℕ) → IsPartOf (take n bytes) bytes

@@ -1,9 +1,8 @@
 -- The lines of an input, one by one.
 use Rattle.std.proofs.Common.{◌≡◌, ◌<◌, ◌++◌, ◌==◌, ℕ, List, [], ◌∷◌, length, refl, false, Option, Some, None, arith, sym, ap, ◌∙◌, append_assoc, append-nil, inl, inr, subst, suc}
-use Rattle.std.proofs.lemmas.Bool.Decides.{nat_tests}
-use Rattle.std.specs.Io.KnownBytes.{IsAtEnd}
-use Rattle.review_lines.specs.Lines.{HasNoEnd, GaveLine, line_feed}
+use Rattle.std.{proofs.lemmas.Bool.Decides.nat_tests, specs.Io.KnownBytes.IsAtEnd}
 use Rattle.review_lines.specs.Answers.{lines_of, HasLines, HasFirst}
+use Rattle.review_lines.specs.Lines.{HasNoEnd, GaveLine, line_feed}
 
 -- an input began with these lines
 abbrev pub GaveLines : Option (List ℕ) → Option (List ℕ) → List (List ℕ) → Type 0

@@ -1,9 +1,9 @@
 -- Parts of lines in the bytes that were read.
 use Rattle.std.proofs.Common.{◌≡◌, ◌<◌, ◌≤◌, ◌+◌, ◌-◌, ◌++◌, ℕ, List, ◌∷◌, length, take, drop, true, Option, Some, None, arith, sym, ap, ◌∙◌, slice_range, drop-cons, drop-drop, add-one, length-take}
-use Rattle.std.proofs.lemmas.List.{get_or_default, get_or-take, take-append-drop, drop-take}
 use Rattle.std.proofs.lemmas.Bool.{eqb-true, eq-eqb}
-use Rattle.memchr.specs.Find.{IsFirstByte, is_byte}
+use Rattle.std.proofs.lemmas.List.{get_or_default, get_or-take, take-append-drop, drop-take}
 use Rattle.std.specs.Prelude.{is_some}
+use Rattle.memchr.specs.Find.{IsFirstByte, is_byte}
 use Rattle.review_lines.specs.Lines.{HasNoEnd, HoldsEnd, GavePart, line_feed}
 
 -- no line ends where no line feed was found

@@ -1,9 +1,7 @@
 -- Bytes that were written in two steps.
 use Rattle.std.proofs.Common.{◌≡◌, ◌++◌, ◌+◌, ◌≤◌, ℕ, List, Option, take, drop, length, sym, subst}
-use Rattle.std.specs.Io.KnownBytes.{Appends}
-use Rattle.std.proofs.KnownBytes.{Appends-trans}
-use Rattle.std.proofs.lemmas.List.{length-take-le, take-append-drop}
-use Rattle.std.proofs.Math.Seq.{take-append-add}
+use Rattle.std.proofs.{KnownBytes.Appends-trans, Math.Seq.take-append-add}
+use Rattle.std.{proofs.lemmas.List.length-take-le, proofs.lemmas.List.take-append-drop, specs.Io.KnownBytes.Appends}
 
 take_two : (a n : ℕ) (bs : List ℕ) → a ≤ length bs → take (a + n) bs ≡ take a bs ++ take n (drop a bs)
 take_two a n bs within =

@@ -1,22 +1,17 @@
 -- What the lines of an input ask for, and what is answered to them.
+use Rattle.std.specs.{Io.KnownBytes.Appends, Io.KnownBytes.IsAtEnd, List.list_all}
 use Rattle.std.specs.Prelude.{◌≡◌, ◌==◌, ◌≤◌, ℕ, ◌++◌, ◌&&◌, Bool, true, false, List, [], ◌∷◌, length, nat_lt, if◌then◌else◌, Option, Some, None, Result, IfOk, IfErr, codes}
-use Rattle.std.specs.List.{list_all}
-use Rattle.std.specs.Io.KnownBytes.{Appends, IsAtEnd}
 use Rattle.serde_json.specs.Written.{compact_text}
-use Rattle.review_words.specs.declared.command.Delivery.{Delivery}
-use Rattle.review_words.specs.declared.reply.Reply.{Reply}
-use Rattle.review_words.specs.declared.reply.Reply.TheVariants.{NotTaken}
+use Rattle.review_words.specs.declared.{command.Delivery.Delivery, reply.Reply.Reply, reply.Reply.TheVariants.NotTaken}
+use Rattle.review_json.specs.{Answer.reply_data, Line.delivery_spelled}
 use Rattle.review_rows.specs.Shelf.{Shown}
 use Rattle.review_deliveries.specs.Delivered.{WasRun}
-use Rattle.review_json.specs.Line.{delivery_spelled}
-use Rattle.review_json.specs.Answer.{reply_data}
-use Rattle.review_lines.specs.declared.fault.Fault.{Fault}
-use Rattle.review_lines.specs.declared.fault.Fault.TheVariants as fault
-use Rattle.review_lines.specs.declared.fault.Outcome.{Outcome}
-use Rattle.review_lines.specs.declared.fault.Outcome.TheVariants.{Complete, Incomplete}
+use Rattle.review_lines.specs.Lines.{most_bytes, line_feed, is_space, HasNoEnd, GaveLine}
 use Rattle.review_lines.specs.declared.apply.Asked.{Asked}
 use Rattle.review_lines.specs.declared.apply.Asked.TheVariants.{Nothing, Unreadable, Asks}
-use Rattle.review_lines.specs.Lines.{most_bytes, line_feed, is_space, HasNoEnd, GaveLine}
+use Rattle.review_lines.specs.declared.fault.{Fault.Fault, Outcome.Outcome}
+use Rattle.review_lines.specs.declared.fault.Outcome.TheVariants.{Complete, Incomplete}
+use Rattle.review_lines.specs.declared.fault.Fault.TheVariants as fault
 
 -- the lines with one byte more at the front of the first
 abbrev pub with_first : ℕ → List (List ℕ) → List (List ℕ)

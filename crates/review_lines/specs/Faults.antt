@@ -1,6 +1,5 @@
 -- The fault that ends a command where a line is not read.
-use Rattle.review_lines.specs.declared.fault.Fault.{Fault}
-use Rattle.review_lines.specs.declared.fault.Fault.TheVariants.{Memory, Input}
+use Rattle.review_lines.specs.declared.fault.Fault.{Fault, TheVariants.Memory, TheVariants.Input}
 use Rattle.review_lines.specs.declared.lines.LineFault.{LineFault}
 use Rattle.review_lines.specs.declared.lines.LineFault.TheVariants as line
 

@@ -1,9 +1,7 @@
 -- The lines of an input.
+use Rattle.std.specs.{Io.KnownBytes.Consumes, Io.KnownBytes.IsAtEnd, List.All}
 use Rattle.std.specs.Prelude.{◌≡◌, ◌≢◌, ◌==◌, ◌||◌, ◌<◌, ◌≤◌, ◌⊎◌, ℕ, ◌++◌, List, [], ◌∷◌, length, Option, Some, None, Bool, true, false}
-use Rattle.std.specs.List.{All}
-use Rattle.std.specs.Io.KnownBytes.{Consumes, IsAtEnd}
-use Rattle.review_lines.specs.declared.lines.Line.{Line}
-use Rattle.review_lines.specs.declared.lines.Line.TheVariants.{Whole, TooLong}
+use Rattle.review_lines.specs.declared.lines.Line.{Line, TheVariants.Whole, TheVariants.TooLong}
 
 -- the most bytes of a line, without its end
 abbrev pub most_bytes : ℕ

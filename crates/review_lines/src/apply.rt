@@ -1,11 +1,10 @@
 //! Deliveries by the line.
+ghost use Rattle.std.specs.{Io.KnownBytes.Appends, Io.KnownBytes.prepend_known, List.list_all};
 ghost use Rattle.std.specs.Prelude.{◌≡◌, ◌++◌, ◌∷◌, [], ℕ, List, length, IfOk, IfErr, OnOk, OnErr, string_bytes};
-ghost use Rattle.std.specs.List.{list_all};
-ghost use Rattle.std.specs.Io.KnownBytes.{Appends, prepend_known};
 ghost use Rattle.review_words.specs.declared.reply.Reply.{Reply};
 ghost use Rattle.review_deliveries.specs.Delivered.{WasRun};
-ghost use Rattle.review_lines.specs.Lines.{is_space, IsLineOf};
 ghost use Rattle.review_lines.specs.Answers.{asked, with_asked, reply_line, bad_line, answered, answers, deliveries, HasLines, HasFirst, is_taken, is_done, all_done, is_complete, IsRunOf, IsLeftBy, WereAnswered, IsNextAsked};
+ghost use Rattle.review_lines.specs.Lines.{is_space, IsLineOf};
 
 use crate::fault::{Fault, Outcome};
 use crate::lines::{Line, Lines};

@@ -1,6 +1,6 @@
 //! The lines of an input.
-ghost use Rattle.std.specs.Prelude.{◌≡◌, ◌≤◌, ◌+◌, ◌++◌, ◌∷◌, [], ℕ, List, length, drop, ◌==◌, true, false, Err, IfOk, OnOk, OnErr};
 ghost use Rattle.std.specs.Io.KnownBytes.{Consumes, IsAtEnd, Keeps, prepend_known};
+ghost use Rattle.std.specs.Prelude.{◌≡◌, ◌≤◌, ◌+◌, ◌++◌, ◌∷◌, [], ℕ, List, length, drop, ◌==◌, true, false, Err, IfOk, OnOk, OnErr};
 ghost use Rattle.review_lines.specs.Lines.{IsLineOf, HasNoEnd, HoldsEnd, IsNext, GavePart, most_reads};
 
 use memchr::memchr;

@@ -1,8 +1,8 @@
 //! Answers on their way out.
-ghost use Rattle.std.specs.Prelude.{◌≡◌, ◌≤◌, ◌++◌, [], ℕ, List, false, IfErr, OnOk, OnErr, drop, length};
-ghost use Rattle.review_lines.specs.declared.fault.Fault.TheVariants as fault;
 ghost use Rattle.std.specs.Io.KnownBytes.{Appends};
+ghost use Rattle.std.specs.Prelude.{◌≡◌, ◌≤◌, ◌++◌, [], ℕ, List, false, IfErr, OnOk, OnErr, drop, length};
 ghost use Rattle.review_lines.specs.Answers.{IsPartOf};
+ghost use Rattle.review_lines.specs.declared.fault.Fault.TheVariants as fault;
 
 use crate::fault::Fault;
 use std::alloc::{AllocError, Global};

@@ -1,27 +1,17 @@
 -- What stays known of counts.
 use Rattle.std.proofs.Common.{◌≡◌, ◌∙◌, ◌≤◌, ◌+◌, ℕ, suc, nat_lt, List, Bool, true, false, Option, Some, None, is_some, cond, Result, Ok, Err, OnOk, OnErr, refl, ap, sym, inl, inr, subst, arith}
-use Rattle.std.specs.BTreeMap.{is_at}
-use Rattle.std.specs.Ordering.{nat_cmp, is_eq}
-use Rattle.std.specs.Cmp.Lexicographic.{slice_cmp}
-use Rattle.std.specs.Str.{bytes_eq}
-use Rattle.std.proofs.lemmas.Bool.{cases_Bool}
-use Rattle.std.proofs.lemmas.Bool.Decides.{leb_tells}
-use Rattle.std.proofs.lemmas.Cmp.{nat_list_cmp_total, tied_itself}
-use Rattle.std.proofs.lemmas.Map.Lookups.{exact_bytes}
-use Rattle.std.proofs.lemmas.Slice.Eq.{bytes_eq-Decides}
+use Rattle.std.proofs.lemmas.{Bool.cases_Bool, Bool.Decides.leb_tells, Cmp.nat_list_cmp_total, Cmp.tied_itself}
+use Rattle.std.proofs.lemmas.{Map.Lookups.exact_bytes, Option.same_Some, Slice.Eq.bytes_eq-Decides}
+use Rattle.std.specs.{BTreeMap.is_at, Cmp.Lexicographic.slice_cmp, Ordering.nat_cmp, Ordering.is_eq, Str.bytes_eq}
 use Rattle.std.specs.declared.alloc.AllocError.{AllocError}
-use Rattle.std.proofs.lemmas.Option.{same_Some}
-use Rattle.review_rows.specs.declared.rows.Delta.{Delta}
-use Rattle.review_rows.specs.declared.rows.PlaceKey.{PlaceKey}
-use Rattle.review_rows.specs.declared.rows.Put.{Put}
+use Rattle.review_table.specs.Rows.{row_in}
+use Rattle.review_statements.specs.Greatest.{as_counted}
+use Rattle.review_tables.proofs.Keys.{equal_is}
+use Rattle.review_rows.specs.Limits.{most_bases}
 use Rattle.review_rows.specs.Rows.{Row, BaseKey, BasesOf, AnswerRow, Tables, count_put}
 use Rattle.review_rows.specs.Shelf.{IsCommitted}
-use Rattle.review_statements.specs.Greatest.{as_counted}
-use Rattle.review_rows.specs.Limits.{most_bases}
-use Rattle.review_table.specs.Rows.{row_in}
-use Rattle.review_tables.proofs.Keys.{equal_is}
-use Rattle.review_lookups.specs.declared.counts.Bound.{Bound}
-use Rattle.review_lookups.specs.Counts.{AreBasesBounded, Bounds, Grows}
+use Rattle.review_rows.specs.declared.rows.{Delta.Delta, PlaceKey.PlaceKey, Put.Put}
+use Rattle.review_lookups.specs.{Counts.AreBasesBounded, Counts.Bounds, Counts.Grows, declared.counts.Bound.Bound}
 
 few : (n : ℕ) (b there : Bool) → (n ≤ cond b (cond there n (n + 1)) n) × (cond b (cond there n (n + 1)) n ≤ n + 1)
 few n true true = (omega arith, omega arith)

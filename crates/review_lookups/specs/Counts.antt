@@ -1,19 +1,12 @@
 -- What a shelf knows of how many projects there are, and how many bases they have.
+use Rattle.std.specs.{BTreeMap.is_at, Cmp.Lexicographic.slice_cmp, Ordering.nat_cmp}
 use Rattle.std.specs.Prelude.{ℕ, ◌≡◌, ◌+◌, ◌<◌, ◌≤◌, false, List, Some, IfSome}
-use Rattle.std.specs.BTreeMap.{is_at}
-use Rattle.std.specs.Ordering.{nat_cmp}
-use Rattle.std.specs.Cmp.Lexicographic.{slice_cmp}
 use Rattle.sqlite_trees.specs.Tree.{Trees}
 use Rattle.review_table.specs.Rows.{row_in, rows_of}
-use Rattle.review_rows.specs.declared.rows.Rows.{Rows}
-use Rattle.review_rows.specs.declared.rows.Want.{Want}
-use Rattle.review_rows.specs.Limits.{most_bases, most_projects}
-use Rattle.review_rows.specs.Rows.{BasesOf, Projects, Tables}
-use Rattle.review_database.specs.declared.sights.Sight.{Sight}
-use Rattle.review_database.specs.Loads.{Sees}
-use Rattle.review_database.specs.Tables.{tables_at}
-use Rattle.review_lookups.specs.declared.counts.Bound.{Bound}
-use Rattle.review_lookups.specs.declared.counts.Bound.TheVariants.{AtMost, Full}
+use Rattle.review_rows.specs.{Limits.most_bases, Limits.most_projects, Rows.BasesOf, Rows.Projects, Rows.Tables}
+use Rattle.review_rows.specs.declared.rows.{Rows.Rows, Want.Want}
+use Rattle.review_database.specs.{Loads.Sees, Tables.tables_at, declared.sights.Sight.Sight}
+use Rattle.review_lookups.specs.declared.counts.Bound.{Bound, TheVariants.AtMost, TheVariants.Full}
 use Rattle.review_lookups.specs.declared.counts.Counts.{Counts}
 
 -- what is known of a count that has this limit is so: of a number from the limit on it says nothing

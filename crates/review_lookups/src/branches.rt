@@ -1,22 +1,20 @@
 //! What is looked up of projects, of the bases of their branches, and of the desk.
-ghost use Rattle.std.specs.Prelude.{◌≡◌, ◌∷◌, [], true, false, Some, None, option_map, IfOk, length, nat_lt};
 ghost use Rattle.std.specs.Ordering.{nat_cmp};
+ghost use Rattle.std.specs.Prelude.{◌≡◌, ◌∷◌, [], true, false, Some, None, option_map, IfOk, length, nat_lt};
 ghost use Rattle.sqlite.specs.Held.{state};
 ghost use Rattle.sqlite_trees.specs.Tree.{Trees};
 ghost use Rattle.sqlite_value.specs.declared.value.Value.TheVariants.{Text};
 ghost use Rattle.review_table.specs.Rows.{rows_of};
-ghost use Rattle.review_rows.specs.declared.rows.Want.TheVariants as want;
-ghost use Rattle.review_rows.specs.declared.rows.Counted.TheVariants as counted;
-ghost use Rattle.review_records.specs.Forms.{base_commits, branch_bases, base_parts, base_places, bases, desk, epochs, project_names, projects};
+ghost use Rattle.review_statements.specs.Greatest.{as_counted, HasGreatest, HasOne};
+ghost use Rattle.review_statements.specs.{Ran.Looks, Search.row_at, Search.rows_at};
 ghost use Rattle.review_tables.specs.Fronts.{AreParts};
 ghost use Rattle.review_rows.specs.Limits.{most_bases, most_projects};
 ghost use Rattle.review_rows.specs.Rows.{BasesOf, Projects as ProjectCount};
-ghost use Rattle.review_statements.specs.Greatest.{as_counted, HasGreatest, HasOne};
-ghost use Rattle.review_statements.specs.Ran.{Looks};
-ghost use Rattle.review_statements.specs.Search.{row_at, rows_at};
-ghost use Rattle.review_database.specs.Loads.{HasLearnt, IfTold, Sees, IsOrdered};
-ghost use Rattle.review_database.specs.Tables.{tables_at};
+ghost use Rattle.review_records.specs.Forms.{base_commits, branch_bases, base_parts, base_places, bases, desk, epochs, project_names, projects};
+ghost use Rattle.review_database.specs.{Loads.HasLearnt, Loads.IfTold, Loads.Sees, Loads.IsOrdered, Tables.tables_at};
 ghost use Rattle.review_lookups.specs.Counts.{SeesBounded};
+ghost use Rattle.review_rows.specs.declared.rows.Want.TheVariants as want;
+ghost use Rattle.review_rows.specs.declared.rows.Counted.TheVariants as counted;
 
 use crate::counts::{Counts, MOST_BASES, MOST_PROJECTS};
 use review_database::Sight;

@@ -1,13 +1,10 @@
 //! What a shelf knows of how many projects there are, and how many bases they have, so that it needn't count them again.
+ghost use Rattle.std.specs.{BTreeMap.is_at, Cmp.Lexicographic.slice_cmp, Ordering.nat_cmp};
 ghost use Rattle.std.specs.Prelude.{ℕ, ◌≡◌, ◌+◌, ◌≤◌, List, Some, nat_lt, if◌then◌else◌, IfSome, OnOk, OnErr};
-ghost use Rattle.std.specs.BTreeMap.{is_at};
-ghost use Rattle.std.specs.Ordering.{nat_cmp};
-ghost use Rattle.std.specs.Cmp.Lexicographic.{slice_cmp};
 ghost use Rattle.review_table.specs.Rows.{row_in, rows_of};
 ghost use Rattle.review_statements.specs.Greatest.{as_counted};
 ghost use Rattle.review_rows.specs.Limits.{most_bases, most_projects};
-ghost use Rattle.review_rows.specs.Rows.{AnswerRow, BasesOf, Projects, Tables};
-ghost use Rattle.review_rows.specs.Shelf.{IsCommitted};
+ghost use Rattle.review_rows.specs.{Rows.AnswerRow, Rows.BasesOf, Rows.Projects, Rows.Tables, Shelf.IsCommitted};
 ghost use Rattle.review_lookups.specs.Counts.{AreBasesBounded, AreBounded, Bounds, Grows};
 
 use review_rows::Delta;

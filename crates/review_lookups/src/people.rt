@@ -1,16 +1,14 @@
 //! What is looked up of accounts and groups.
-ghost use Rattle.std.specs.Prelude.{◌≡◌, true, false, Some, None, option_map, IfOk};
 ghost use Rattle.std.specs.Ordering.{nat_cmp};
+ghost use Rattle.std.specs.Prelude.{◌≡◌, true, false, Some, None, option_map, IfOk};
 ghost use Rattle.sqlite.specs.Held.{state};
 ghost use Rattle.sqlite_trees.specs.Tree.{Trees};
 ghost use Rattle.review_table.specs.Rows.{rows_of};
-ghost use Rattle.review_rows.specs.declared.rows.Want.TheVariants as want;
-ghost use Rattle.review_records.specs.Forms.{accounts, account_names, account_numbers, group_members, member_parts, members};
+ghost use Rattle.review_statements.specs.{Greatest.HasGreatest, Greatest.HasOne, Ran.Looks, Search.row_at};
 ghost use Rattle.review_tables.specs.Fronts.{AreParts};
-ghost use Rattle.review_statements.specs.Greatest.{HasGreatest, HasOne};
-ghost use Rattle.review_statements.specs.Ran.{Looks};
-ghost use Rattle.review_statements.specs.Search.{row_at};
+ghost use Rattle.review_records.specs.Forms.{accounts, account_names, account_numbers, group_members, member_parts, members};
 ghost use Rattle.review_database.specs.Loads.{HasLearnt, Sees};
+ghost use Rattle.review_rows.specs.declared.rows.Want.TheVariants as want;
 
 use review_database::Sight;
 use review_database::learning::{last, learn_group, learn_holder, learn_member, learnt, whole};

@@ -1,19 +1,13 @@
 -- What the lines of an input do to an empty desk in memory.
-use Rattle.std.specs.Prelude.{◌≡◌, ◌⊎◌, ℕ, List, [], Option, Result, Err}
 use Rattle.std.specs.Io.KnownBytes.{Appends}
-use Rattle.review_rows.specs.Rows.{Tables}
-use Rattle.review_rows.specs.Shelf.{in_memory}
-use Rattle.review_rows.specs.View.{IsView}
-use Rattle.review_words.specs.declared.command.Delivery.{Delivery}
-use Rattle.review_words.specs.declared.reply.Reply.{Reply}
-use Rattle.review_branch_laws.specs.Sound.{AreSoundBranches}
+use Rattle.std.specs.Prelude.{◌≡◌, ◌⊎◌, ℕ, List, [], Option, Result, Err}
+use Rattle.review_words.specs.declared.{command.Delivery.Delivery, reply.Reply.Reply}
+use Rattle.review_rows.specs.{Rows.Tables, Shelf.in_memory, View.IsView}
 use Rattle.review_ancestors.specs.Sound.{AreSoundProjects}
-use Rattle.review_deliveries.specs.Delivered.{CountsVotesOnce}
-use Rattle.review_deliveries.specs.Replies.{IsRun, history_after}
-use Rattle.review_lines.specs.Answers.{WereAnswered}
-use Rattle.review_lines.specs.declared.fault.Fault.{Fault}
+use Rattle.review_branch_laws.specs.Sound.{AreSoundBranches}
+use Rattle.review_deliveries.specs.{Delivered.CountsVotesOnce, Replies.IsRun, Replies.history_after}
+use Rattle.review_lines.specs.{Answers.WereAnswered, declared.fault.Fault.Fault, declared.fault.Outcome.Outcome}
 use Rattle.review_lines.specs.declared.fault.Fault.TheVariants as fault
-use Rattle.review_lines.specs.declared.fault.Outcome.{Outcome}
 
 -- there was no memory for a desk, and nothing was written
 abbrev pub HadNoMemory : Option (List ℕ) → Option (List ℕ) → Result Outcome Fault → Type 0

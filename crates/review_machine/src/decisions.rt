@@ -1,15 +1,12 @@
 //! The answer to a command and what it changes, from the rows that decide it.
 ghost use Rattle.std.specs.Prelude.{◌≡◌, ◌<◌, List, IfOk, IfErr, length, option_copied, true, false};
-ghost use Rattle.review_words.specs.Texts.{IsStored};
-ghost use Rattle.review_words.specs.History.{Entry, if_done, is_account};
-ghost use Rattle.review_rows.specs.Answer.{most_requests};
-ghost use Rattle.review_rows.specs.Changes.{Reading};
+ghost use Rattle.review_words.specs.{History.Entry, History.if_done, History.is_account, Texts.IsStored};
+ghost use Rattle.review_rows.specs.{Answer.most_requests, Changes.Reading};
 ghost use Rattle.review_rows.specs.Decisions.{IsUndecided, NamesEachOnce, RestsOn};
-ghost use Rattle.review_rows.specs.Rows.{HasNoEffect, new_least, is_above, is_below};
 ghost use Rattle.review_rows.specs.Known.{known, number_of};
+ghost use Rattle.review_rows.specs.Rows.{HasNoEffect, new_least, is_above, is_below};
+ghost use Rattle.review_rows.specs.{Steps.OfCommand, View.AreEnough, View.IsDecidedAt};
 ghost use Rattle.review_rows.specs.declared.rows.Want.TheVariants as want;
-ghost use Rattle.review_rows.specs.Steps.{OfCommand};
-ghost use Rattle.review_rows.specs.View.{AreEnough, IsDecidedAt};
 
 use review_account_decisions::{close_epoch, create_account, put_group, record_base, refused};
 use review_change_decisions::{create_change, on_change};

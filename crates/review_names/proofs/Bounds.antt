@@ -1,10 +1,8 @@
 -- Numbers up to a greatest one, as texts show them.
 use Rattle.std.proofs.Common.{◌≡◌, ℕ, ◌<◌, ◌≤◌, List, Some, None, true, sym, ap, ◌∙◌, arith}
 use Rattle.std.proofs.lemmas.Bool.Decides.{nat_tests}
-use Rattle.review_names.specs.Forms.{is_within}
-use Rattle.review_names.specs.Numerals.{number_of}
-use Rattle.review_names.specs.Numerals.{numeral}
 use Rattle.review_names.proofs.Numerals.{number_back}
+use Rattle.review_names.specs.{Forms.is_within, Numerals.number_of, Numerals.numeral}
 
 within : (most n : ℕ) → is_within most n ≡ true → (1 ≤ n) × (n ≤ most)
 unfolding is_within

@@ -1,15 +1,11 @@
 -- Numerals read back.
 use Rattle.std.proofs.Common.{◌≡◌, ◌≢◌, ℕ, zero, suc, ◌+◌, ◌*◌, ◌-◌, ◌/◌, ◌%◌, ◌<◌, ◌≤◌, ◌^◌, List, [], ◌∷◌, ◌++◌, append-nil, append_assoc, length, map, Option, Some, None, Bool, true, false, cond, refl, sym, ap, ◌∙◌, subst, arith, get_or, ◌↔◌}
-use Rattle.std.specs.Prelude.{nat_le, nat_lt, ◌&&◌}
-use Rattle.std.specs.List.{AllByRecursion}
-use Rattle.std.specs.Int.Digits.{digits_of, number_from_digits, number_from_digits_after}
-use Rattle.std.specs.Fmt.{decimal}
-use Rattle.std.proofs.lemmas.Fmt.{decimal_digit, decimal-digits_of}
-use Rattle.std.proofs.lemmas.List.{map-append}
+use Rattle.std.proofs.lemmas.{Bool.Decides.nat_tests, Fmt.decimal_digit, Fmt.decimal-digits_of}
 use Rattle.std.proofs.lemmas.Int.Digits.{digits_of_step, length-digits_of_step, all_below_base_digits_of, number_digits_of, number_after_ge, first_digits_of}
-use Rattle.std.proofs.lemmas.Bool.Decides.{nat_tests}
-use Rattle.review_names.specs.Numerals.{shown_digits, numeral}
-use Rattle.review_names.specs.Numerals.{number_after, number_of, begins_well}
+use Rattle.std.{proofs.lemmas.List.map-append, specs.Fmt.decimal}
+use Rattle.std.specs.Int.Digits.{digits_of, number_from_digits, number_from_digits_after}
+use Rattle.std.specs.{List.AllByRecursion, Prelude.nat_le, Prelude.nat_lt, Prelude.◌&&◌}
+use Rattle.review_names.specs.Numerals.{shown_digits, numeral, number_after, number_of, begins_well}
 
 -- no colon
 abbrev pub Plain : List ℕ → Type 0

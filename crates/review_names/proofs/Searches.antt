@@ -1,14 +1,10 @@
 -- What a binary search of a set's numbers finds.
 use Rattle.std.proofs.Common.{◌≡◌, ℕ, ◌<◌, ◌≤◌, List, length, get_or, false, arith, sym}
-use Rattle.std.specs.Prelude.{Result, Ok, Err, ◌==◌, is_ok}
-use Rattle.std.specs.List.{list_any}
-use Rattle.std.specs.List.Sorted.{IsStrictlySortedBy, IsBinarySearchResult}
-use Rattle.std.specs.Ordering.{nat_cmp}
-use Rattle.std.proofs.lemmas.List.Sorted.{searched}
-use Rattle.std.proofs.lemmas.List.{get_or_default}
-use Rattle.std.proofs.lemmas.List.Folds.{list_any_at, list_any_none}
-use Rattle.std.proofs.lemmas.Map.Keys.{non_decreasing_from_sorted}
 use Rattle.std.proofs.lemmas.Bool.Decides.{nat_tests}
+use Rattle.std.proofs.lemmas.List.{get_or_default, Folds.list_any_at, Folds.list_any_none, Sorted.searched}
+use Rattle.std.proofs.lemmas.Map.Keys.{non_decreasing_from_sorted}
+use Rattle.std.specs.{List.list_any, List.Sorted.IsStrictlySortedBy, List.Sorted.IsBinarySearchResult, Ordering.nat_cmp}
+use Rattle.std.specs.Prelude.{Result, Ok, Err, ◌==◌, is_ok}
 
 other : (xs : List ℕ) (x k d : ℕ) → k < length xs → {i : ℕ} → (k < i → get_or xs k 0 < x) → (i ≤ k → x < get_or xs k 0) → (get_or xs k d == x) ≡ false
 other xs x k d within below above =

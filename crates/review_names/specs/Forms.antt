@@ -1,12 +1,8 @@
 -- The forms of the names of labels, projects, branches, commits and paths, of subjects and messages, and of the numbers of changes, patch sets and comments.
+use Rattle.std.specs.{BTreeSet.insert_key, Char.is_ascii_alphabetic, Char.is_ascii_alphanumeric, Char.is_ascii_control}
+use Rattle.std.specs.{Cmp.Lexicographic.slice_cmp, Int.is_in_range, List.list_all, Ordering.nat_cmp}
 use Rattle.std.specs.Prelude.{ℕ, List, [], ◌∷◌, Bool, true, false, not, ◌&&◌, ◌||◌, ◌==◌, nat_le, if◌then◌else◌, length, codes}
-use Rattle.std.specs.List.{list_all}
-use Rattle.std.specs.Char.{is_ascii_alphabetic, is_ascii_alphanumeric, is_ascii_control}
-use Rattle.std.specs.Int.{is_in_range}
-use Rattle.std.specs.Cmp.Lexicographic.{slice_cmp}
-use Rattle.std.specs.Ordering.{nat_cmp}
 use Rattle.std.specs.Str.{bytes_eq}
-use Rattle.std.specs.BTreeSet.{insert_key}
 use Rattle.review_names.specs.Names.{is_plain}
 
 -- letters, digits and hyphens to the end, each hyphen before a letter; the flag: a letter has to come first

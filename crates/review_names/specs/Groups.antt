@@ -1,10 +1,6 @@
 -- Who is in a group.
+use Rattle.std.specs.{BTreeMap.is_at, Cmp.Lexicographic.slice_cmp, List.list_any, Map.lookup, Ordering.nat_cmp}
 use Rattle.std.specs.Prelude.{ℕ, List, [], Bool, ◌||◌, ◌==◌, unwrap_or}
-use Rattle.std.specs.BTreeMap.{is_at}
-use Rattle.std.specs.Cmp.Lexicographic.{slice_cmp}
-use Rattle.std.specs.List.{list_any}
-use Rattle.std.specs.Map.{lookup}
-use Rattle.std.specs.Ordering.{nat_cmp}
 use Rattle.std.specs.Str.{bytes_eq}
 use Rattle.review_names.specs.Names.{registered_users}
 

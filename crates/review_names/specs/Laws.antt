@@ -1,10 +1,7 @@
 -- What is said of forms in other words than those by which they are read.
+use Rattle.std.specs.{Char.is_ascii_alphabetic, Char.is_ascii_alphanumeric, List.list_all}
 use Rattle.std.specs.Prelude.{ℕ, ◌≡◌, ◌<◌, ◌↔◌, List, [], ◌∷◌, Some, Bool, true, false, not, ◌&&◌, ◌||◌, ◌==◌, nat_le, length}
-use Rattle.std.specs.List.{list_all}
-use Rattle.std.specs.Char.{is_ascii_alphabetic, is_ascii_alphanumeric}
-use Rattle.review_names.specs.Forms.{is_label}
-use Rattle.review_names.specs.Numerals.{numeral}
-use Rattle.review_names.specs.Numerals.{number_of}
+use Rattle.review_names.specs.{Forms.is_label, Numerals.numeral, Numerals.number_of}
 
 -- A number below 2^64 is read from the text that shows it in decimal, and from no other text.
 abbrev pub ReadsNumerals : Type 0

@@ -1,9 +1,6 @@
 -- The forms of names and numbers.
+use Rattle.std.specs.{BTreeSet.insert_key, Char.is_ascii_alphanumeric, List.list_all, Ordering.nat_cmp}
 use Rattle.std.specs.Prelude.{ℕ, List, [], ◌∷◌, Bool, ◌&&◌, ◌||◌, ◌==◌, nat_le, length, codes}
-use Rattle.std.specs.List.{list_all}
-use Rattle.std.specs.Char.{is_ascii_alphanumeric}
-use Rattle.std.specs.Ordering.{nat_cmp}
-use Rattle.std.specs.BTreeSet.{insert_key}
 
 -- a letter, a digit, a dot, an underscore or a hyphen
 abbrev pub is_plain : ℕ → Bool

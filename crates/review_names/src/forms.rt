@@ -1,8 +1,8 @@
 //! Texts of a fixed form. Contracts see a name's bytes.
-ghost use Rattle.std.specs.Prelude.{◌≡◌, ◌==◌, ℕ, List, Bool, Some, Err, true, false, IfOk, IsTrue, refl};
-ghost use Rattle.std.specs.Rc.{rc_str_bytes};
 ghost use Rattle.std.specs.Cmp.Lexicographic.{pointwise, slice_cmp, nat_list_eq_equiv, nat_list_cmp_total, texts_ties, texts_po};
 ghost use Rattle.std.specs.Ordering.{nat_cmp};
+ghost use Rattle.std.specs.Prelude.{◌≡◌, ◌==◌, ℕ, List, Bool, Some, Err, true, false, IfOk, IsTrue, refl};
+ghost use Rattle.std.specs.Rc.{rc_str_bytes};
 ghost use Rattle.std.specs.Cmp as Cmp;
 
 use crate::names::BadName;
@@ -29,8 +29,7 @@ pub struct Name<F: Form> {
 }
 
 impl<F: Form> Model for Name<F> {
-    ghost use Rattle.std.specs.Prelude.{ℕ, List, IsTrue};
-    ghost use Rattle.std.specs.Rc.{rc_str_bytes};
+    ghost use Rattle.std.specs.{Prelude.ℕ, Prelude.List, Prelude.IsTrue, Rc.rc_str_bytes};
 
     ghost Value = { List ℕ };
 

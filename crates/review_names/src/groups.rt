@@ -1,10 +1,7 @@
 //! Groups of accounts, and sets of paths.
+ghost use Rattle.std.specs.{Cmp.Lexicographic.slice_cmp, List.Sorted.IsStrictlySortedBy, Ordering.nat_cmp};
 ghost use Rattle.std.specs.Prelude.{◌≡◌, ◌≤◌, ◌<◌, Err, IfOk, length};
-ghost use Rattle.std.specs.Cmp.Lexicographic.{slice_cmp};
-ghost use Rattle.std.specs.List.Sorted.{IsStrictlySortedBy};
-ghost use Rattle.std.specs.Ordering.{nat_cmp};
-ghost use Rattle.review_names.specs.Forms.{text_set, most_paths};
-ghost use Rattle.review_names.specs.Groups.{has_account};
+ghost use Rattle.review_names.specs.{Forms.text_set, Forms.most_paths, Groups.has_account};
 
 use crate::names::{AccountNo, BadName, GroupName, Members};
 use crate::places::Path;
@@ -47,10 +44,8 @@ pub struct Paths {
 }
 
 impl Model for Paths {
+    ghost use Rattle.std.specs.{Cmp.Lexicographic.slice_cmp, List.Sorted.IsStrictlySortedBy, Ordering.nat_cmp};
     ghost use Rattle.std.specs.Prelude.{ℕ, List, length, ◌≤◌};
-    ghost use Rattle.std.specs.Cmp.Lexicographic.{slice_cmp};
-    ghost use Rattle.std.specs.List.Sorted.{IsStrictlySortedBy};
-    ghost use Rattle.std.specs.Ordering.{nat_cmp};
     ghost use Rattle.review_names.specs.Forms.{most_paths};
 
     ghost Value = { List (List ℕ) };

@@ -1,6 +1,5 @@
 //! What people write: subjects, reasons and messages.
-ghost use Rattle.std.specs.Prelude.{◌≡◌, ◌==◌, not};
-ghost use Rattle.std.specs.List.{list_all};
+ghost use Rattle.std.specs.{List.list_all, Prelude.◌≡◌, Prelude.◌==◌, Prelude.not};
 ghost use Rattle.review_names.specs.Forms.{is_line, is_message};
 
 use crate::forms::{Form, Name};

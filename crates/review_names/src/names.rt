@@ -1,13 +1,10 @@
 //! Names and numbers of fixed forms. Contracts see a name's bytes, and a number itself.
-ghost use Rattle.std.specs.Prelude.{◌≡◌, ◌+◌, ◌≤◌, ◌<◌, ◌==◌, ℕ, List, Bool, Option, Some, None, Err, true, false, IfOk, IfErr, IfSome, length, IsTrue, if◌then◌else◌, refl};
-ghost use Rattle.std.specs.List.{list_all, list_any};
 ghost use Rattle.std.specs.Cmp.Lexicographic.{pointwise, slice_cmp, nat_list_eq_equiv, nat_list_cmp_total, texts_ties, texts_po};
-ghost use Rattle.std.specs.Ordering.{nat_cmp};
-ghost use Rattle.std.specs.Cmp as Cmp;
-ghost use Rattle.std.specs.List.Sorted.{IsStrictlySortedBy};
+ghost use Rattle.std.specs.{List.list_all, List.list_any, List.Sorted.IsStrictlySortedBy, Ordering.nat_cmp};
+ghost use Rattle.std.specs.Prelude.{◌≡◌, ◌+◌, ◌≤◌, ◌<◌, ◌==◌, ℕ, List, Bool, Option, Some, None, Err, true, false, IfOk, IfErr, IfSome, length, IsTrue, if◌then◌else◌, refl};
 ghost use Rattle.review_names.specs.Names.{administrators, admin_name, is_word, is_plain, is_account_number, set_of, most_members};
-ghost use Rattle.review_names.specs.Numerals.{numeral};
-ghost use Rattle.review_names.specs.Numerals.{account_of};
+ghost use Rattle.review_names.specs.Numerals.{numeral, account_of};
+ghost use Rattle.std.specs.Cmp as Cmp;
 
 use crate::forms::{Form, Name};
 use crate::numbers::read_number;
@@ -228,9 +225,8 @@ pub struct Members {
 }
 
 impl Model for Members {
+    ghost use Rattle.std.specs.{List.Sorted.IsStrictlySortedBy, Ordering.nat_cmp};
     ghost use Rattle.std.specs.Prelude.{ℕ, List, length, ◌≤◌};
-    ghost use Rattle.std.specs.List.Sorted.{IsStrictlySortedBy};
-    ghost use Rattle.std.specs.Ordering.{nat_cmp};
     ghost use Rattle.review_names.specs.Names.{most_members};
 
     ghost Value = { List ℕ };

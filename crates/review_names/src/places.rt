@@ -1,7 +1,6 @@
 //! The names of labels, projects, branches and commits, paths, and the places of comments.
+ghost use Rattle.std.specs.{Char.is_ascii_control, List.list_all};
 ghost use Rattle.std.specs.Prelude.{◌≡◌, ◌==◌, ◌&&◌, IfOk, not};
-ghost use Rattle.std.specs.List.{list_all};
-ghost use Rattle.std.specs.Char.{is_ascii_control};
 ghost use Rattle.review_names.specs.Forms.{components, goes_on, is_hexadecimal, is_label, is_slashed_name, is_step, is_commit, is_path, is_path_step, is_place, patch_set_level};
 
 use crate::forms::{Form, Name};

@@ -1,52 +1,37 @@
 -- What a PutProject does by what rows know of the line of its project.
 use Rattle.std.proofs.Common.{◌≡◌, ℕ, suc, arith, List, [], ◌∷◌, length, Option, Some, None, Result, Ok, Err, Bool, true, false, cond, not, ◌||◌, ◌∙◌, ◌⊎◌, refl, sym, ap, subst, inl, inr, ⊎_elim}
+use Rattle.std.proofs.lemmas.{Bool.Decides.nat_tests, Slice.Eq.bytes_eq-Decides}
+use Rattle.std.specs.{Bool.MatchBool, List.AllByRecursion, Option.option_map_or}
 use Rattle.std.specs.Prelude.{is_some, nat_lt, IfErr, IfOk, MatchOption, option_map, option_and_then}
-use Rattle.std.specs.Bool.{MatchBool}
-use Rattle.std.specs.List.{AllByRecursion}
-use Rattle.std.specs.Option.{option_map_or}
-use Rattle.std.proofs.lemmas.Bool.Decides.{nat_tests}
-use Rattle.std.proofs.lemmas.Slice.Eq.{bytes_eq-Decides}
+use Rattle.review_words.specs.History.{Entry, is_account, is_admin, is_project, project_count}
 use Rattle.review_words.specs.declared.command.Command.TheVariants.{PutProject}
-use Rattle.review_words.specs.declared.faults.FileFault.{FileFault}
-use Rattle.review_words.specs.declared.faults.FileFault.TheVariants.{UnknownLabel}
-use Rattle.review_words.specs.declared.reply.Reply.{Reply}
-use Rattle.review_words.specs.declared.reply.Reply.TheVariants.{Refused}
-use Rattle.review_words.specs.declared.reply.Answer.TheVariants.{Nothing}
+use Rattle.review_words.specs.declared.faults.FileFault.{FileFault, TheVariants.UnknownLabel}
+use Rattle.review_words.specs.declared.reply.{Answer.TheVariants.Nothing, NotTaken.NotTaken as Cause}
+use Rattle.review_words.specs.declared.reply.NotTaken.TheVariants.{Memory, Store, Damaged, Pattern, Full}
 use Rattle.review_words.specs.declared.reply.Refusal.{Refusal}
 use Rattle.review_words.specs.declared.reply.Refusal.TheVariants.{BadFile, LabelNarrowed, Limit, NoParent, ParentDepth, ParentFixed}
-use Rattle.review_words.specs.declared.reply.NotTaken.{NotTaken as Cause}
-use Rattle.review_words.specs.declared.reply.NotTaken.TheVariants.{Memory, Store, Damaged, Pattern, Full}
-use Rattle.review_words.specs.History.{Entry, is_account, is_admin, is_project, project_count}
+use Rattle.review_words.specs.declared.reply.Reply.{Reply, TheVariants.Refused}
 use Rattle.review_project.specs.Inherited.{IsEffective, inherit, inherits_unknown_label}
 use Rattle.review_project.specs.Reading.{IsReadFault, named_parent}
-use Rattle.review_project.specs.Trees.{file_trees}
-use Rattle.review_project.specs.declared.fault.ReadFault.{ReadFault}
-use Rattle.review_project.specs.declared.fault.ReadFault.TheVariants as read
-use Rattle.review_rows.specs.Answer.{IsAnswerBy, file_checks, file_with, first_refusal, is_same_parent, puts_unknown_label, refused_or}
-use Rattle.review_rows.specs.Answer.{keeps_parent as keeps_parent_of}
+use Rattle.review_project.specs.{Trees.file_trees, declared.fault.ReadFault.ReadFault}
+use Rattle.review_inheritance.proofs.{Alike.covers_seen, Alike.inherits_above, Trees.inherit_trees}
+use Rattle.review_effective.specs.Texts.{LineView}
+use Rattle.review_rows.proofs.{Asked.line_asked, Lined.line_told, Lined.own_told, Lined.texts_told, Lined.there_is}
+use Rattle.review_rows.specs.Answer.{IsAnswerBy, file_checks, file_with, first_refusal, is_same_parent, puts_unknown_label, refused_or, keeps_parent as keeps_parent_of}
 use Rattle.review_rows.specs.Changes.{Reading, depth, effective_of, file_of, own_of, texts_of}
 use Rattle.review_rows.specs.Decisions.{IsUndecided, IsUnread, SomePattern}
 use Rattle.review_rows.specs.Files.{File, IsRead, IsFileFault, covers}
-use Rattle.review_rows.specs.Limits.{most_projects}
-use Rattle.review_rows.specs.Lines.{line_of, most_depth, with_above}
-use Rattle.review_rows.specs.Rows.{HasNoEffect}
+use Rattle.review_rows.specs.{Limits.most_projects, Lines.line_of, Lines.most_depth, Lines.with_above, Rows.HasNoEffect}
 use Rattle.review_rows.specs.Steps.{HasFile, OfCommand, line_steps, own_in, parent_of, parent_or, texts_in, unknown}
 use Rattle.review_rows.specs.View.{AreEnough, IsDecided}
-use Rattle.review_rows.specs.declared.rows.Counted.TheVariants as counted
-use Rattle.review_rows.specs.declared.rows.Delta.{Delta}
-use Rattle.review_rows.specs.declared.rows.Rows.{Rows}
-use Rattle.review_rows.specs.declared.rows.StoredFile.{StoredFile}
-use Rattle.review_rows.proofs.Asked.{line_asked}
-use Rattle.review_rows.proofs.Lined.{line_told, own_told, texts_told, there_is}
-use Rattle.review_effective.specs.Texts.{LineView}
-use Rattle.review_inheritance.proofs.Alike.{covers_seen, inherits_above}
-use Rattle.review_inheritance.proofs.Trees.{inherit_trees}
+use Rattle.review_rows.specs.declared.rows.{Delta.Delta, Rows.Rows, StoredFile.StoredFile}
+use Rattle.review_account_decisions.proofs.Decided.{asked_beside, empty_changes, outcome_answer, project_refused, refused_decided, file_decided}
+use Rattle.review_account_decisions.{proofs.Told.room_told, specs.Decisions.IsEmpty}
 use Rattle.review_ancestors.proofs.Accepted.{parent_named}
 use Rattle.review_ancestors.proofs.Effective.{OneEffective, effective_is, line_read, same_file}
-use Rattle.review_account_decisions.specs.Decisions.{IsEmpty}
-use Rattle.review_account_decisions.proofs.Told.{room_told}
-use Rattle.review_account_decisions.proofs.Decided.{asked_beside, empty_changes, outcome_answer, project_refused, refused_decided, file_decided}
 use Rattle.review_needs.specs.Files.{IsFilePut, IsPut, IsPutBelow, IsReadCause, file_refused, has_unknown, heir, heir_refused, keeps_parent, parent_refused, room_in}
+use Rattle.review_project.specs.declared.fault.ReadFault.TheVariants as read
+use Rattle.review_rows.specs.declared.rows.Counted.TheVariants as counted
 
 -- a refusal changes nothing
 pub refused_nothing : (r : Delta × Reply) (refusal : Refusal) → IsEmpty r.0 → r.1 ≡ Refused refusal → HasNoEffect r.1 r.0

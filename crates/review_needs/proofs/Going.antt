@@ -2,20 +2,15 @@
 use Rattle.std.proofs.Common.{List, ap, ◌≡◌, ℕ, true, [], Option, Some, None, refl, sym, ◌∙◌, subst}
 use Rattle.std.specs.Prelude.{◌&&◌, not, is_some, IfSome}
 use Rattle.review_words.specs.declared.command.Command.TheVariants.{CreateAccount, PutGroup, PutProject, RecordBase, CloseEpoch, CreateChange, OnChange, Submit}
-use Rattle.review_changes.specs.Change.{Change, is_open}
-use Rattle.review_chain.specs.declared.walks.Walked.{Walked}
-use Rattle.review_chain.specs.Branches.{Branch}
-use Rattle.review_chain.specs.Parts.{HasWalked}
 use Rattle.review_chain.proofs.Wanting.{walked_alone}
-use Rattle.review_rows.specs.Files.{File}
-use Rattle.review_rows.specs.declared.rows.Rows.{Rows}
-use Rattle.review_rows.specs.declared.rows.Want.TheVariants as want
-use Rattle.review_rows.specs.Known.{known, change_in}
-use Rattle.review_rows.specs.Links.{links_in}
+use Rattle.review_chain.specs.{Branches.Branch, Parts.HasWalked, declared.walks.Walked.Walked}
+use Rattle.review_changes.specs.Change.{Change, is_open}
+use Rattle.review_rows.specs.{Files.File, Known.known, Known.change_in, Links.links_in}
 use Rattle.review_rows.specs.Steps.{Topic, OfCommand, OfQuery, HasComeTo, MayGoOn, last_wants, next, next_of, or_next, steps, unless_none}
-use Rattle.review_rows.specs.declared.rows.Want.{Want}
+use Rattle.review_rows.specs.declared.rows.{Rows.Rows, Want.Want}
 use Rattle.review_needs.proofs.Asking.{first_left}
 use Rattle.review_needs.specs.Walks.{IsWalkIn, MayGoOnFor}
+use Rattle.review_rows.specs.declared.rows.Want.TheVariants as want
 
 -- a walk that was begun goes on in the branch of the change
 pub may_walk : (rows : Rows) (n : ℕ) (c : Change) (o : Option Walked) → change_in (known rows (want.Change n)) ≡ Some c → MayGoOn rows n o → IfSome o (IsWalkIn (links_in rows c.project c.branch) n)

@@ -1,19 +1,15 @@
 -- The texts of a line as rows know them, one after the other.
-use Rattle.std.proofs.Common.{◌≡◌, ℕ, zero, suc, ◌-◌, ◌<◌, List, [], ◌∷◌, ◌++◌, length, get_or, Option, Some, None, refl, sym, ap, ◌∙◌, subst, inl, inr, arith}
 use native.Mathlib.Numerals.{unary_clauses}
+use Rattle.std.proofs.Common.{◌≡◌, ℕ, zero, suc, ◌-◌, ◌<◌, List, [], ◌∷◌, ◌++◌, length, get_or, Option, Some, None, refl, sym, ap, ◌∙◌, subst, inl, inr, arith}
 use Rattle.std.specs.Option.{option_map_or}
-use Rattle.review_project.specs.Inherited.{IsEffective}
-use Rattle.review_project.specs.Patterns.{HasPattern}
-use Rattle.review_project.specs.declared.fault.ReadFault.{ReadFault}
-use Rattle.review_project.specs.declared.fault.ReadFault.TheVariants as read
+use Rattle.review_project.specs.{Inherited.IsEffective, Patterns.HasPattern, declared.fault.ReadFault.ReadFault}
 use Rattle.review_effective.specs.Texts.{IsLineFault}
-use Rattle.review_rows.specs.declared.rows.Rows.{Rows}
-use Rattle.review_rows.specs.declared.rows.StoredFile.{StoredFile}
-use Rattle.review_rows.specs.Decisions.{IsUnread, SomePattern}
-use Rattle.review_rows.specs.Files.{File}
+use Rattle.review_rows.specs.{Decisions.IsUnread, Decisions.SomePattern, Files.File}
 use Rattle.review_rows.specs.Lines.{line_of, most_depth, with_above}
 use Rattle.review_rows.specs.Steps.{HasFile, own_in, texts_in}
+use Rattle.review_rows.specs.declared.rows.{Rows.Rows, StoredFile.StoredFile}
 use Rattle.review_needs.specs.Files.{unread_cause}
+use Rattle.review_project.specs.declared.fault.ReadFault.TheVariants as read
 
 -- the texts of a project and its ancestors, so many at most
 abbrev pub texts_from : Rows → ℕ → Option (List ℕ) → List (List ℕ)

@@ -1,30 +1,21 @@
 -- What is done with the files of projects.
+use Rattle.std.specs.{Bool.MatchBool, Option.option_map_or}
 use Rattle.std.specs.Prelude.{ℕ, ◌≡◌, List, [], ◌∷◌, Option, Some, None, Bool, true, false, is_some, length, nat_lt, not, ◌||◌, MatchOption, option_map, if◌then◌else◌}
-use Rattle.std.specs.Bool.{MatchBool}
-use Rattle.std.specs.Option.{option_map_or}
 use Rattle.review_words.specs.declared.faults.FileFault.TheVariants.{UnknownLabel}
-use Rattle.review_words.specs.declared.reply.Reply.{Reply}
-use Rattle.review_words.specs.declared.reply.Reply.TheVariants.{Done, Refused}
-use Rattle.review_words.specs.declared.reply.Answer.TheVariants.{Nothing}
+use Rattle.review_words.specs.declared.reply.{Answer.TheVariants.Nothing, NotTaken.NotTaken as Cause}
+use Rattle.review_words.specs.declared.reply.NotTaken.TheVariants.{Memory, Pattern, Damaged}
 use Rattle.review_words.specs.declared.reply.Refusal.{Refusal}
 use Rattle.review_words.specs.declared.reply.Refusal.TheVariants.{BadFile, LabelNarrowed, Limit, NoParent, ParentDepth, ParentFixed}
-use Rattle.review_words.specs.declared.reply.NotTaken.{NotTaken as Cause}
-use Rattle.review_words.specs.declared.reply.NotTaken.TheVariants.{Memory, Pattern, Damaged}
+use Rattle.review_words.specs.declared.reply.Reply.{Reply, TheVariants.Done, TheVariants.Refused}
 use Rattle.review_project.specs.Inherited.{inherit, inherits_unknown_label}
-use Rattle.review_project.specs.Rights.{covers}
-use Rattle.review_project.specs.declared.fault.ReadFault.{ReadFault}
+use Rattle.review_project.specs.{Rights.covers, declared.fault.ReadFault.ReadFault}
+use Rattle.review_rows.specs.{Answer.first_refusal, Answer.is_same_parent, Files.File, Known.known, Known.is_so}
+use Rattle.review_rows.specs.{Lines.most_depth, Steps.HasFile, Steps.own_in, Steps.texts_in}
+use Rattle.review_rows.specs.declared.rows.{Delta.Delta, Rows.Rows, StoredFile.StoredFile}
+use Rattle.review_account_decisions.specs.Decisions.{IsEmpty}
 use Rattle.review_project.specs.declared.fault.ReadFault.TheVariants as read
-use Rattle.review_rows.specs.Answer.{first_refusal, is_same_parent}
-use Rattle.review_rows.specs.Files.{File}
-use Rattle.review_rows.specs.Lines.{most_depth}
-use Rattle.review_rows.specs.Steps.{HasFile, own_in, texts_in}
-use Rattle.review_rows.specs.declared.rows.Delta.{Delta}
-use Rattle.review_rows.specs.declared.rows.Rows.{Rows}
-use Rattle.review_rows.specs.declared.rows.StoredFile.{StoredFile}
 use Rattle.review_rows.specs.declared.rows.Want.TheVariants as want
 use Rattle.review_rows.specs.declared.rows.Counted.TheVariants as counted
-use Rattle.review_rows.specs.Known.{known, is_so}
-use Rattle.review_account_decisions.specs.Decisions.{IsEmpty}
 
 -- whether rows know of room for one more project
 abbrev pub room_in : Rows → Bool

@@ -1,8 +1,8 @@
 //! The project by whose file a command or a question is judged.
 ghost use Rattle.std.specs.Prelude.{◌≡◌, option_copied};
 ghost use Rattle.review_rows.specs.Known.{known, change_in};
-ghost use Rattle.review_rows.specs.declared.rows.Want.TheVariants as want;
 ghost use Rattle.review_rows.specs.Steps.{asks_file, needs_file, project_for, project_of, topic_of};
+ghost use Rattle.review_rows.specs.declared.rows.Want.TheVariants as want;
 
 use review_rows::{Matter, Rows};
 use review_words::{ChangeCommand, ChangeNo, ChangeQuery, Command, ProjectName, Query};

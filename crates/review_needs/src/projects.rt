@@ -1,21 +1,15 @@
 //! Decisions on the files of projects.
-ghost use Rattle.std.specs.Prelude.{◌≡◌, ◌≢◌, ◌⊎◌, [], List, IfOk, IfErr, IfSome, Some, None, is_some, length, option_copied, option_map, true, false};
 ghost use Rattle.std.specs.Option.{option_map_or};
-ghost use Rattle.review_words.specs.Texts.{IsStored};
-ghost use Rattle.review_words.specs.History.{Entry, is_account};
-ghost use Rattle.review_words.specs.declared.command.Command.TheVariants.{PutProject};
-ghost use Rattle.review_rows.specs.Rows.{HasNoEffect};
-ghost use Rattle.review_rows.specs.Changes.{Reading};
-ghost use Rattle.review_rows.specs.Steps.{OfCommand, own_in, texts_in};
-ghost use Rattle.review_rows.specs.View.{AreEnough, IsDecided};
-ghost use Rattle.review_words.specs.declared.reply.NotTaken.TheVariants.{Memory};
+ghost use Rattle.std.specs.Prelude.{◌≡◌, ◌≢◌, ◌⊎◌, [], List, IfOk, IfErr, IfSome, Some, None, is_some, length, option_copied, option_map, true, false};
+ghost use Rattle.review_words.specs.{History.Entry, History.is_account, Texts.IsStored};
+ghost use Rattle.review_words.specs.declared.{command.Command.TheVariants.PutProject, reply.Answer.TheVariants.Nothing};
+ghost use Rattle.review_words.specs.declared.reply.{NotTaken.TheVariants.Memory, Refusal.TheVariants.BadFile};
 ghost use Rattle.review_words.specs.declared.reply.Reply.TheVariants.{Done, Refused};
-ghost use Rattle.review_words.specs.declared.reply.Answer.TheVariants.{Nothing};
-ghost use Rattle.review_words.specs.declared.reply.Refusal.TheVariants.{BadFile};
-ghost use Rattle.review_project.specs.Rights.{covers};
-ghost use Rattle.review_project.specs.declared.fault.ReadFault.TheVariants.{File};
-ghost use Rattle.review_rows.specs.Answer.{is_same_parent};
+ghost use Rattle.review_project.specs.{Rights.covers, declared.fault.ReadFault.TheVariants.File};
+ghost use Rattle.review_rows.specs.{Answer.is_same_parent, Changes.Reading};
 ghost use Rattle.review_rows.specs.Decisions.{IsUndecided, IsUnread, NamesEachOnce};
+ghost use Rattle.review_rows.specs.{Rows.HasNoEffect, Steps.OfCommand, Steps.own_in, Steps.texts_in};
+ghost use Rattle.review_rows.specs.View.{AreEnough, IsDecided};
 ghost use Rattle.review_account_decisions.specs.Decisions.{IsEmpty};
 ghost use Rattle.review_needs.specs.Files.{file_refused, has_unknown, heir, keeps_parent, parent_refused, room_in, IsFilePut, IsPut, IsPutBelow, IsReadCause, PutsFile};
 

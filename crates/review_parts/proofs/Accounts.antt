@@ -1,20 +1,13 @@
 -- Rows by account, and who is called.
 use denote.Ref.{Bor}
 use Rattle.std.proofs.Common.{◌≡◌, ℕ, List, [], ◌∷◌, map, Option, Some, None, Bool, true, false, not, ◌&&◌, ◌||◌, refl, sym, ap, ◌∙◌, eqb-true, eq-eqb, arith}
-use Rattle.std.proofs.lemmas.Bool.Decides.{nat_tests}
-use Rattle.std.specs.Map.Iter.{deref_pair}
+use Rattle.std.{proofs.lemmas.Bool.Decides.nat_tests, specs.BTreeMap.is_at}
+use Rattle.std.specs.{Cmp.unsigned_tied, List.list_any, List.filter, Map.Iter.deref_pair, Ordering.nat_cmp}
 use Rattle.std.specs.Prelude.{◌==◌, if◌then◌else◌, is_some}
-use Rattle.std.specs.List.{list_any, filter}
-use Rattle.std.specs.Ordering.{nat_cmp}
-use Rattle.std.specs.Cmp.{unsigned_tied}
-use Rattle.std.specs.BTreeMap.{is_at}
 use Rattle.review_table.specs.Rows.{row_in, rows_of}
-use Rattle.review_changes.specs.declared.rows.Called.{Called}
-use Rattle.review_changes.specs.declared.rows.Why.{Why}
-use Rattle.review_changes.specs.Change.{kept_or}
-use Rattle.review_changes.specs.Seen.{of_account}
-use Rattle.review_parts.specs.Tables.{called_among}
+use Rattle.review_changes.specs.{Change.kept_or, Seen.of_account, declared.rows.Called.Called, declared.rows.Why.Why}
 use Rattle.review_parts.proofs.InTurn.{Tells, at_sym}
+use Rattle.review_parts.specs.Tables.{called_among}
 
 pub accounts_tell : Tells nat_cmp
 accounts_tell = record {

@@ -1,24 +1,15 @@
 -- Copy conditions that were compiled.
 use Rattle.std.proofs.Common.{◌≡◌, ◌<◌, ◌+◌, ℕ, ℤ, List, [], ◌∷◌, ◌++◌, length, take, get_or, ap₂, Bool, true, false, Option, Some, None, Result, Ok, Err, IfOk, map, sym, ap, ◌∙◌, subst, refl}
-use Rattle.std.specs.Prelude.{cond, find, option_map}
-use Rattle.std.specs.List.{All}
-use Rattle.std.specs.Option.{option_map_or}
-use Rattle.std.specs.Str.{bytes_eq}
-use Rattle.std.specs.declared.alloc.AllocError.{AllocError}
-use Rattle.std.proofs.Math.Bool.{Bool-set}
-use Rattle.std.proofs.Math.Logic.{∥∥₁_elim}
-use Rattle.std.specs.Coded.{Unit-prop}
-use Rattle.std.proofs.lemmas.List.Elements.{All-head, All-tail}
-use Rattle.std.proofs.lemmas.List.{map-append, take_more}
+use Rattle.std.proofs.Math.{Bool.Bool-set, Logic.∥∥₁_elim}
+use Rattle.std.proofs.lemmas.List.{map-append, take_more, Elements.All-head, Elements.All-tail}
+use Rattle.std.specs.{Coded.Unit-prop, List.All, Option.option_map_or, Prelude.cond, Prelude.find, Prelude.option_map}
+use Rattle.std.specs.{Str.bytes_eq, declared.alloc.AllocError.AllocError}
 use Rattle.review_judging.specs.declared.facts.VoteFacts.{VoteFacts}
-use Rattle.review_expr.specs.declared.expr.Expr.{Expr}
-use Rattle.review_expr.specs.declared.compiled.Terms.{Terms}
-use Rattle.review_expr.specs.Exprs.{AreTermsOf}
+use Rattle.review_expr.specs.{Exprs.AreTermsOf, declared.compiled.Terms.Terms, declared.expr.Expr.Expr}
 use Rattle.review_project.specs.View.{FileView, LabelView}
 use Rattle.review_changes.specs.Change.{condition_holds, label_in, range_of}
-use Rattle.review_parts.specs.declared.copying.Condition.{Condition}
 use Rattle.review_parts.specs.Conditions.{AreConditions, AreTermsOfAny, IsCompiled}
-use Rattle.review_parts.specs.Copies.{copies_by}
+use Rattle.review_parts.specs.{Copies.copies_by, declared.copying.Condition.Condition}
 
 abbrev label_of : Condition → LabelView Expr
 label_of c = c.label.now

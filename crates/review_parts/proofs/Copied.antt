@@ -1,27 +1,17 @@
 -- Votes that a new patch set copies.
 use denote.Ref.{Bor}
-use Rattle.std.specs.Map.Iter.{deref_pair}
-use Rattle.std.proofs.lemmas.List.{at_drop_more}
 use Rattle.std.proofs.Common.{◌≡◌, ◌<◌, ◌+◌, length, drop, get_or, map, append_assoc, ℕ, ℤ, pos, List, [], ◌∷◌, ◌++◌, ◌||◌, Option, Some, None, Bool, true, false, not, ◌&&◌, refl, sym, ap, ◌∙◌, eqb-true, eq-eqb}
-use Rattle.std.specs.Prelude.{◌==◌, if◌then◌else◌}
-use Rattle.std.specs.Str.{bytes_eq}
-use Rattle.std.specs.Ordering.{int_eq}
-use Rattle.std.specs.List.Sorted.{IsStrictlySortedBy}
-use Rattle.std.specs.Map.{keys_of}
-use Rattle.std.specs.BTreeMap.{is_at}
-use Rattle.std.proofs.lemmas.Bool.{and_parts, and_from}
-use Rattle.std.proofs.lemmas.Bool.Decides.{Decides-int_eq}
-use Rattle.std.proofs.lemmas.Slice.Eq.{bytes_eq-Decides}
+use Rattle.std.proofs.lemmas.Bool.{and_parts, and_from, Decides.Decides-int_eq}
+use Rattle.std.proofs.lemmas.{List.at_drop_more, Slice.Eq.bytes_eq-Decides}
+use Rattle.std.specs.{BTreeMap.is_at, List.Sorted.IsStrictlySortedBy, Map.keys_of, Map.Iter.deref_pair, Ordering.int_eq}
+use Rattle.std.specs.{Prelude.◌==◌, Prelude.if◌then◌else◌, Str.bytes_eq}
 use Rattle.review_table.specs.Rows.{row_in, rows_of}
-use Rattle.review_changes.specs.declared.rows.VoteKey.{VoteKey}
-use Rattle.review_changes.specs.declared.rows.PatchRow.{PatchRow}
-use Rattle.review_changes.specs.Change.{last_uploader}
-use Rattle.review_changes.specs.Seen.{Votes, vote_cmp, vote_in, value_of}
-use Rattle.review_changes.specs.Votes.{voted}
-use Rattle.review_parts.specs.Copies.{Copies, has_lost, copied_rows, lost_rows}
-use Rattle.review_parts.specs.Tables.{put_in, or_else}
+use Rattle.review_changes.specs.{Change.last_uploader, Seen.Votes, Seen.vote_cmp, Seen.vote_in, Seen.value_of}
+use Rattle.review_changes.specs.{Votes.voted, declared.rows.PatchRow.PatchRow, declared.rows.VoteKey.VoteKey}
 use Rattle.review_parts.proofs.InTurn.{put_where, none_after}
 use Rattle.review_parts.proofs.VoteKeys.{vote_key, vote_tied, votes_tell}
+use Rattle.review_parts.specs.Copies.{Copies, has_lost, copied_rows, lost_rows}
+use Rattle.review_parts.specs.Tables.{put_in, or_else}
 
 -- a row that is copied
 abbrev copied_of : Copies → List ℕ → ℕ → Option ℤ → Option ℤ

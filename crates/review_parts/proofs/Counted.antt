@@ -1,17 +1,11 @@
 -- Counting votes.
 use Rattle.std.proofs.Common.{◌≡◌, ℕ, ℤ, pos, suc, List, [], ◌∷◌, length, Bool, true, false, not, ◌&&◌, refl, sym, ap, ◌∙◌, eqb-true}
-use Rattle.std.specs.Prelude.{◌==◌, if◌then◌else◌}
-use Rattle.std.specs.Map.{keys_of}
-use Rattle.std.specs.List.Sorted.{IsStrictlySortedBy}
 use Rattle.std.proofs.lemmas.Bool.{and_parts}
+use Rattle.std.specs.{List.Sorted.IsStrictlySortedBy, Map.keys_of, Prelude.◌==◌, Prelude.if◌then◌else◌}
 use Rattle.review_table.specs.Rows.{row_in, rows_of}
-use Rattle.review_changes.specs.declared.rows.VoteKey.{VoteKey}
+use Rattle.review_changes.specs.{Seen.Votes, Seen.vote_cmp, Seen.vote_in, Votes.voted, declared.rows.VoteKey.VoteKey}
+use Rattle.review_parts.proofs.{Copied.lost_is, Copied.value_none, InTurn.none_after, VoteKeys.vote_key}
 use Rattle.review_parts.specs.Copies.{AreApart, AreMany, Copies, copied_rows, lost_rows}
-use Rattle.review_changes.specs.Seen.{Votes, vote_cmp, vote_in}
-use Rattle.review_changes.specs.Votes.{voted}
-use Rattle.review_parts.proofs.InTurn.{none_after}
-use Rattle.review_parts.proofs.VoteKeys.{vote_key}
-use Rattle.review_parts.proofs.Copied.{lost_is, value_none}
 
 lost_apart : (f : Copies) (n : ℕ) (rows : List (VoteKey × ℤ)) → IsStrictlySortedBy vote_cmp (keys_of rows) → AreApart (lost_rows f n rows)
 unfolding IsStrictlySortedBy

@@ -1,19 +1,12 @@
 -- Who is in the groups of a table.
 use Rattle.std.proofs.Common.{◌≡◌, ℕ, List, [], Option, Some, None, Bool, false, ◌||◌, ◌==◌, refl, sym, ap, ◌∙◌, unwrap_or}
-use Rattle.std.specs.Prelude.{is_some, option_map}
-use Rattle.std.specs.BTreeMap.{is_at}
-use Rattle.std.specs.Cmp.Lexicographic.{slice_cmp}
-use Rattle.std.specs.List.{list_any}
-use Rattle.std.specs.Map.{keys_of}
-use Rattle.std.specs.Option.{option_map_or}
-use Rattle.std.specs.Ordering.{nat_cmp}
-use Rattle.std.specs.Str.{bytes_eq}
 use Rattle.std.proofs.lemmas.Map.Made.{lookup-map_values}
-use Rattle.review_names.specs.Groups.{has_account}
-use Rattle.review_names.specs.Names.{registered_users}
+use Rattle.std.specs.{BTreeMap.is_at, Cmp.Lexicographic.slice_cmp, List.list_any, Map.keys_of, Option.option_map_or}
+use Rattle.std.specs.{Ordering.nat_cmp, Prelude.is_some, Prelude.option_map, Str.bytes_eq}
+use Rattle.review_names.specs.{Groups.has_account, Names.registered_users}
 use Rattle.review_table.specs.Rows.{row_in, rows_of}
-use Rattle.review_parts.specs.Copies.{GroupTable, group_list}
 use Rattle.review_parts.proofs.Accounts.{has_row}
+use Rattle.review_parts.specs.Copies.{GroupTable, group_list}
 
 -- whether an account has a row in the table of a group's members, where there is one
 abbrev pub is_listed : Option (List (ℕ × Option (Unit {0}))) → ℕ → Bool

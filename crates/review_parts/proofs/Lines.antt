@@ -1,13 +1,9 @@
 -- Reasons are lines of text.
-use Rattle.std.proofs.Common.{◌≡◌, ◌≤◌, ◌<◌, ◌+◌, ℕ, List, [], ◌∷◌, ◌++◌, length, map, Bool, true, not, ◌&&◌, refl, sym, ◌∙◌, arith, codes, length-append}
 use lib.ListN.{length-map}
-use Rattle.std.specs.Prelude.{nat_le}
-use Rattle.std.specs.List.{list_all, AllByRecursion}
-use Rattle.std.specs.Char.{is_ascii_control}
-use Rattle.std.specs.Int.Digits.{digits_of}
-use Rattle.std.proofs.lemmas.Bool.{and_parts, and_from}
-use Rattle.std.proofs.lemmas.Bool.Decides.{nat_tests}
+use Rattle.std.proofs.Common.{◌≡◌, ◌≤◌, ◌<◌, ◌+◌, ℕ, List, [], ◌∷◌, ◌++◌, length, map, Bool, true, not, ◌&&◌, refl, sym, ◌∙◌, arith, codes, length-append}
+use Rattle.std.proofs.lemmas.Bool.{and_parts, and_from, Decides.nat_tests}
 use Rattle.std.proofs.lemmas.Int.Digits.{all_below_base_digits_of, length-digits_of-le}
+use Rattle.std.specs.{Char.is_ascii_control, Int.Digits.digits_of, List.list_all, List.AllByRecursion, Prelude.nat_le}
 use Rattle.review_names.specs.Forms.{is_label, is_line}
 use Rattle.review_names.specs.Laws.{LabelsAreOfForm, begins_with_letter, has_letters_after_hyphens, is_label_character}
 use Rattle.review_names.specs.Numerals.{numeral, shown_digits}

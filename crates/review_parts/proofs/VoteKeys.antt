@@ -1,26 +1,15 @@
 -- Votes by their keys.
 use Rattle.std.proofs.Common.{◌≡◌, ℕ, ℤ, pos, List, ◌∷◌, Option, Some, None, Bool, true, false, not, ◌&&◌, refl, sym, ap, ◌∙◌, eqb-true, eq-eqb, int_eq, unwrap_or, ⊎_elim}
-use Rattle.std.proofs.lemmas.Bool.{cases_Bool}
-use Rattle.std.proofs.lemmas.Bool.Decides.{Decides-int_eq}
-use Rattle.std.proofs.lemmas.Bool.{and_parts, and_from}
-use Rattle.std.proofs.lemmas.Slice.Eq.{bytes_eq-Decides}
-use Rattle.std.specs.List.{filter}
-use Rattle.std.specs.List.Sorted.{IsStrictlySortedBy}
-use Rattle.std.specs.Map.{keys_of}
-use Rattle.review_parts.proofs.InTurn.{Tells, put_filtered}
-use Rattle.std.specs.Prelude.{◌==◌, if◌then◌else◌}
-use Rattle.std.specs.Str.{bytes_eq}
-use Rattle.std.specs.Ordering.{nat_cmp, ordering_then}
-use Rattle.std.specs.Cmp.{tied_then, unsigned_tied}
-use Rattle.std.specs.Cmp.Lexicographic.{slice_cmp}
-use Rattle.std.specs.BTreeMap.{is_at}
-use Rattle.std.proofs.lemmas.Map.Text.{is_eq-slice_cmp}
-use Rattle.review_changes.specs.declared.rows.VoteKey.{VoteKey}
+use Rattle.std.proofs.lemmas.Bool.{cases_Bool, and_parts, and_from, Decides.Decides-int_eq}
+use Rattle.std.proofs.lemmas.{Map.Text.is_eq-slice_cmp, Slice.Eq.bytes_eq-Decides}
+use Rattle.std.specs.{BTreeMap.is_at, Cmp.tied_then, Cmp.unsigned_tied, Cmp.Lexicographic.slice_cmp, List.filter}
+use Rattle.std.specs.{List.Sorted.IsStrictlySortedBy, Map.keys_of, Ordering.nat_cmp, Ordering.ordering_then}
+use Rattle.std.specs.{Prelude.◌==◌, Prelude.if◌then◌else◌, Str.bytes_eq}
 use Rattle.review_table.specs.Rows.{row_in, rows_of}
 use Rattle.review_words.specs.declared.changes.Given.{Given}
-use Rattle.review_changes.specs.Change.{given_or}
-use Rattle.review_changes.specs.Seen.{Votes, vote_cmp, value_of, vote_in}
-use Rattle.review_changes.specs.Votes.{voted}
+use Rattle.review_changes.specs.{Change.given_or, Seen.Votes, Seen.vote_cmp, Seen.value_of, Seen.vote_in, Votes.voted}
+use Rattle.review_changes.specs.declared.rows.VoteKey.{VoteKey}
+use Rattle.review_parts.proofs.InTurn.{Tells, put_filtered}
 use Rattle.review_parts.specs.Tables.{is_vote, is_of, given_at, put_in, or_else}
 
 -- two keys of votes are the same

@@ -1,9 +1,6 @@
 -- The copy conditions of a file, compiled.
-use Rattle.std.specs.Prelude.{◌≡◌, List, map, Option, Some, None}
-use Rattle.std.specs.List.{All}
-use Rattle.review_expr.specs.declared.expr.Expr.{Expr}
-use Rattle.review_expr.specs.declared.compiled.Terms.{Terms}
-use Rattle.review_expr.specs.Exprs.{AreTermsOf}
+use Rattle.std.specs.{List.All, Prelude.◌≡◌, Prelude.List, Prelude.map, Prelude.Option, Prelude.Some, Prelude.None}
+use Rattle.review_expr.specs.{Exprs.AreTermsOf, declared.compiled.Terms.Terms, declared.expr.Expr.Expr}
 use Rattle.review_project.specs.View.{LabelView}
 use Rattle.review_parts.specs.declared.copying.Condition.{Condition}
 

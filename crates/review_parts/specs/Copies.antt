@@ -1,19 +1,15 @@
 -- The votes of a patch set that are copied to the next one, and the others.
+use Rattle.std.specs.{Map.keys_of, Option.option_map_or}
 use Rattle.std.specs.Prelude.{◌≡◌, ℕ, ℤ, List, [], ◌∷◌, map, find, Option, option_map, Bool, false, not, ◌==◌, ◌&&◌, if◌then◌else◌}
-use Rattle.std.specs.Option.{option_map_or}
-use Rattle.std.specs.Map.{keys_of}
 use Rattle.review_names.specs.Groups.{GroupList}
 use Rattle.review_table.specs.Rows.{rows_of}
 use Rattle.review_judging.specs.declared.facts.VoteFacts.{VoteFacts}
 use Rattle.review_expr.specs.declared.expr.Expr.{Expr}
 use Rattle.review_project.specs.View.{FileView, LabelView}
-use Rattle.review_changes.specs.declared.rows.VoteKey.{VoteKey}
-use Rattle.review_changes.specs.declared.rows.Why.{Why}
-use Rattle.review_changes.specs.declared.rows.Why.TheVariants.{NotCopied}
-use Rattle.review_changes.specs.Change.{condition_holds, label_in, range_of}
-pub use Rattle.review_changes.specs.Counts.{has_vote, AreApart, AreMany}
-use Rattle.review_changes.specs.Votes.{voted}
+use Rattle.review_changes.specs.{Change.condition_holds, Change.label_in, Change.range_of, Votes.voted}
+use Rattle.review_changes.specs.declared.rows.{VoteKey.VoteKey, Why.Why, Why.TheVariants.NotCopied}
 use Rattle.review_parts.specs.declared.copying.Parted.{Parted}
+pub use Rattle.review_changes.specs.Counts.{has_vote, AreApart, AreMany}
 
 -- a table of groups, each with the table of the accounts that are in it
 abbrev pub GroupTable : Type 0

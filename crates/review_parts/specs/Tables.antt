@@ -1,14 +1,10 @@
 -- Rows that are put, given or called one after the other, at a key.
+use Rattle.std.specs.{BTreeMap.is_at, List.list_any}
 use Rattle.std.specs.Prelude.{ℕ, ℤ, List, [], ◌∷◌, Option, Some, None, Bool, ◌==◌, ◌&&◌, if◌then◌else◌}
-use Rattle.std.specs.BTreeMap.{is_at}
-use Rattle.std.specs.List.{list_any}
-use Rattle.std.specs.Str.{bytes_eq}
-use Rattle.std.specs.declared.cmp.Ordering.{Ordering}
+use Rattle.std.specs.{Str.bytes_eq, declared.cmp.Ordering.Ordering}
 use Rattle.review_words.specs.declared.changes.Given.{Given}
-use Rattle.review_changes.specs.declared.rows.Called.{Called}
-use Rattle.review_changes.specs.declared.rows.VoteKey.{VoteKey}
-use Rattle.review_changes.specs.declared.rows.Why.{Why}
 use Rattle.review_changes.specs.Change.{given_or, kept_or}
+use Rattle.review_changes.specs.declared.rows.{Called.Called, VoteKey.VoteKey, Why.Why}
 
 -- whether a key is that of this vote
 abbrev pub is_vote : VoteKey → ℕ → List ℕ → ℕ → Bool

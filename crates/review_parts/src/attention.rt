@@ -1,10 +1,8 @@
 //! The attention set: whom a rule calls.
-ghost use Rattle.std.specs.Prelude.{◌≡◌, ◌==◌, ◌&&◌, ◌||◌, not, ℕ, Option, None, Some, IfOk, OnOk, is_some, if◌then◌else◌};
 ghost use Rattle.std.specs.List.{list_any, filter};
-ghost use Rattle.review_changes.specs.Change.{kept_or};
-ghost use Rattle.review_changes.specs.Seen.{of_account};
-ghost use Rattle.review_changes.specs.declared.rows.Why.{Why};
-ghost use Rattle.review_changes.specs.declared.rows.Why.TheVariants.{Told};
+ghost use Rattle.std.specs.Prelude.{◌≡◌, ◌==◌, ◌&&◌, ◌||◌, not, ℕ, Option, None, Some, IfOk, OnOk, is_some, if◌then◌else◌};
+ghost use Rattle.review_changes.specs.{Change.kept_or, Seen.of_account};
+ghost use Rattle.review_changes.specs.declared.rows.Why.{Why, TheVariants.Told};
 
 use crate::reasons::reason_of;
 use review_changes::{Called, Why};

@@ -1,7 +1,7 @@
 //! The comments of a change.
 ghost use Rattle.std.specs.Prelude.{◌≡◌, ◌++◌, ◌∷◌, [], List, map, IfOk, OnOk, option_copied};
-ghost use Rattle.review_changes.specs.Change as change;
 ghost use Rattle.review_changes.specs.Change.{answered, message_of, said, stored_as};
+ghost use Rattle.review_changes.specs.Change as change;
 
 use review_changes::{Comment, CommentRow};
 use review_words::{AccountNo, CommentNo, Message, NewComment, PatchNo, Review, patch_set_level};

@@ -1,16 +1,12 @@
 //! Votes that are copied to a new patch set.
+ghost use Rattle.std.specs.{List.Sorted.IsStrictlySortedBy, Map.keys_of, Map.Iter.deref_pair};
 ghost use Rattle.std.specs.Prelude.{◌≡◌, ◌++◌, [], ◌∷◌, Some, find, map, option_copied, IfOk, OnOk};
 ghost use Rattle.std.specs.Str.{bytes_eq};
-ghost use Rattle.std.specs.Map.Iter.{deref_pair};
-ghost use Rattle.std.specs.List.Sorted.{IsStrictlySortedBy};
-ghost use Rattle.std.specs.Map.{keys_of};
-ghost use Rattle.review_judging.specs.Holds.{copy_holds};
 ghost use Rattle.review_names.specs.Groups.{has_account};
 ghost use Rattle.review_table.specs.Rows.{rows_of};
-ghost use Rattle.review_expr.specs.declared.expr.Expr.{Expr};
-ghost use Rattle.review_expr.specs.Exprs.{AreTermsOf};
-ghost use Rattle.review_changes.specs.Change.{condition_holds};
-ghost use Rattle.review_changes.specs.Seen.{vote_cmp};
+ghost use Rattle.review_judging.specs.Holds.{copy_holds};
+ghost use Rattle.review_expr.specs.{Exprs.AreTermsOf, declared.expr.Expr.Expr};
+ghost use Rattle.review_changes.specs.{Change.condition_holds, Seen.vote_cmp};
 ghost use Rattle.review_parts.specs.Conditions.{AreConditions, IsCompiled};
 ghost use Rattle.review_parts.specs.Copies.{copies_by, copied_rows, group_list, lost_rows, with_groups, IsSplit};
 

@@ -1,9 +1,7 @@
 //! The words for why an account is called.
+ghost use Rattle.std.specs.{Char.is_ascii_control, List.list_all};
 ghost use Rattle.std.specs.Prelude.{◌≡◌, ◌≤◌, ◌++◌, IfOk, OnOk, true, not, length, string_bytes, codes};
-ghost use Rattle.std.specs.Char.{is_ascii_control};
-ghost use Rattle.std.specs.List.{list_all};
-ghost use Rattle.review_names.specs.Forms.{is_line};
-ghost use Rattle.review_names.specs.Numerals.{numeral};
+ghost use Rattle.review_names.specs.{Forms.is_line, Numerals.numeral};
 ghost use Rattle.review_changes.specs.Change.{reason_of};
 
 use review_changes::Why;

@@ -1,9 +1,7 @@
 //! The roles of accounts.
-ghost use Rattle.std.specs.Prelude.{◌≡◌, ◌==◌, ◌||◌, ℕ, is_some, OnOk, if◌then◌else◌};
 ghost use Rattle.std.specs.List.{list_any};
-ghost use Rattle.review_changes.specs.Change.{says_something, writer_role};
-ghost use Rattle.review_changes.specs.Seen.{of_account};
-ghost use Rattle.review_changes.specs.Votes.{voted};
+ghost use Rattle.std.specs.Prelude.{◌≡◌, ◌==◌, ◌||◌, ℕ, is_some, OnOk, if◌then◌else◌};
+ghost use Rattle.review_changes.specs.{Change.says_something, Change.writer_role, Seen.of_account, Votes.voted};
 
 use review_table::Table;
 use review_words::{AccountNo, Given, Review, Role};

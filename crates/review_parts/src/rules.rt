@@ -1,12 +1,11 @@
 //! Whom each rule calls.
+ghost use Rattle.std.specs.{List.list_any, Option.option_map_or};
 ghost use Rattle.std.specs.Prelude.{◌≡◌, ◌==◌, ◌&&◌, ◌||◌, not, ℕ, false, Some, None, IfOk, if◌then◌else◌};
-ghost use Rattle.std.specs.List.{list_any};
-ghost use Rattle.std.specs.Option.{option_map_or};
-ghost use Rattle.review_changes.specs.Change as change;
 ghost use Rattle.review_changes.specs.Change.{answers_thread, is_reviewer, why_commented, why_replied, wrote_in_answered};
 ghost use Rattle.review_changes.specs.Seen.{of_account};
 ghost use Rattle.review_changes.specs.declared.rows.Why.TheVariants.{Ready, Added};
 ghost use Rattle.review_parts.specs.Copies.{has_lost, lost_label};
+ghost use Rattle.review_changes.specs.Change as change;
 
 use crate::attention::Rule;
 use crate::comments::of_number;

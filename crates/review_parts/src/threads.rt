@@ -1,6 +1,6 @@
 //! The threads that comments are in.
-ghost use Rattle.std.specs.Prelude.{◌≡◌, ◌+◌, ◌&&◌, ◌||◌, ◌==◌, not, length, IfOk};
 ghost use Rattle.std.specs.List.{list_any};
+ghost use Rattle.std.specs.Prelude.{◌≡◌, ◌+◌, ◌&&◌, ◌||◌, ◌==◌, not, length, IfOk};
 ghost use Rattle.review_changes.specs.Change.{has_unresolved, posts, root_of};
 
 use crate::comments::of_number;

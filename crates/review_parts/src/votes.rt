@@ -1,10 +1,9 @@
 //! The votes of a change.
 ghost use Rattle.std.specs.List.{filter};
 ghost use Rattle.std.specs.Prelude.{not, ◌≡◌, ◌==◌, ◌&&◌, ℕ, ℤ, pos, List, IfOk, OnOk, if◌then◌else◌};
-ghost use Rattle.review_changes.specs.Change.{given_or};
-ghost use Rattle.review_changes.specs.Seen.{vote_in, vote_cmp};
-ghost use Rattle.review_parts.specs.Tables.{is_vote, is_of, put_in};
 ghost use Rattle.review_table.specs.Rows.{row_in, rows_of};
+ghost use Rattle.review_changes.specs.{Change.given_or, Seen.vote_in, Seen.vote_cmp};
+ghost use Rattle.review_parts.specs.Tables.{is_vote, is_of, put_in};
 
 use review_changes::{Vote, VoteKey};
 use review_table::Table;

@@ -1,10 +1,7 @@
 -- What the router's insertion says of the table.
 use Rattle.std.proofs.Common.{◌≡◌, List, ℕ, Result, Ok, Err, OnOk}
-use Rattle.matchit.specs.Router.{InsertsRead}
-use Rattle.matchit.specs.Route.{Scan, parse_route}
-use Rattle.matchit.specs.declared.error.InsertError.{InsertError}
-use Rattle.review_paths.specs.declared.table.Place.{Place}
-use Rattle.review_paths.specs.Table.{Rows, add_read, with_path}
+use Rattle.matchit.specs.{Route.Scan, Route.parse_route, Router.InsertsRead, declared.error.InsertError.InsertError}
+use Rattle.review_paths.specs.{Table.Rows, Table.add_read, Table.with_path, declared.table.Place.Place}
 
 added : (x : Result Scan InsertError) (place : Place) (old new : Rows) → InsertsRead x place old new (Ok tt) → new ≡ add_read x place old
 added (Ok s) place old new h = h.1

@@ -1,14 +1,14 @@
 -- What methods ask of a resource.
 use Rattle.std.specs.Prelude.{ℕ, List, if◌then◌else◌, Result, Ok, Err, codes}
 use Rattle.std.specs.Str.{bytes_eq}
-use Rattle.review_words.specs.declared.command.ChangeQuery.TheVariants as query
-use Rattle.review_routes.specs.declared.route.ChangeRoute.TheVariants as asked
 use Rattle.review_routes.specs.declared.route.Route.{Route}
-use Rattle.review_routes.specs.declared.route.Route.TheVariants as route
-use Rattle.review_paths.specs.declared.resources.Resource.{Resource}
-use Rattle.review_paths.specs.declared.resources.Resource.TheVariants.{Accounts, Group, Project, Branch, Changes, AskChange, OnChange, Attention, Submit, CloseEpoch}
 use Rattle.review_paths.specs.declared.methods.Methods.{Methods}
 use Rattle.review_paths.specs.declared.methods.Methods.TheVariants.{Get, GetAndPost, GetAndPut, Post, Put}
+use Rattle.review_paths.specs.declared.resources.Resource.{Resource}
+use Rattle.review_paths.specs.declared.resources.Resource.TheVariants.{Accounts, Group, Project, Branch, Changes, AskChange, OnChange, Attention, Submit, CloseEpoch}
+use Rattle.review_words.specs.declared.command.ChangeQuery.TheVariants as query
+use Rattle.review_routes.specs.declared.route.ChangeRoute.TheVariants as asked
+use Rattle.review_routes.specs.declared.route.Route.TheVariants as route
 
 -- the names of methods in the order of bytes, with a comma and a space between them
 abbrev pub methods_text : Methods → List ℕ

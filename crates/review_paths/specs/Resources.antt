@@ -1,17 +1,15 @@
 -- What a path names.
 use Rattle.std.specs.Prelude.{ℕ, List, Option, Some, option_map, option_and_then}
-use Rattle.review_names.specs.Forms.{is_slashed_name}
-use Rattle.review_names.specs.Names.{is_word}
+use Rattle.review_names.specs.{Forms.is_slashed_name, Names.is_word}
 use Rattle.review_words.specs.declared.command.ChangeQuery.{ChangeQuery}
-use Rattle.review_words.specs.declared.command.ChangeQuery.TheVariants as query
 use Rattle.review_routes.specs.declared.route.ChangeRoute.{ChangeRoute}
-use Rattle.review_routes.specs.declared.route.ChangeRoute.TheVariants as asked
-use Rattle.review_paths.specs.declared.table.Place.{Place}
-use Rattle.review_paths.specs.declared.table.Place.TheVariants as place
-use Rattle.review_paths.specs.declared.resources.Resource.{Resource}
-use Rattle.review_paths.specs.declared.resources.Resource.TheVariants.{Accounts, Group, Project, Branch, Changes, AskChange, OnChange, Attention, Submit, CloseEpoch}
 use Rattle.review_paths.specs.Segments.{segment, name_in, account_in, change_in, patch_in}
-use Rattle.review_paths.specs.Table.{place_of}
+use Rattle.review_paths.specs.{Table.place_of, declared.resources.Resource.Resource}
+use Rattle.review_paths.specs.declared.resources.Resource.TheVariants.{Accounts, Group, Project, Branch, Changes, AskChange, OnChange, Attention, Submit, CloseEpoch}
+use Rattle.review_paths.specs.declared.table.Place.{Place}
+use Rattle.review_words.specs.declared.command.ChangeQuery.TheVariants as query
+use Rattle.review_routes.specs.declared.route.ChangeRoute.TheVariants as asked
+use Rattle.review_paths.specs.declared.table.Place.TheVariants as place
 
 -- a branch of a project: the second and the fourth segment
 unfoldable pub branch_at : List ℕ → Option Resource

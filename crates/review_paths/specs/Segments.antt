@@ -1,12 +1,11 @@
 -- The segments of a path, and the names and numbers that they are once decoded.
-use Rattle.std.specs.Prelude.{ℕ, List, [], Bool, if◌then◌else◌, Option, Some, None, option_map, option_and_then, codes}
 use Rattle.std.specs.List.{slice_index_or}
+use Rattle.std.specs.Prelude.{ℕ, List, [], Bool, if◌then◌else◌, Option, Some, None, option_map, option_and_then, codes}
 use Rattle.std.specs.Str.{bytes_eq}
 use Rattle.percent_encoding.specs.Percent.{percent_decode}
 use Rattle.review_names.specs.Forms.{components, most_changes, most_patches}
 use Rattle.review_names.specs.Numerals.{account_of, number_of}
-use Rattle.review_routes.specs.Parts.{within}
-use Rattle.review_routes.specs.Texts.{name_of_bytes}
+use Rattle.review_routes.specs.{Parts.within, Texts.name_of_bytes}
 
 -- what stands behind so many slashes of a path, up to the next slash or the end of the path; nothing where the path has fewer slashes
 abbrev pub segment : ℕ → List ℕ → List ℕ

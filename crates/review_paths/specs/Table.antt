@@ -1,11 +1,7 @@
 -- The table of paths, as the router's definition has it.
 use Rattle.std.specs.Prelude.{ℕ, List, [], ◌∷◌, ◌++◌, Option, option_map, codes, Result, Ok, Err}
-use Rattle.matchit.specs.Rows.{RowsOf}
-use Rattle.matchit.specs.Router.{RouteOf, route_from}
-use Rattle.matchit.specs.Route.{Scan, parse_route}
-use Rattle.matchit.specs.declared.error.InsertError.{InsertError}
-use Rattle.matchit.specs.Order.{placed}
-use Rattle.matchit.specs.Seek.{first}
+use Rattle.matchit.specs.{Order.placed, Route.Scan, Route.parse_route, Router.RouteOf, Router.route_from, Rows.RowsOf}
+use Rattle.matchit.specs.{Seek.first, declared.error.InsertError.InsertError}
 use Rattle.review_paths.specs.declared.table.Place.{Place}
 use Rattle.review_paths.specs.declared.table.Place.TheVariants.{Accounts, Group, Project, Branch, Changes, Change, Requirements, Threads, Attention, Revisions, Review, Reviewers, ReviewerDelete, Wip, Ready, Abandon, Restore, Submit, AttentionDelete, EpochsClose}
 

@@ -1,12 +1,11 @@
 //! What paths name.
 ghost use Rattle.std.specs.Prelude.{◌≡◌, option_map};
-ghost use Rattle.review_names.specs.Forms.{is_slashed_name};
-ghost use Rattle.review_names.specs.Names.{is_word};
-ghost use Rattle.review_routes.specs.declared.route.ChangeRoute.TheVariants.{RemoveReviewer, RemoveAttention};
+ghost use Rattle.review_names.specs.{Forms.is_slashed_name, Names.is_word};
 ghost use Rattle.review_routes.specs.Parts.{Gives};
-ghost use Rattle.review_paths.specs.declared.resources.Resource.TheVariants.{Group, Project, Attention, Submit};
-ghost use Rattle.review_paths.specs.Segments.{segment, name_in, change_in};
+ghost use Rattle.review_routes.specs.declared.route.ChangeRoute.TheVariants.{RemoveReviewer, RemoveAttention};
 ghost use Rattle.review_paths.specs.Resources.{branch_at, told_at, asked_at, review_at, about_at, resource_at, resource_of};
+ghost use Rattle.review_paths.specs.Segments.{segment, name_in, change_in};
+ghost use Rattle.review_paths.specs.declared.resources.Resource.TheVariants.{Group, Project, Attention, Submit};
 
 use crate::segments::{account_in, change_in, name_in, patch_in, segment};
 use crate::table::{Place, Routes};

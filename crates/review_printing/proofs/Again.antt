@@ -1,25 +1,18 @@
 -- What is printed has the tree again.
 use mathlib.Core.Logic.{∥∥₁_map}
 use Rattle.std.proofs.Common.{String, Global, string_bytes, Result, Ok, Err, IfOk, ◌≡◌, ℕ, ◌≤◌, ◌<◌, lit<, Bool, true, false, ◌&&◌, ◌==◌, List, [], ◌∷◌, ◌++◌, length, codes, Some, IsTrue, refl, sym, ap, ◌∙◌, subst, arith, length-append}
-use Rattle.std.specs.Prelude.{if◌then◌else◌}
-use Rattle.std.specs.Str.{bytes_eq}
-use Rattle.std.proofs.lemmas.List.{append-nil}
-use Rattle.std.proofs.lemmas.Option.{same_Some}
-use Rattle.review_terms.specs.Grammar.{Tok, Unary, Members, Leaf, Group, Not, One, Next, Tree, Term, Neg, All, Any, Trees, End, With, tree, all_depth, spelled, all_spelled, between}
-use Rattle.review_terms.specs.Grammar.{Word as Token}
-use Rattle.review_terms.specs.Lexemes.{Lexeme, IsCut}
-use Rattle.review_terms.specs.Words.{Reading, Good}
-use Rattle.std.specs.Char.{is_ascii_lowercase}
-use Rattle.std.proofs.lemmas.Bool.Decides.{nat_tests}
-use Rattle.review_writing.specs.Written.{IsOneWord}
-use Rattle.review_expr.specs.Tokens.{operator_by, operator_or, alone, word_tokens, tokens}
+use Rattle.std.proofs.lemmas.{Bool.Decides.nat_tests, List.append-nil, Option.same_Some}
+use Rattle.std.specs.{Char.is_ascii_lowercase, Prelude.if◌then◌else◌, Str.bytes_eq}
+use Rattle.review_terms.specs.Grammar.{Tok, Unary, Members, Leaf, Group, Not, One, Next, Tree, Term, Neg, All, Any, Trees, End, With, tree, all_depth, spelled, all_spelled, between, Word as Token}
+use Rattle.review_terms.specs.{Lexemes.Lexeme, Lexemes.IsCut, Words.Reading, Words.Good}
 use Rattle.review_expr.specs.Expressions.{HasExpr, IsExpression}
-use Rattle.review_printing.specs.Printed.{printed}
-use Rattle.review_printing.proofs.Levels.{level}
-use Rattle.review_printing.proofs.Leveled.{level_tree, level_mixed}
+use Rattle.review_expr.specs.Tokens.{operator_by, operator_or, alone, word_tokens, tokens}
+use Rattle.review_writing.specs.Written.{IsOneWord}
+use Rattle.review_printing.proofs.Carried.{AllTerms, EachTerms, IsWordOf, IsSpelled, printed_carried}
 use Rattle.review_printing.proofs.Depths.{level_depth, tree_full}
 use Rattle.review_printing.proofs.Leaves.{IsRead, tree_terms, tokens_read, AllWords}
-use Rattle.review_printing.proofs.Carried.{AllTerms, EachTerms, IsWordOf, IsSpelled, printed_carried}
+use Rattle.review_printing.proofs.{Leveled.level_tree, Leveled.level_mixed, Levels.level}
+use Rattle.review_printing.specs.Printed.{printed}
 
 -- a tree of the grammar has a term
 mutual

@@ -1,8 +1,6 @@
 -- Members are written one behind the other.
 use Rattle.std.proofs.Common.{◌≡◌, ℕ, zero, suc, ◌+◌, ◌<◌, List, ◌∷◌, ◌++◌, length, drop, get_or, map, sym, ap, ap₂, ◌∙◌, arith, append_assoc, add-one, drop-cons}
-use Rattle.review_terms.specs.Grammar.{With, trees}
-use Rattle.review_terms.specs.Views.{view}
-use Rattle.review_terms.specs.declared.tree.Node.{Node}
+use Rattle.review_terms.specs.{Grammar.With, Grammar.trees, Views.view, declared.tree.Node.Node}
 use Rattle.review_printing.specs.Printed.{member_text, led_text, left_text}
 
 front : {A : Type 0} → (word : A → List ℕ) (sign : List ℕ) (n : ℕ) (ms : List (Node A)) (i : ℕ) (d m : Node A) → i < length ms → get_or ms i d ≡ m →

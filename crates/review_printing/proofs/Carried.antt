@@ -1,13 +1,12 @@
 -- What is written piece by piece is cut and read piece by piece.
 use Rattle.std.proofs.Common.{◌≡◌, ◌≢◌, ℕ, suc, ◌+◌, Bool, true, false, ◌&&◌, List, [], ◌∷◌, ◌++◌, length, codes, Some, IsTrue, refl, sym, ap, ap₂, ◌∙◌, subst, arith, append_assoc, length-append}
 use Rattle.std.proofs.lemmas.List.{append-nil}
-use Rattle.review_terms.specs.Grammar.{Tok, NotWord, AndWord, OrWord, Join, And, Or, Tree, Term, Neg, All, Any, Trees, End, With, between, spelled, all_spelled}
-use Rattle.review_terms.specs.Grammar.{Word as Token, Open as Opens, Close as Closes}
+use Rattle.review_terms.specs.Grammar.{Tok, NotWord, AndWord, OrWord, Join, And, Or, Tree, Term, Neg, All, Any, Trees, End, With, between, spelled, all_spelled, Word as Token, Open as Opens, Close as Closes}
 use Rattle.review_terms.specs.Lexemes.{Lexeme, Word, Open, Close, IsCut, balanced, ends, runs}
 use Rattle.review_terms.specs.Words.{Reading, Good}
 use Rattle.review_expr.specs.Tokens.{word_tokens, tokens, joined, opens_at}
-use Rattle.review_printing.specs.Printed.{member_text, joined_text, printed}
 use Rattle.review_printing.proofs.Levels.{member, joined as members, level, is_full, are_full}
+use Rattle.review_printing.specs.Printed.{member_text, joined_text, printed}
 
 -- a text that is cut, with its tokens, and whose parentheses match where those of what follows do
 pub record Carried {A : Type 0} (reading : List ℕ → Reading A) (at : ℕ) (later : List Lexeme) (text : List ℕ) (ts : List (Tok A)) : Type 0 where

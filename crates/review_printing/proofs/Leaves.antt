@@ -1,11 +1,8 @@
 -- Each term of a tree that a text has is spelled by a word of the text.
 use Rattle.std.proofs.Common.{◌≡◌, ℕ, ◌+◌, Bool, true, false, ◌==◌, List, [], ◌∷◌, ◌++◌, Option, Some, None, refl, subst}
-use Rattle.std.specs.Prelude.{if◌then◌else◌, codes}
-use Rattle.std.specs.Str.{bytes_eq}
-use Rattle.review_terms.specs.Grammar.{Tok, Close, Unary, Members, Leaf, Group, Not, One, Next, between, spelled, all_spelled, Tree, trees, listed, has_or, tree_of, trees_of, tree}
-use Rattle.review_terms.specs.Grammar.{Word as Token}
-use Rattle.review_terms.specs.Lexemes.{Lexeme}
-use Rattle.review_terms.specs.Lexemes.{Word as AWord, Open as AnOpen, Close as AClose}
+use Rattle.std.specs.{Prelude.if◌then◌else◌, Prelude.codes, Str.bytes_eq}
+use Rattle.review_terms.specs.Grammar.{Tok, Close, Unary, Members, Leaf, Group, Not, One, Next, between, spelled, all_spelled, Tree, trees, listed, has_or, tree_of, trees_of, tree, Word as Token}
+use Rattle.review_terms.specs.Lexemes.{Lexeme, Word as AWord, Open as AnOpen, Close as AClose}
 use Rattle.review_terms.specs.Words.{Reading, Good, Bad, NoTerm}
 use Rattle.review_expr.specs.Tokens.{operator_by, operator_or, term_token, meaning, alone, behind_minus, lone_minus, after_minus, unsigned, is_signed, opens_at, joined, lexeme_tokens, tokens_before}
 use Rattle.review_printing.proofs.Carried.{AllTerms, EachTerms}

@@ -1,10 +1,10 @@
 -- The text that an expression is printed as.
 use Rattle.std.specs.Prelude.{ℕ, List}
 use Rattle.review_terms.specs.Views.{view}
-use Rattle.review_writing.specs.Written.{requirement_word, copy_word}
 use Rattle.review_expr.specs.declared.expr.Expr.{Expr}
-use Rattle.review_expr.specs.declared.expr.Expr.TheVariants as expr
+use Rattle.review_writing.specs.Written.{requirement_word, copy_word}
 use Rattle.review_printing.specs.Printed.{printed}
+use Rattle.review_expr.specs.declared.expr.Expr.TheVariants as expr
 
 -- the text of an expression
 abbrev pub expr_text : Expr → List ℕ

@@ -1,11 +1,10 @@
 //! Laws of what is printed.
 ghost use Rattle.std.specs.Prelude.{◌≡◌, ◌≤◌, ℕ, List, length};
 ghost use Rattle.review_terms.specs.Grammar.{Tree};
+ghost use Rattle.review_terms.specs.declared.terms.{CopyTerm.CopyTerm, RequirementTerm.RequirementTerm};
 ghost use Rattle.review_spelling.specs.Words.{copy_reading, requirement_reading};
-ghost use Rattle.review_terms.specs.declared.terms.CopyTerm.{CopyTerm};
-ghost use Rattle.review_terms.specs.declared.terms.RequirementTerm.{RequirementTerm};
-ghost use Rattle.review_writing.specs.Written.{copy_word, requirement_word};
 ghost use Rattle.review_expr.specs.Expressions.{HasExpr};
+ghost use Rattle.review_writing.specs.Written.{copy_word, requirement_word};
 ghost use Rattle.review_printing.specs.Printed.{printed};
 
 use crate::written::Respelled;

@@ -1,7 +1,6 @@
 //! From the tree to a text.
 ghost use Rattle.std.specs.Prelude.{◌≡◌, ◌++◌, IfOk, OnOk, map, string_bytes};
-ghost use Rattle.review_terms.specs.Grammar.{trees};
-ghost use Rattle.review_terms.specs.Views.{view};
+ghost use Rattle.review_terms.specs.{Grammar.trees, Views.view};
 ghost use Rattle.review_printing.specs.Printed.{joined_text, member_text, printed};
 
 use crate::written::Written;

@@ -1,25 +1,19 @@
 -- Who is in the groups that an expression names decides whether it holds.
 use Rattle.std.proofs.Common.{◌≡◌, ℕ, ℤ, List, [], ◌∷◌, ◌++◌, Bool, ◌&&◌, ◌||◌, not, refl, ap, ◌∙◌}
-use Rattle.std.specs.Prelude.{count_by}
-use Rattle.std.specs.List.{AllByRecursion}
+use Rattle.std.specs.{List.AllByRecursion, Prelude.count_by}
 use Rattle.review_names.specs.Groups.{GroupList}
 use Rattle.review_terms.specs.Grammar.{Tree, Term, Neg, All, Any, Trees, End, With}
-use Rattle.review_terms.specs.Views.{view}
+use Rattle.review_terms.specs.{Views.view, declared.terms.CopyTerm.CopyTerm}
+use Rattle.review_terms.specs.declared.terms.{LabelTerm.LabelTerm, RequirementTerm.RequirementTerm, Voters.Voters}
 use Rattle.review_judging.specs.Holds.{holds, all_hold, any_holds, copy_holds, requirement_holds, is_counted, label_holds, is_count, votes_of, meets, range_of, is_voter}
-use Rattle.review_judging.specs.declared.facts.ChangeFacts.{ChangeFacts}
-use Rattle.review_judging.specs.declared.facts.VoteFacts.{VoteFacts}
-use Rattle.review_terms.specs.declared.terms.LabelTerm.{LabelTerm}
-use Rattle.review_terms.specs.declared.terms.CopyTerm.{CopyTerm}
+use Rattle.review_judging.specs.declared.facts.{ChangeFacts.ChangeFacts, VoteFacts.VoteFacts}
+use Rattle.review_expr.specs.{Exprs.holds_for, declared.expr.Expr.Expr}
+use Rattle.review_project.specs.Named.{SameIn, SameInAll, copy_group, requirement_group, voters_group, named, all_named, groups_in}
 use Rattle.review_terms.specs.declared.terms.CopyTerm.TheVariants as copy
-use Rattle.review_terms.specs.declared.terms.RequirementTerm.{RequirementTerm}
 use Rattle.review_terms.specs.declared.terms.RequirementTerm.TheVariants as requirement
-use Rattle.review_terms.specs.declared.terms.Voters.{Voters}
 use Rattle.review_terms.specs.declared.terms.Voters.TheVariants as voters
-use Rattle.review_expr.specs.declared.expr.Expr.{Expr}
 use Rattle.review_expr.specs.declared.expr.Expr.TheVariants as expr
 use Rattle.review_expr.specs.declared.expr.Facts.TheVariants as facts
-use Rattle.review_expr.specs.Exprs.{holds_for}
-use Rattle.review_project.specs.Named.{SameIn, SameInAll, copy_group, requirement_group, voters_group, named, all_named, groups_in}
 
 front : {A : Type 0} (P : A → Type 0) (xs ys : List A) → AllByRecursion P (xs ++ ys) → AllByRecursion P xs
 front P [] ys all = tt

@@ -1,20 +1,16 @@
 -- The groups that expressions name: no other group decides whether one holds.
+use Rattle.std.specs.{List.AllByRecursion, Option.option_map_or}
 use Rattle.std.specs.Prelude.{ℕ, ◌≡◌, List, [], ◌∷◌, ◌++◌, flat_map}
-use Rattle.std.specs.List.{AllByRecursion}
-use Rattle.std.specs.Option.{option_map_or}
-use Rattle.review_names.specs.Groups.{has_account}
-use Rattle.review_names.specs.Groups.{GroupList}
+use Rattle.review_names.specs.Groups.{has_account, GroupList}
 use Rattle.review_terms.specs.Grammar.{Tree, Term, Neg, All, Any, Trees, End, With}
 use Rattle.review_terms.specs.Views.{view}
-use Rattle.review_terms.specs.declared.terms.CopyTerm.{CopyTerm}
-use Rattle.review_terms.specs.declared.terms.CopyTerm.TheVariants as copy
-use Rattle.review_terms.specs.declared.terms.RequirementTerm.{RequirementTerm}
-use Rattle.review_terms.specs.declared.terms.RequirementTerm.TheVariants as requirement
-use Rattle.review_terms.specs.declared.terms.Voters.{Voters}
-use Rattle.review_terms.specs.declared.terms.Voters.TheVariants as voters
+use Rattle.review_terms.specs.declared.terms.{CopyTerm.CopyTerm, RequirementTerm.RequirementTerm, Voters.Voters}
 use Rattle.review_expr.specs.declared.expr.Expr.{Expr}
-use Rattle.review_expr.specs.declared.expr.Expr.TheVariants as expr
 use Rattle.review_project.specs.View.{FileView, LabelView, RequirementView}
+use Rattle.review_terms.specs.declared.terms.CopyTerm.TheVariants as copy
+use Rattle.review_terms.specs.declared.terms.RequirementTerm.TheVariants as requirement
+use Rattle.review_terms.specs.declared.terms.Voters.TheVariants as voters
+use Rattle.review_expr.specs.declared.expr.Expr.TheVariants as expr
 
 -- the group that a term of a copy condition names
 abbrev pub copy_group : CopyTerm → List (List ℕ)

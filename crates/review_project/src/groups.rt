@@ -1,7 +1,6 @@
 //! The groups that an expression names.
 ghost use Rattle.std.specs.Prelude.{◌≡◌, ◌++◌, OnOk, map};
-ghost use Rattle.review_terms.specs.Grammar.{trees};
-ghost use Rattle.review_terms.specs.Views.{view};
+ghost use Rattle.review_terms.specs.{Grammar.trees, Views.view};
 ghost use Rattle.review_project.specs.Named.{all_named, copy_group, groups_in, named, requirement_group, voters_group};
 
 use review_expr::Expr;

@@ -1,12 +1,10 @@
 //! The law of the groups that expressions name, as a contract of a call that does nothing.
 ghost use Rattle.std.specs.Prelude.{◌≡◌};
 ghost use Rattle.review_names.specs.Groups.{GroupList};
-ghost use Rattle.review_judging.specs.declared.facts.ChangeFacts.{ChangeFacts};
-ghost use Rattle.review_judging.specs.declared.facts.VoteFacts.{VoteFacts};
-ghost use Rattle.review_expr.specs.declared.expr.Expr.{Expr};
-ghost use Rattle.review_expr.specs.declared.expr.Facts.TheVariants as facts;
-ghost use Rattle.review_expr.specs.Exprs.{holds_for};
+ghost use Rattle.review_judging.specs.declared.facts.{ChangeFacts.ChangeFacts, VoteFacts.VoteFacts};
+ghost use Rattle.review_expr.specs.{Exprs.holds_for, declared.expr.Expr.Expr};
 ghost use Rattle.review_project.specs.Named.{SameInAll, groups_in};
+ghost use Rattle.review_expr.specs.declared.expr.Facts.TheVariants as facts;
 
 /// An expression holds alike whatever other groups there are: who is in the groups that it names decides.
 pub fn groups_suffice()

@@ -1,35 +1,25 @@
 -- What the rows of a question about a change tell of the history.
 use Rattle.std.proofs.Common.{◌≡◌, ◌⊎◌, inl, inr, ℕ, List, [], ◌∷◌, Option, Some, None, true, false, refl, sym, ap, ◌∙◌, subst, ⊎_elim}
+use Rattle.std.{proofs.lemmas.Result.err_from_is_err_and, specs.List.AllByRecursion}
 use Rattle.std.specs.Prelude.{is_some, option_and_then, IfErr, Result}
 use Rattle.std.specs.Result.{IsErr, IsErrAnd}
-use Rattle.std.proofs.lemmas.Result.{err_from_is_err_and}
-use Rattle.std.specs.List.{AllByRecursion}
-use Rattle.review_words.specs.declared.command.ChangeQuery.{ChangeQuery}
+use Rattle.review_words.specs.{History.Entry, History.is_project, declared.command.ChangeQuery.ChangeQuery}
 use Rattle.review_words.specs.declared.command.ChangeQuery.TheVariants.{Change as TheChange, Requirements, Threads, Attention}
-use Rattle.review_words.specs.declared.command.Query.TheVariants as asked
-use Rattle.review_words.specs.declared.reply.NotTaken.{NotTaken as Cause}
-use Rattle.review_words.specs.declared.reply.NotTaken.TheVariants.{Damaged, Memory}
-use Rattle.review_words.specs.History.{Entry, is_project}
+use Rattle.review_words.specs.declared.reply.NotTaken.{NotTaken as Cause, TheVariants.Damaged, TheVariants.Memory}
 use Rattle.review_project.specs.Trees.{file_trees}
-use Rattle.review_changes.specs.Change.{Change}
-use Rattle.review_changes.specs.Sound.{IsSound}
-use Rattle.review_rows.specs.Answer.{IsHistory}
-use Rattle.review_rows.specs.Changes.{Reading, Reads, change, file_of, own_of, texts_of}
-use Rattle.review_rows.specs.Lines.{line_of, most_depth, with_above}
-use Rattle.review_rows.specs.declared.rows.StoredFile.{StoredFile}
-use Rattle.review_rows.proofs.Lined.{texts_told, there_is}
-use Rattle.review_ancestors.proofs.Effective.{OneEffective, same_file}
-use Rattle.review_rows.specs.Decisions.{IsUnshown}
-use Rattle.review_rows.specs.Files.{File}
-use Rattle.review_rows.specs.Known.{IsKnown, change_in, known}
-use Rattle.review_rows.specs.Steps.{HasFile, OfQuery, line_steps, known_parent, project_for, question_wants, texts_in, unknown, wants_by}
-use Rattle.review_rows.specs.View.{AreEnough, view}
-use Rattle.review_rows.specs.declared.rows.Rows.{Rows}
-use Rattle.review_rows.specs.declared.rows.Want.TheVariants as want
+use Rattle.review_changes.specs.{Change.Change, Sound.IsSound}
 use Rattle.review_rows.proofs.Asked.{all_asked, change_asked, found_of, line_asked}
-use Rattle.review_change_laws.proofs.Projects.{has_project}
-use Rattle.review_change_laws.proofs.Same.{rows_tell}
+use Rattle.review_rows.{proofs.Lined.texts_told, proofs.Lined.there_is, specs.Answer.IsHistory}
+use Rattle.review_rows.specs.Changes.{Reading, Reads, change, file_of, own_of, texts_of}
+use Rattle.review_rows.specs.{Decisions.IsUnshown, Files.File, Known.IsKnown, Known.change_in, Known.known}
+use Rattle.review_rows.specs.Lines.{line_of, most_depth, with_above}
+use Rattle.review_rows.specs.Steps.{HasFile, OfQuery, line_steps, known_parent, project_for, question_wants, texts_in, unknown, wants_by}
+use Rattle.review_rows.specs.{View.AreEnough, View.view, declared.rows.Rows.Rows, declared.rows.StoredFile.StoredFile}
+use Rattle.review_change_laws.proofs.{Projects.has_project, Same.rows_tell}
+use Rattle.review_ancestors.proofs.Effective.{OneEffective, same_file}
 use Rattle.review_questions.specs.Told.{LacksFile}
+use Rattle.review_words.specs.declared.command.Query.TheVariants as asked
+use Rattle.review_rows.specs.declared.rows.Want.TheVariants as want
 
 -- the files that a text spells have the same trees
 abbrev pub OneFile : Type 0

@@ -1,29 +1,22 @@
 -- Rows that moved to the table of a later version read there as they did.
 use Rattle.std.proofs.Common.{◌≡◌, ◌≢◌, ◌∙◌, ◌&&◌, ◌||◌, ℕ, pos, negsuc, suc, Bool, true, false, not, List, [], ◌∷◌, Option, Some, None, option_map, map, filter, length, get_or, refl, sym, ap, subst, subst₂, inl, inr}
-use Rattle.std.specs.List.{AllByRecursion, list_any}
-use Rattle.std.specs.List.Sorted.{IsPermutation}
-use Rattle.std.proofs.lemmas.Bool.{and_from, and_parts, cases_Bool, or_parts}
-use Rattle.std.proofs.lemmas.Option.{same_Some}
-use Rattle.std.proofs.lemmas.List.{length-map}
-use Rattle.std.proofs.lemmas.List.Sorted.{length_permutation, list_any-IsPermutation}
+use Rattle.std.proofs.lemmas.{Bool.and_from, Bool.and_parts, Bool.cases_Bool, Bool.or_parts, List.length-map}
+use Rattle.std.proofs.lemmas.{List.Sorted.length_permutation, List.Sorted.list_any-IsPermutation, Option.same_Some}
+use Rattle.std.specs.List.{AllByRecursion, list_any, Sorted.IsPermutation}
 use Rattle.sqlite.proofs.Callers.{one_permutation}
 use Rattle.sqlite_keyed.proofs.ListLemmas.{IsPermutation-filter, filter-map, filter_same}
-use Rattle.sqlite_schema.specs.declared.schema.Kind.TheVariants.{Integer}
-use Rattle.sqlite_value.specs.declared.value.Value.{Value}
-use Rattle.sqlite_value.specs.declared.value.Value.TheVariants.{Null, Int, Real, Text, Blob}
-use Rattle.sqlite_value.specs.Order.{Row as Raw, column}
 use Rattle.sqlite_rules.specs.Cast.{as_text, cast}
-use Rattle.review_statements.specs.Content.{has_key, is_value}
+use Rattle.sqlite_schema.specs.declared.schema.Kind.TheVariants.{Integer}
+use Rattle.sqlite_value.specs.{Order.Row as Raw, Order.column, declared.value.Value.Value}
+use Rattle.sqlite_value.specs.declared.value.Value.TheVariants.{Null, Int, Real, Text, Blob}
+use Rattle.review_statements.{proofs.Meaning.cast_int, specs.Content.has_key, specs.Content.is_value}
 use Rattle.review_statements.specs.Moved.{AreMoved, columns_of, with_first_epoch, without_parent}
 use Rattle.review_statements.specs.Search.{Search, only, reads, rows_at}
-use Rattle.review_statements.proofs.Meaning.{cast_int}
-use Rattle.review_tables.specs.Columns.{number_in, text_in}
-use Rattle.review_tables.proofs.Keys.{itself, same_int}
-use Rattle.review_records.specs.Keyed.{answer_keyed, earlier_answer_keyed, is_natural, is_text, project_keyed}
-use Rattle.review_records.specs.Forms.{answered, answers, earlier_answers, earlier_key, first_epoch, stored_file, first_projects, file_without_parent, stored_parent, projects}
+use Rattle.review_tables.{proofs.Keys.itself, proofs.Keys.same_int, specs.Columns.number_in, specs.Columns.text_in}
 use Rattle.review_rows.specs.declared.rows.StoredFile.{StoredFile}
-use Rattle.review_records.specs.declared.rows.Answered.{Answered as Rest}
-use Rattle.review_records.specs.Laws.{no_text, number_is}
+use Rattle.review_records.specs.Forms.{answered, answers, earlier_answers, earlier_key, first_epoch, stored_file, first_projects, file_without_parent, stored_parent, projects}
+use Rattle.review_records.specs.Keyed.{answer_keyed, earlier_answer_keyed, is_natural, is_text, project_keyed}
+use Rattle.review_records.specs.{Laws.no_text, Laws.number_is, declared.rows.Answered.Answered as Rest}
 
 -- the column at a place of a row is that before it of its columns
 behind : (r : Raw) (at : ℕ) → column (columns_of r) at ≡ column r (suc at)

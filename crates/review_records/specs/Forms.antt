@@ -1,27 +1,19 @@
 -- The tables that are not of changes: how their rows are looked up and stored.
 use Rattle.std.specs.Prelude.{nat_le, ℕ, pos, ◌&&◌, Bool, List, [], ◌∷◌, Option, Some, None, option_map, if◌then◌else◌}
 use Rattle.std.specs.Str.{is_utf8}
-use Rattle.sqlite_value.specs.declared.value.Value.TheVariants.{Int, Text}
 use Rattle.sqlite_value.specs.Order.{Row, column}
+use Rattle.sqlite_value.specs.declared.value.Value.TheVariants.{Int, Text}
+use Rattle.review_names.specs.{Forms.is_commit, Forms.is_slashed_name, Names.is_word, Names.is_account_number}
 use Rattle.review_statements.specs.Content.{is_number_below, is_natural, is_text}
-use Rattle.review_names.specs.Names.{is_word}
-use Rattle.review_names.specs.Names.{is_account_number}
-use Rattle.review_words.specs.Epochs.{is_epoch}
-use Rattle.review_words.specs.History.{Identity}
-use Rattle.review_names.specs.Forms.{is_commit, is_slashed_name}
-use Rattle.review_rows.specs.declared.rows.Base.{Base}
-use Rattle.review_rows.specs.declared.rows.BranchKey.{BranchKey}
-use Rattle.review_rows.specs.declared.rows.PlaceKey.{PlaceKey}
-use Rattle.review_rows.specs.declared.rows.StoredFile.{StoredFile}
-use Rattle.review_records.specs.declared.rows.RequestKey.{RequestKey}
-use Rattle.review_records.specs.declared.rows.Answered.{Answered}
-use Rattle.review_records.specs.declared.rows.DeskRow.{DeskRow}
-use Rattle.review_rows.specs.declared.rows.MemberKey.{MemberKey}
-use Rattle.review_tables.specs.Columns.{number_in, text_in}
-use Rattle.review_statements.specs.Desk as table
 use Rattle.review_statements.specs.Search.{Search, Form, with_rowid, with_number}
-pub use Rattle.review_records.specs.Keyed.{where_is}
+use Rattle.review_words.specs.{Epochs.is_epoch, History.Identity}
+use Rattle.review_tables.specs.Columns.{number_in, text_in}
+use Rattle.review_rows.specs.declared.rows.{Base.Base, BranchKey.BranchKey, MemberKey.MemberKey, PlaceKey.PlaceKey}
+use Rattle.review_rows.specs.declared.rows.StoredFile.{StoredFile}
 use Rattle.review_records.specs.Keyed.{is_small, account_keyed, member_keyed, project_keyed, base_keyed, answer_keyed, earlier_answer_keyed}
+use Rattle.review_records.specs.declared.rows.{Answered.Answered, DeskRow.DeskRow, RequestKey.RequestKey}
+use Rattle.review_statements.specs.Desk as table
+pub use Rattle.review_records.specs.Keyed.{where_is}
 
 -- ---- accounts
 

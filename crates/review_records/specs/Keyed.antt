@@ -1,7 +1,6 @@
 -- Which stored rows have a key of their table: those whose columns of the key have values of its kinds, so that a look-up by some key may meet them.
 use Rattle.std.specs.Prelude.{ℕ, ◌&&◌, Bool, Option, Some, None, is_some, nat_lt, if◌then◌else◌}
-use Rattle.sqlite_value.specs.declared.value.Value.{Value}
-use Rattle.sqlite_value.specs.Order.{Row, column}
+use Rattle.sqlite_value.specs.{Order.Row, Order.column, declared.value.Value.Value}
 use Rattle.review_names.specs.Names.{is_account_number}
 use Rattle.review_tables.specs.Columns.{number_in}
 pub use Rattle.review_statements.specs.Content.{is_natural, is_text}

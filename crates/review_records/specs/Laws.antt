@@ -1,25 +1,18 @@
 -- The laws of the tables.
 use Rattle.std.proofs.Common.{◌≡◌, ◌&&◌, nat_le, ℕ, pos, negsuc, List, [], ◌∷◌, Option, Some, None, Bool, true, refl, ap, sym, subst, inl, inr}
-use Rattle.std.specs.Ordering.{nat_cmp, is_eq}
-use Rattle.std.proofs.lemmas.Cmp.{nat_cmp_total, tied_itself}
-use Rattle.std.proofs.lemmas.Map.Lookups.{exact_unsigned}
-use Rattle.std.specs.Str.{is_utf8}
-use Rattle.std.proofs.lemmas.Str.{IsUtf8-from_ascii, is_utf8-from_IsUtf8}
-use Rattle.std.proofs.lemmas.Str.Ascii.{IsAscii-nil}
-use Rattle.std.proofs.lemmas.Option.{same_Some}
 use Rattle.std.proofs.lemmas.Bool.{and_parts, and_from, cases_Bool}
+use Rattle.std.proofs.lemmas.{Cmp.nat_cmp_total, Cmp.tied_itself, Map.Lookups.exact_unsigned, Option.same_Some}
+use Rattle.std.proofs.lemmas.Str.{IsUtf8-from_ascii, is_utf8-from_IsUtf8, Ascii.IsAscii-nil}
+use Rattle.std.specs.{Ordering.nat_cmp, Ordering.is_eq, Str.is_utf8}
+use Rattle.sqlite_value.specs.{Order.column, declared.value.Value.Value}
 use Rattle.sqlite_value.specs.declared.value.Value.TheVariants.{Null, Int, Real, Text, Blob}
-use Rattle.sqlite_value.specs.declared.value.Value.{Value}
-use Rattle.sqlite_value.specs.Order.{column}
-use Rattle.review_names.specs.Names.{is_word, is_account_number}
-use Rattle.review_tables.specs.Columns.{number_in, text_in}
-use Rattle.review_tables.specs.Fronts.{IsExact, IsFront}
-use Rattle.review_statements.specs.Search.{IsLawful}
-use Rattle.review_statements.specs.Content.{is_value}
-use Rattle.review_tables.proofs.Keys.{equal_is, int_is, itself, same_int, same_text, text_is}
-use Rattle.review_records.specs.Keyed.{is_natural, is_number, is_small, is_text}
-use Rattle.review_records.specs.Forms.{where_is, alone, both, member_parts, group_members, base_parts, branch_bases, accounts, account_form, members, member_form, projects, project_form, stored_parent, parent_text, is_parent, stored_file, bases, base_form, answers, answer_form, epochs, epochs_form, desk, desk_form}
 use Rattle.review_names.specs.Forms.{is_commit, is_slashed_name, is_step}
+use Rattle.review_names.specs.Names.{is_word, is_account_number}
+use Rattle.review_statements.specs.{Content.is_value, Search.IsLawful}
+use Rattle.review_tables.proofs.Keys.{equal_is, int_is, itself, same_int, same_text, text_is}
+use Rattle.review_tables.specs.{Columns.number_in, Columns.text_in, Fronts.IsExact, Fronts.IsFront}
+use Rattle.review_records.specs.Forms.{where_is, alone, both, member_parts, group_members, base_parts, branch_bases, accounts, account_form, members, member_form, projects, project_form, stored_parent, parent_text, is_parent, stored_file, bases, base_form, answers, answer_form, epochs, epochs_form, desk, desk_form}
+use Rattle.review_records.specs.Keyed.{is_natural, is_number, is_small, is_text}
 
 -- a value that has a number of a kind is one of that kind
 pub keyed_number : (test : ℕ → Bool) (v : Value) (n : ℕ) → test n ≡ true → is_value v (Int (pos n)) ≡ true → is_number test v ≡ true

@@ -15,8 +15,8 @@ pub struct Accounts;
 
 impl Lookup for Accounts {
     ghost use Rattle.std.specs.Prelude.{pos};
-    ghost use Rattle.review_statements.specs.declared.texts.TheConstants.{FIND_ACCOUNT};
     ghost use Rattle.review_statements.proofs.TextsOfLookups.{find_account};
+    ghost use Rattle.review_statements.specs.declared.texts.TheConstants.{FIND_ACCOUNT};
     ghost use Rattle.review_records.specs.Forms.{accounts};
 
     type Key = AccountNo;
@@ -44,10 +44,9 @@ impl Lookup for Accounts {
 
 impl Table for Accounts {
     ghost use Rattle.std.specs.Prelude.{pos};
-    ghost use Rattle.review_statements.specs.declared.texts.TheConstants.{INSERT_ACCOUNT, DELETE_ACCOUNT};
     ghost use Rattle.review_statements.proofs.TextsOfChanges.{insert_account, delete_account};
-    ghost use Rattle.review_records.specs.Forms.{accounts, account_form};
-    ghost use Rattle.review_records.specs.Laws.{account_lawful};
+    ghost use Rattle.review_statements.specs.declared.texts.TheConstants.{INSERT_ACCOUNT, DELETE_ACCOUNT};
+    ghost use Rattle.review_records.specs.{Forms.accounts, Forms.account_form, Laws.account_lawful};
 
     type Key = AccountNo;
 
@@ -93,8 +92,8 @@ impl Table for Accounts {
 pub struct AccountNames;
 
 impl Lookup for AccountNames {
-    ghost use Rattle.review_statements.specs.declared.texts.TheConstants.{FIND_ACCOUNT_NAMED};
     ghost use Rattle.review_statements.proofs.TextsOfLookups.{find_account_named};
+    ghost use Rattle.review_statements.specs.declared.texts.TheConstants.{FIND_ACCOUNT_NAMED};
     ghost use Rattle.review_records.specs.Forms.{account_names};
 
     type Key = AccountName;
@@ -124,8 +123,8 @@ impl Lookup for AccountNames {
 pub struct LastAccount;
 
 impl Greatest for LastAccount {
-    ghost use Rattle.review_statements.specs.declared.texts.TheConstants.{FIND_LAST_ACCOUNT};
     ghost use Rattle.review_statements.proofs.TextsOfLookups.{find_last_account};
+    ghost use Rattle.review_statements.specs.declared.texts.TheConstants.{FIND_LAST_ACCOUNT};
     ghost use Rattle.review_records.specs.Forms.{account_numbers};
 
     type Key = ();

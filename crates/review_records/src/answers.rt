@@ -1,9 +1,7 @@
 //! The stored requests.
 ghost use Rattle.std.specs.Prelude.{◌≡◌, Some, string_bytes, IfOk};
 ghost use Rattle.sqlite.specs.Held.{state};
-ghost use Rattle.review_statements.specs.Content.{RemovesWhere};
-ghost use Rattle.review_statements.specs.Ran.{Inside, Opens};
-ghost use Rattle.review_statements.specs.Search.{SetsRow};
+ghost use Rattle.review_statements.specs.{Content.RemovesWhere, Ran.Inside, Ran.Opens, Search.SetsRow};
 ghost use Rattle.review_rows.specs.Rows.{kept_row};
 ghost use Rattle.review_records.specs.Forms.{answers, is_of_lower, request_key};
 
@@ -24,8 +22,8 @@ pub struct Answers;
 
 impl Lookup for Answers {
     ghost use Rattle.std.specs.Prelude.{pos};
-    ghost use Rattle.review_statements.specs.declared.texts.TheConstants.{FIND_ANSWER};
     ghost use Rattle.review_statements.proofs.TextsOfLookups.{find_answer};
+    ghost use Rattle.review_statements.specs.declared.texts.TheConstants.{FIND_ANSWER};
     ghost use Rattle.review_records.specs.Forms.{answers};
 
     type Key = RequestKey;
@@ -67,10 +65,9 @@ impl Lookup for Answers {
 
 impl Table for Answers {
     ghost use Rattle.std.specs.Prelude.{pos};
-    ghost use Rattle.review_statements.specs.declared.texts.TheConstants.{INSERT_ANSWER, DELETE_ANSWER};
     ghost use Rattle.review_statements.proofs.TextsOfChanges.{insert_answer, delete_answer};
-    ghost use Rattle.review_records.specs.Forms.{answers, answer_form};
-    ghost use Rattle.review_records.specs.Laws.{answer_lawful};
+    ghost use Rattle.review_statements.specs.declared.texts.TheConstants.{INSERT_ANSWER, DELETE_ANSWER};
+    ghost use Rattle.review_records.specs.{Forms.answers, Forms.answer_form, Laws.answer_lawful};
 
     type Key = RequestKey;
 

@@ -2,10 +2,8 @@
 ghost use Rattle.std.specs.Prelude.{◌≡◌, ◌∷◌, [], length, Some};
 ghost use Rattle.sqlite.specs.Held.{state};
 ghost use Rattle.sqlite_value.specs.declared.value.Value.TheVariants.{Text};
+ghost use Rattle.review_statements.specs.{Greatest.as_counted, Greatest.ShowsCount, Ran.Looks, Search.rows_at};
 ghost use Rattle.review_statements.specs.Desk as table;
-ghost use Rattle.review_statements.specs.Greatest.{as_counted, ShowsCount};
-ghost use Rattle.review_statements.specs.Ran.{Looks};
-ghost use Rattle.review_statements.specs.Search.{rows_at};
 
 use crate::counted::read_count;
 use crate::names::{name_at, place_at};
@@ -26,8 +24,7 @@ pub struct Bases;
 
 impl Lookup for Bases {
     ghost use Rattle.std.specs.Prelude.{pos};
-    ghost use Rattle.review_statements.specs.declared.texts.TheConstants.{FIND_BASE};
-    ghost use Rattle.review_statements.proofs.TextsOfLookups.{find_base};
+    ghost use Rattle.review_statements.{proofs.TextsOfLookups.find_base, specs.declared.texts.TheConstants.FIND_BASE};
     ghost use Rattle.review_records.specs.Forms.{bases};
 
     type Key = PlaceKey;
@@ -58,10 +55,9 @@ impl Lookup for Bases {
 
 impl Table for Bases {
     ghost use Rattle.std.specs.Prelude.{pos};
-    ghost use Rattle.review_statements.specs.declared.texts.TheConstants.{INSERT_BASE, DELETE_BASE};
     ghost use Rattle.review_statements.proofs.TextsOfChanges.{insert_base, delete_base};
-    ghost use Rattle.review_records.specs.Forms.{bases, base_form};
-    ghost use Rattle.review_records.specs.Laws.{base_lawful};
+    ghost use Rattle.review_statements.specs.declared.texts.TheConstants.{INSERT_BASE, DELETE_BASE};
+    ghost use Rattle.review_records.specs.{Forms.bases, Forms.base_form, Laws.base_lawful};
 
     type Key = PlaceKey;
 
@@ -111,8 +107,8 @@ impl Table for Bases {
 pub struct BaseCommits;
 
 impl Lookup for BaseCommits {
-    ghost use Rattle.review_statements.specs.declared.texts.TheConstants.{FIND_BASE_COMMIT};
     ghost use Rattle.review_statements.proofs.TextsOfLookups.{find_base_commit};
+    ghost use Rattle.review_statements.specs.declared.texts.TheConstants.{FIND_BASE_COMMIT};
     ghost use Rattle.review_records.specs.Forms.{base_commits};
 
     type Key = Base;
@@ -147,8 +143,8 @@ impl Lookup for BaseCommits {
 pub struct BranchBases;
 
 impl Lookup for BranchBases {
-    ghost use Rattle.review_statements.specs.declared.texts.TheConstants.{FIND_BRANCH};
     ghost use Rattle.review_statements.proofs.TextsOfLookups.{find_branch};
+    ghost use Rattle.review_statements.specs.declared.texts.TheConstants.{FIND_BRANCH};
     ghost use Rattle.review_records.specs.Forms.{branch_bases};
 
     type Key = BranchKey;
@@ -185,8 +181,7 @@ impl Lookup for BranchBases {
 }
 
 impl Front for BranchBases {
-    ghost use Rattle.review_records.specs.Forms.{base_parts};
-    ghost use Rattle.review_records.specs.Laws.{bases_of_branch};
+    ghost use Rattle.review_records.specs.{Forms.base_parts, Laws.bases_of_branch};
 
     type Part = PlaceNo;
 
@@ -201,8 +196,8 @@ impl Front for BranchBases {
 pub struct LastPlace;
 
 impl Greatest for LastPlace {
-    ghost use Rattle.review_statements.specs.declared.texts.TheConstants.{FIND_LAST_PLACE};
     ghost use Rattle.review_statements.proofs.TextsOfLookups.{find_last_place};
+    ghost use Rattle.review_statements.specs.declared.texts.TheConstants.{FIND_LAST_PLACE};
     ghost use Rattle.review_records.specs.Forms.{base_places};
 
     type Key = BranchKey;

@@ -12,8 +12,7 @@ use std::alloc::{AllocError, Global};
 pub struct Desk;
 
 impl Lookup for Desk {
-    ghost use Rattle.review_statements.specs.declared.texts.TheConstants.{FIND_DESK};
-    ghost use Rattle.review_statements.proofs.TextsOfLookups.{find_desk};
+    ghost use Rattle.review_statements.{proofs.TextsOfLookups.find_desk, specs.declared.texts.TheConstants.FIND_DESK};
     ghost use Rattle.review_records.specs.Forms.{desk};
 
     type Key = ();
@@ -44,10 +43,9 @@ impl Lookup for Desk {
 
 impl Table for Desk {
     ghost use Rattle.std.specs.Prelude.{pos};
-    ghost use Rattle.review_statements.specs.declared.texts.TheConstants.{INSERT_DESK, DELETE_DESK};
     ghost use Rattle.review_statements.proofs.TextsOfChanges.{insert_desk, delete_desk};
-    ghost use Rattle.review_records.specs.Forms.{desk, desk_form};
-    ghost use Rattle.review_records.specs.Laws.{desk_lawful};
+    ghost use Rattle.review_statements.specs.declared.texts.TheConstants.{INSERT_DESK, DELETE_DESK};
+    ghost use Rattle.review_records.specs.{Forms.desk, Forms.desk_form, Laws.desk_lawful};
 
     type Key = ();
 

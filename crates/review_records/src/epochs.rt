@@ -12,8 +12,8 @@ use std::alloc::{AllocError, Global};
 pub struct Epochs;
 
 impl Lookup for Epochs {
-    ghost use Rattle.review_statements.specs.declared.texts.TheConstants.{FIND_EPOCHS};
     ghost use Rattle.review_statements.proofs.TextsOfLookups.{find_epochs};
+    ghost use Rattle.review_statements.specs.declared.texts.TheConstants.{FIND_EPOCHS};
     ghost use Rattle.review_records.specs.Forms.{epochs};
 
     type Key = ();
@@ -41,10 +41,9 @@ impl Lookup for Epochs {
 
 impl Table for Epochs {
     ghost use Rattle.std.specs.Prelude.{pos};
-    ghost use Rattle.review_statements.specs.declared.texts.TheConstants.{INSERT_EPOCHS, DELETE_EPOCHS};
     ghost use Rattle.review_statements.proofs.TextsOfChanges.{insert_epochs, delete_epochs};
-    ghost use Rattle.review_records.specs.Forms.{epochs, epochs_form};
-    ghost use Rattle.review_records.specs.Laws.{epochs_lawful};
+    ghost use Rattle.review_statements.specs.declared.texts.TheConstants.{INSERT_EPOCHS, DELETE_EPOCHS};
+    ghost use Rattle.review_records.specs.{Forms.epochs, Forms.epochs_form, Laws.epochs_lawful};
 
     type Key = ();
 

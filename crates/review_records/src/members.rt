@@ -15,8 +15,8 @@ pub struct Members;
 
 impl Lookup for Members {
     ghost use Rattle.std.specs.Prelude.{pos};
-    ghost use Rattle.review_statements.specs.declared.texts.TheConstants.{FIND_MEMBER};
     ghost use Rattle.review_statements.proofs.TextsOfLookups.{find_member};
+    ghost use Rattle.review_statements.specs.declared.texts.TheConstants.{FIND_MEMBER};
     ghost use Rattle.review_records.specs.Forms.{members};
 
     type Key = MemberKey;
@@ -48,10 +48,9 @@ impl Lookup for Members {
 
 impl Table for Members {
     ghost use Rattle.std.specs.Prelude.{pos};
-    ghost use Rattle.review_statements.specs.declared.texts.TheConstants.{INSERT_MEMBER, DELETE_MEMBER};
     ghost use Rattle.review_statements.proofs.TextsOfChanges.{insert_member, delete_member};
-    ghost use Rattle.review_records.specs.Forms.{members, member_form};
-    ghost use Rattle.review_records.specs.Laws.{member_lawful};
+    ghost use Rattle.review_statements.specs.declared.texts.TheConstants.{INSERT_MEMBER, DELETE_MEMBER};
+    ghost use Rattle.review_records.specs.{Forms.members, Forms.member_form, Laws.member_lawful};
 
     type Key = MemberKey;
 
@@ -98,8 +97,7 @@ impl Table for Members {
 pub struct GroupMembers;
 
 impl Lookup for GroupMembers {
-    ghost use Rattle.review_statements.specs.declared.texts.TheConstants.{FIND_GROUP};
-    ghost use Rattle.review_statements.proofs.TextsOfLookups.{find_group};
+    ghost use Rattle.review_statements.{proofs.TextsOfLookups.find_group, specs.declared.texts.TheConstants.FIND_GROUP};
     ghost use Rattle.review_records.specs.Forms.{group_members};
 
     type Key = GroupName;
@@ -129,8 +127,7 @@ impl Lookup for GroupMembers {
 }
 
 impl Front for GroupMembers {
-    ghost use Rattle.review_records.specs.Forms.{member_parts};
-    ghost use Rattle.review_records.specs.Laws.{members_of_group};
+    ghost use Rattle.review_records.specs.{Forms.member_parts, Laws.members_of_group};
 
     type Part = AccountNo;
 

@@ -1,13 +1,13 @@
 //! What moves from one version to the next reads as it did.
-ghost use Rattle.std.specs.Prelude.{◌≡◌, ◌≢◌, [], ℕ, List, Option, Some, false, length, not, option_map};
 ghost use Rattle.std.specs.List.{list_any};
+ghost use Rattle.std.specs.Prelude.{◌≡◌, ◌≢◌, [], ℕ, List, Option, Some, false, length, not, option_map};
 ghost use Rattle.sqlite_value.specs.Order.{Row as Raw};
 ghost use Rattle.review_statements.specs.Moved.{AreMoved, with_first_epoch, without_parent};
 ghost use Rattle.review_statements.specs.Search.{only, reads, rows_at};
-ghost use Rattle.review_records.specs.Forms.{answers, earlier_answers, first_epoch, first_projects, projects, earlier_key};
-ghost use Rattle.review_records.specs.declared.rows.Answered.{Answered as Rest};
 ghost use Rattle.review_rows.specs.declared.rows.StoredFile.{StoredFile};
+ghost use Rattle.review_records.specs.Forms.{answers, earlier_answers, first_epoch, first_projects, projects, earlier_key};
 ghost use Rattle.review_records.specs.Keyed.{answer_keyed, earlier_answer_keyed, project_keyed};
+ghost use Rattle.review_records.specs.declared.rows.Answered.{Answered as Rest};
 
 /// Where each row of the projects of version 1 has a name, those that moved to the table of version 2 are as many, have names, and have under each name the
 /// file that it had, or none; no other file is under a name that had one, and none is lost.

@@ -4,8 +4,7 @@ ghost use Rattle.sqlite_value.specs.Order.{column};
 ghost use Rattle.review_names.specs.Names.{is_account_number};
 ghost use Rattle.review_words.specs.Epochs.{is_epoch};
 ghost use Rattle.review_tables.specs.Columns.{number_in, text_in};
-ghost use Rattle.review_records.specs.Forms.{where_is};
-ghost use Rattle.review_records.specs.Keyed.{is_small};
+ghost use Rattle.review_records.specs.{Forms.where_is, Keyed.is_small};
 
 use crate::rows::PlaceNo;
 use review_tables::columns::{number_at, text_at};

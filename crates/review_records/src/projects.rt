@@ -2,12 +2,10 @@
 ghost use Rattle.std.specs.Prelude.{◌≡◌, [], true, Some, IfOk, length};
 ghost use Rattle.sqlite.specs.Held.{state};
 ghost use Rattle.sqlite_value.specs.Order.{column};
-ghost use Rattle.review_statements.specs.Desk as table;
-ghost use Rattle.review_statements.specs.Greatest.{as_counted, ShowsCount};
-ghost use Rattle.review_statements.specs.Ran.{Looks};
-ghost use Rattle.review_statements.specs.Search.{rows_at};
+ghost use Rattle.review_statements.specs.{Greatest.as_counted, Greatest.ShowsCount, Ran.Looks, Search.rows_at};
 ghost use Rattle.review_tables.specs.Columns.{text_in};
 ghost use Rattle.review_records.specs.Forms.{is_parent, stored_parent, parent_text};
+ghost use Rattle.review_statements.specs.Desk as table;
 
 use crate::counted::read_count;
 use crate::names::name_at;
@@ -48,8 +46,8 @@ fn parent_text(parent: &Option<ProjectName>) -> &str
 }
 
 impl Lookup for Projects {
-    ghost use Rattle.review_statements.specs.declared.texts.TheConstants.{FIND_PROJECT};
     ghost use Rattle.review_statements.proofs.TextsOfLookups.{find_project};
+    ghost use Rattle.review_statements.specs.declared.texts.TheConstants.{FIND_PROJECT};
     ghost use Rattle.review_records.specs.Forms.{projects};
 
     type Key = ProjectName;
@@ -83,10 +81,9 @@ impl Lookup for Projects {
 }
 
 impl Table for Projects {
-    ghost use Rattle.review_statements.specs.declared.texts.TheConstants.{INSERT_PROJECT, DELETE_PROJECT};
     ghost use Rattle.review_statements.proofs.TextsOfChanges.{insert_project, delete_project};
-    ghost use Rattle.review_records.specs.Forms.{projects, project_form, parent_text};
-    ghost use Rattle.review_records.specs.Laws.{project_lawful};
+    ghost use Rattle.review_statements.specs.declared.texts.TheConstants.{INSERT_PROJECT, DELETE_PROJECT};
+    ghost use Rattle.review_records.specs.{Forms.projects, Forms.project_form, Forms.parent_text, Laws.project_lawful};
 
     type Key = ProjectName;
 
@@ -133,8 +130,8 @@ impl Table for Projects {
 pub struct ProjectNames;
 
 impl Lookup for ProjectNames {
-    ghost use Rattle.review_statements.specs.declared.texts.TheConstants.{FIND_PROJECT_NAME};
     ghost use Rattle.review_statements.proofs.TextsOfLookups.{find_project_name};
+    ghost use Rattle.review_statements.specs.declared.texts.TheConstants.{FIND_PROJECT_NAME};
     ghost use Rattle.review_records.specs.Forms.{project_names};
 
     type Key = ProjectName;

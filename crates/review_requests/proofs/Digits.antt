@@ -1,7 +1,6 @@
 -- Digits that are read up to a greatest number.
 use Rattle.std.proofs.Common.{◌≡◌, ◌+◌, ◌-◌, ◌*◌, ℕ, List, [], ◌∷◌, Bool, true, false, min, Option, Some, None, option_map, refl, ap, arith}
-use Rattle.std.specs.Char.{is_ascii_digit}
-use Rattle.std.specs.Prelude.{if◌then◌else◌}
+use Rattle.std.specs.{Char.is_ascii_digit, Prelude.if◌then◌else◌}
 use Rattle.review_requests.specs.Fields.{digits_after, most}
 
 -- a number, or the greatest one that is told

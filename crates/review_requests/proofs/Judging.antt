@@ -3,19 +3,15 @@ use Rattle.std.proofs.Common.{◌≡◌, ◌<◌, ◌≤◌, ◌+◌, ◌++◌, 
 use Rattle.std.proofs.lemmas.List.{take_all}
 use Rattle.httparse.specs.Grammar.{RequestHead, HasNoRequest, MayBecomeRequest, print_request}
 use Rattle.review_words.specs.declared.command.Delivery.{Delivery}
-use Rattle.review_requests.specs.declared.asked.Asked.{Asked}
-use Rattle.review_paths.specs.declared.fault.HttpFault.{HttpFault}
-use Rattle.review_paths.specs.declared.fault.HttpFault.TheVariants.{BadHead}
-use Rattle.review_requests.specs.declared.fault.RequestFault.{RequestFault}
-use Rattle.review_requests.specs.declared.fault.RequestFault.TheVariants as request
-use Rattle.review_requests.specs.Wire.{front, HasHead, body_of, Follows, CallsFor, IsNotWhole}
+use Rattle.review_paths.specs.declared.fault.HttpFault.{HttpFault, TheVariants.BadHead}
 use Rattle.review_requests.proofs.Longer.{within, head_more}
 use Rattle.review_requests.specs.Heads.{asked}
-use Rattle.review_requests.specs.declared.fault.Refused.{Refused}
-use Rattle.review_requests.specs.declared.fault.Refused.TheVariants as refused
-use Rattle.review_requests.specs.declared.judge.Look.{Look}
-use Rattle.review_requests.specs.declared.judge.Look.TheVariants.{Whole, Wants}
 use Rattle.review_requests.specs.Judged.{Stands, IsFaultOf, Finishes, Judges, WaitsFor, HeadIs, request_fault}
+use Rattle.review_requests.specs.Wire.{front, HasHead, body_of, Follows, CallsFor, IsNotWhole}
+use Rattle.review_requests.specs.declared.{asked.Asked.Asked, fault.Refused.Refused, fault.RequestFault.RequestFault}
+use Rattle.review_requests.specs.declared.judge.Look.{Look, TheVariants.Whole, TheVariants.Wants}
+use Rattle.review_requests.specs.declared.fault.RequestFault.TheVariants as request
+use Rattle.review_requests.specs.declared.fault.Refused.TheVariants as refused
 
 pub front_short : (bytes : List ℕ) → length bytes < 16384 → front bytes ≡ bytes
 front_short bytes short = take_all 16384 bytes (omega arith)

@@ -1,16 +1,15 @@
 -- Bytes that come after those that called for something change nothing of it.
 use Rattle.std.proofs.Common.{◌≡◌, ◌<◌, ◌≤◌, ◌+◌, ◌-◌, ◌++◌, ℕ, List, length, take, drop, Bool, true, false, Option, Some, None, Result, Ok, Err, inl, inr, refl, sym, ap, subst, ◌∙◌, arith, append_assoc, append-nil, length-append, [], length-take, true≢false}
+use Rattle.std.proofs.{Math.Seq.take-append-add, lemmas.Bool.cases_lt}
 use Rattle.std.proofs.lemmas.List.{take-append-le, drop-append-le, take_all, drop_at}
-use Rattle.std.proofs.Math.Seq.{take-append-add}
-use Rattle.std.proofs.lemmas.Bool.{cases_lt}
 use Rattle.httparse.specs.Grammar.{RequestHead, ReadsRequest, HasNoRequest, NeverHasRequest, print_request}
 use Rattle.httparse.specs.Spans.{RequestExceeds, RequestOverflows}
-use Rattle.review_words.specs.declared.command.Delivery.{Delivery}
-use Rattle.review_requests.specs.declared.asked.Asked.{Asked}
-use Rattle.review_paths.specs.declared.fault.HttpFault.{HttpFault}
 use Rattle.review_counted.specs.Bytes.{Gave}
+use Rattle.review_words.specs.declared.command.Delivery.{Delivery}
+use Rattle.review_paths.specs.declared.fault.HttpFault.{HttpFault}
 use Rattle.review_requests.specs.Heads.{asked}
 use Rattle.review_requests.specs.Wire.{front, HasHead, body_of, Follows, CallsFor, IsBadHead, IsHeadTooLarge, delivery_of}
+use Rattle.review_requests.specs.declared.asked.Asked.{Asked}
 
 -- the front of more bytes
 front_long : (bytes more : List ℕ) → 16384 ≤ length bytes → front (bytes ++ more) ≡ front bytes

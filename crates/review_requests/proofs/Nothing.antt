@@ -1,17 +1,15 @@
 -- No bytes, and their end, call for nothing.
 use Rattle.std.proofs.Common.{◌≡◌, ◌⊎◌, ◌<◌, ◌++◌, ◌∷◌, [], length, drop, true, Result, Ok, Err, inl, inr, refl, sym, ap, ◌∙◌, arith, append-nil, length-append, lit<, lit≤, IsTrue}
-use Rattle.std.proofs.lemmas.List.{take_all}
-use Rattle.std.proofs.lemmas.List.Elements.{All-nil, All-cons}
-use Rattle.std.proofs.lemmas.Str.{IsUtf8-from_ascii}
-use Rattle.std.proofs.lemmas.Str.Ascii.{IsAscii-from_all}
-use Rattle.httparse.specs.Grammar.{RequestHead, IsRequestHead, ReadsRequest, crlf, IsField, is_token_byte, is_uri_byte, print_request, print_blank, print_version, print_end, print_section}
+use Rattle.std.proofs.lemmas.List.{take_all, Elements.All-nil, Elements.All-cons}
+use Rattle.std.proofs.lemmas.Str.{IsUtf8-from_ascii, Ascii.IsAscii-from_all}
 use Rattle.httparse.proofs.GrammarLemmas.{print_request-append}
+use Rattle.httparse.specs.Grammar.{RequestHead, IsRequestHead, ReadsRequest, crlf, IsField, is_token_byte, is_uri_byte, print_request, print_blank, print_version, print_end, print_section}
 use Rattle.review_words.specs.declared.command.Delivery.{Delivery}
 use Rattle.review_paths.specs.declared.fault.HttpFault.{HttpFault}
-use Rattle.review_requests.specs.declared.fault.RequestFault.{RequestFault}
-use Rattle.review_requests.specs.declared.fault.RequestFault.TheVariants.{Empty, Http, Read, Reads, Memory}
 use Rattle.review_requests.specs.Told.{IsToldOfInput}
 use Rattle.review_requests.specs.Wire.{front, HasHead, CallsFor, IsBadHead, IsHeadTooLarge}
+use Rattle.review_requests.specs.declared.fault.RequestFault.{RequestFault}
+use Rattle.review_requests.specs.declared.fault.RequestFault.TheVariants.{Empty, Http, Read, Reads, Memory}
 
 -- a head, `G / HTTP/1.1`
 head : RequestHead

@@ -1,14 +1,13 @@
 -- The bytes of a request call for one thing.
 use Rattle.std.proofs.Common.{◌≡◌, ◌<◌, ◌⊎◌, ℕ, List, [], length, drop, Bool, Result, Ok, Err, inl, inr, sym, subst, ◌∙◌, arith, append-nil}
 use Rattle.std.proofs.lemmas.List.{take_all}
-use Rattle.httparse.specs.Grammar.{RequestHead, ReadsRequest, print_request}
 use Rattle.httparse.proofs.GrammarLemmas.{request_unique}
+use Rattle.httparse.specs.Grammar.{RequestHead, ReadsRequest, print_request}
 use Rattle.review_words.specs.declared.command.Delivery.{Delivery}
-use Rattle.review_requests.specs.declared.asked.Asked.{Asked}
 use Rattle.review_paths.specs.declared.fault.HttpFault.{HttpFault}
-use Rattle.review_requests.specs.Heads.{asked}
+use Rattle.review_requests.specs.{Heads.asked, Laws.IsHeadFault}
 use Rattle.review_requests.specs.Wire.{front, HasHead, body_of, Follows, CallsFor, IsBadHead, IsHeadTooLarge}
-use Rattle.review_requests.specs.Laws.{IsHeadFault}
+use Rattle.review_requests.specs.declared.asked.Asked.{Asked}
 
 follows_one : (q : Result Asked HttpFault) (rest : List ℕ) (ended : Bool) (o p : Result Delivery HttpFault) → Follows q rest ended o → Follows q rest ended p → o ≡ p
 follows_one (Err f) rest ended o p x y = x ∙ sym y

@@ -1,17 +1,13 @@
 -- From a look at the bytes to what is told of them.
 use Rattle.std.proofs.Common.{◌≡◌, ◌<◌, ◌≤◌, ◌+◌, ◌++◌, min, zero, suc, refl, arith, sym, ap, subst, ◌∙◌, ℕ, List, [], length, length-append, append_assoc, append-nil, Bool, true, false, not, true≢false, Option, Some, None, Result, Ok, Err, IfSome}
-use Rattle.review_words.specs.declared.command.Delivery.{Delivery}
-use Rattle.review_counted.specs.Bytes.{Gave, IsBrought}
-use Rattle.review_counted.specs.Counts.{greatest, one_more}
 use Rattle.review_counted.proofs.Given.{gave_more}
-use Rattle.review_requests.specs.Wire.{CallsFor, IsNotWhole}
-use Rattle.review_requests.specs.declared.judge.Look.{Look}
-use Rattle.review_requests.specs.declared.judge.Look.TheVariants.{Wants}
-use Rattle.review_requests.specs.Judged.{Judges, WaitsFor}
-use Rattle.review_requests.specs.Told.{WasTold, IsToldOfInput}
-use Rattle.review_requests.specs.declared.fault.RequestFault.{RequestFault}
-use Rattle.review_requests.specs.declared.fault.RequestFault.TheVariants.{Empty, Http, Read, Reads, Memory}
+use Rattle.review_counted.specs.{Bytes.Gave, Bytes.IsBrought, Counts.greatest, Counts.one_more}
+use Rattle.review_words.specs.declared.command.Delivery.{Delivery}
 use Rattle.review_requests.proofs.Longer.{whole}
+use Rattle.review_requests.specs.{Judged.Judges, Judged.WaitsFor, Told.WasTold, Told.IsToldOfInput}
+use Rattle.review_requests.specs.{Wire.CallsFor, Wire.IsNotWhole, declared.fault.RequestFault.RequestFault}
+use Rattle.review_requests.specs.declared.fault.RequestFault.TheVariants.{Empty, Http, Read, Reads, Memory}
+use Rattle.review_requests.specs.declared.judge.Look.{Look, TheVariants.Wants}
 
 -- what a look of this value says
 pub judged_at : (bytes : List ℕ) (ended : Bool) (x y : Look) → x ≡ y → Judges bytes ended (Ok x) → Judges bytes ended (Ok y)

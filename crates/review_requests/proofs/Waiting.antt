@@ -1,15 +1,14 @@
 -- Bytes in which no whole request is yet call for nothing.
 use Rattle.std.proofs.Common.{◌≡◌, ◌<◌, ◌⊎◌, ℕ, List, [], drop, length, false, true≢false, Result, Ok, Err, inl, inr, sym, subst, arith}
 use Rattle.std.proofs.lemmas.List.{take_all}
-use Rattle.httparse.specs.Grammar.{RequestHead, ReadsRequest, NeverHasRequest, MayBecomeRequest, EndsInTarget, print_request}
 use Rattle.httparse.proofs.GrammarLemmas.{request_unique}
+use Rattle.httparse.specs.Grammar.{RequestHead, ReadsRequest, NeverHasRequest, MayBecomeRequest, EndsInTarget, print_request}
 use Rattle.review_words.specs.declared.command.Delivery.{Delivery}
-use Rattle.review_paths.specs.declared.fault.HttpFault.{HttpFault}
-use Rattle.review_paths.specs.declared.fault.HttpFault.TheVariants.{BadHead, HeadTooLarge}
-use Rattle.review_requests.specs.declared.asked.Asked.{Asked}
+use Rattle.review_paths.specs.declared.fault.HttpFault.{HttpFault, TheVariants.BadHead, TheVariants.HeadTooLarge}
+use Rattle.review_requests.proofs.One.{not_bad, not_large}
 use Rattle.review_requests.specs.Heads.{asked}
 use Rattle.review_requests.specs.Wire.{front, HasHead, body_of, Follows, CallsFor, IsBadHead, HasManyFields, IsHeadTooLarge, IsNotWhole}
-use Rattle.review_requests.proofs.One.{not_bad, not_large}
+use Rattle.review_requests.specs.declared.asked.Asked.{Asked}
 
 front_short : (bytes : List ℕ) → length bytes < 16384 → front bytes ≡ bytes
 front_short bytes short = take_all 16384 bytes (omega arith)

@@ -1,10 +1,9 @@
 -- Answers where memory may run out.
 use Rattle.std.specs.Prelude.{◌≡◌, Result, Ok, Err, Option, Some, None}
 use Rattle.review_routes.specs.declared.fault.BadBody.{BadBody}
-use Rattle.review_routes.specs.declared.fault.BadBody.TheVariants as bad
 use Rattle.review_paths.specs.declared.fault.HttpFault.{HttpFault}
-use Rattle.review_requests.specs.declared.fault.Refused.{Refused}
-use Rattle.review_requests.specs.declared.fault.Refused.TheVariants.{Http, Memory}
+use Rattle.review_requests.specs.declared.fault.Refused.{Refused, TheVariants.Http, TheVariants.Memory}
+use Rattle.review_routes.specs.declared.fault.BadBody.TheVariants as bad
 
 -- what was answered is what is expected, unless memory ran out
 abbrev pub Answers : {X : Type 0} → Result X Refused → Result X HttpFault → Type 0

@@ -1,23 +1,16 @@
 -- What a head asks for, or the first of its faults.
-use Rattle.std.specs.Prelude.{ℕ, List, map, Bool, ◌==◌, nat_le, if◌then◌else◌, Option, Some, None, option_and_then, codes, Result, Ok, Err}
 use Rattle.std.specs.List.{before_first}
-use Rattle.httparse.specs.Grammar.{RequestHead}
-use Rattle.httparse.specs.Spans.{name_and_value}
-use Rattle.review_names.specs.Names.{is_word}
-use Rattle.review_names.specs.Numerals.{account_of, number_of}
-use Rattle.review_routes.specs.Parts.{epoch_from}
-use Rattle.review_routes.specs.Texts.{name_of_bytes}
-use Rattle.review_routes.specs.Questions.{is_question, needs_body}
+use Rattle.std.specs.Prelude.{ℕ, List, map, Bool, ◌==◌, nat_le, if◌then◌else◌, Option, Some, None, option_and_then, codes, Result, Ok, Err}
+use Rattle.httparse.specs.{Grammar.RequestHead, Spans.name_and_value}
+use Rattle.review_names.specs.{Names.is_word, Numerals.account_of, Numerals.number_of}
+use Rattle.review_routes.specs.{Parts.epoch_from, Questions.is_question, Questions.needs_body, Texts.name_of_bytes}
 use Rattle.review_routes.specs.declared.route.Route.{Route}
-use Rattle.review_paths.specs.Resources.{resource_of}
-use Rattle.review_paths.specs.Methods.{route_of}
-use Rattle.review_paths.specs.declared.fault.HttpFault.{HttpFault}
+use Rattle.review_paths.specs.{Methods.route_of, Resources.resource_of, declared.fault.HttpFault.HttpFault}
 use Rattle.review_paths.specs.declared.fault.HttpFault.TheVariants.{BadHead, NoRoute, Method, NoCaller, NoRequestId, BadEpoch, LengthRequired, TooLarge}
-use Rattle.review_paths.specs.declared.methods.Methods.{Methods}
-use Rattle.review_paths.specs.declared.resources.Resource.{Resource}
-use Rattle.review_requests.specs.declared.asked.Asked.{Asked}
+use Rattle.review_paths.specs.declared.{methods.Methods.Methods, resources.Resource.Resource}
 use Rattle.review_requests.specs.Faults.{or_fault, ◌>>=◌}
 use Rattle.review_requests.specs.Fields.{Fields, Occurs, absent, once, again, occurs, one_value, number_shown}
+use Rattle.review_requests.specs.declared.asked.Asked.{Asked}
 
 -- ---- where it goes
 

@@ -1,19 +1,16 @@
 -- What a look at the bytes so far says of them. Private contracts alone cite this file.
 use Rattle.std.specs.Prelude.{◌≡◌, ◌≤◌, ◌⊎◌, ◌<◌, ◌++◌, ◌+◌, ℕ, List, [], length, drop, Bool, true, false, Result, Ok, Err}
 use Rattle.httparse.specs.Grammar.{RequestHead, ReadsRequest, HasNoRequest, NeverHasRequest, MayBecomeRequest, print_request}
-use Rattle.review_paths.specs.declared.fault.HttpFault.TheVariants as faults
 use Rattle.review_paths.specs.declared.fault.HttpFault.{HttpFault}
-use Rattle.review_requests.specs.declared.fault.Refused.{Refused}
-use Rattle.review_requests.specs.declared.fault.Refused.TheVariants.{Http, Memory}
-use Rattle.review_requests.specs.declared.asked.Asked.{Asked}
-use Rattle.review_requests.specs.declared.judge.Look.{Look}
-use Rattle.review_requests.specs.declared.judge.Look.TheVariants.{Whole, Wants}
-use Rattle.review_requests.specs.declared.judge.Head.{Head}
-use Rattle.review_requests.specs.declared.judge.Head.TheVariants.{Asks, Partial}
-use Rattle.review_requests.specs.declared.fault.RequestFault.{RequestFault}
-use Rattle.review_requests.specs.declared.fault.RequestFault.TheVariants as request
 use Rattle.review_requests.specs.Heads.{asked}
 use Rattle.review_requests.specs.Wire.{most_fields, Follows, CallsFor, IsNotWhole, HasManyFields}
+use Rattle.review_requests.specs.declared.asked.Asked.{Asked}
+use Rattle.review_requests.specs.declared.fault.Refused.{Refused, TheVariants.Http, TheVariants.Memory}
+use Rattle.review_requests.specs.declared.{fault.RequestFault.RequestFault, judge.Head.Head}
+use Rattle.review_requests.specs.declared.judge.Head.TheVariants.{Asks, Partial}
+use Rattle.review_requests.specs.declared.judge.Look.{Look, TheVariants.Whole, TheVariants.Wants}
+use Rattle.review_paths.specs.declared.fault.HttpFault.TheVariants as faults
+use Rattle.review_requests.specs.declared.fault.RequestFault.TheVariants as request
 
 -- a head of few fields stands at the front
 abbrev pub Stands : List ℕ → RequestHead → Type 0

@@ -1,14 +1,13 @@
 -- Laws of what the bytes of a request call for.
 use Rattle.std.specs.Prelude.{◌≡◌, ◌⊎◌, ℕ, List, [], Bool, true, false, Option, Some, Result, Err}
 use Rattle.httparse.specs.Grammar.{EndsInTarget}
-use Rattle.review_words.specs.declared.command.Delivery.{Delivery}
 use Rattle.review_counted.specs.Bytes.{Gave}
-use Rattle.review_paths.specs.declared.fault.HttpFault.{HttpFault}
-use Rattle.review_paths.specs.declared.fault.HttpFault.TheVariants.{BadHead, HeadTooLarge}
+use Rattle.review_words.specs.declared.command.Delivery.{Delivery}
+use Rattle.review_paths.specs.declared.fault.HttpFault.{HttpFault, TheVariants.BadHead, TheVariants.HeadTooLarge}
+use Rattle.review_requests.specs.Told.{IsToldOfInput}
+use Rattle.review_requests.specs.Wire.{CallsFor, IsBadHead, IsHeadTooLarge, IsNotWhole, HasManyFields}
 use Rattle.review_requests.specs.declared.fault.RequestFault.{RequestFault}
 use Rattle.review_requests.specs.declared.fault.RequestFault.TheVariants.{Empty, Read, Memory}
-use Rattle.review_requests.specs.Wire.{CallsFor, IsBadHead, IsHeadTooLarge, IsNotWhole, HasManyFields}
-use Rattle.review_requests.specs.Told.{IsToldOfInput}
 
 -- what the bytes call for that a reader gave, all its bytes call for
 abbrev pub CutsDoNotMatter : Type 0

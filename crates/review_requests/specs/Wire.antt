@@ -2,16 +2,11 @@
 use Rattle.std.specs.Prelude.{◌≡◌, ◌<◌, ◌≤◌, ◌⊎◌, ℕ, List, length, take, drop, Bool, true, Option, Some, None, option_map, Result, Ok, Err}
 use Rattle.httparse.specs.Grammar.{RequestHead, ReadsRequest, HasNoRequest, NeverHasRequest, MayBecomeRequest, print_request}
 use Rattle.httparse.specs.Spans.{RequestExceeds, RequestOverflows}
-use Rattle.review_words.specs.declared.command.Delivery.{Delivery}
-use Rattle.review_words.specs.declared.command.Delivery.TheVariants.{Write, Read}
-use Rattle.review_routes.specs.declared.route.Route.{Route}
-use Rattle.review_routes.specs.Commands.{command_of}
-use Rattle.review_routes.specs.Questions.{query_of}
+use Rattle.review_words.specs.declared.command.Delivery.{Delivery, TheVariants.Write, TheVariants.Read}
+use Rattle.review_routes.specs.{Commands.command_of, Questions.query_of, declared.route.Route.Route}
 use Rattle.review_paths.specs.declared.fault.HttpFault.{HttpFault}
 use Rattle.review_paths.specs.declared.fault.HttpFault.TheVariants.{BadHead, HeadTooLarge, BadBody}
-use Rattle.review_requests.specs.declared.asked.Asked.{Asked}
-use Rattle.review_requests.specs.Faults.{or_fault}
-use Rattle.review_requests.specs.Heads.{asked}
+use Rattle.review_requests.specs.{Faults.or_fault, Heads.asked, declared.asked.Asked.Asked}
 
 -- the question that a route is, or the command that a body completes it to
 abbrev pub delivered_by : ℕ → ℕ → Option (List ℕ) → Route → List ℕ → Option Delivery

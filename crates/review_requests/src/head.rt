@@ -1,6 +1,5 @@
 //! What a head asks for.
-ghost use Rattle.std.specs.Prelude.{◌≡◌, ◌≤◌, length, map, All};
-ghost use Rattle.std.specs.Str.{IsUtf8};
+ghost use Rattle.std.specs.{Prelude.◌≡◌, Prelude.◌≤◌, Prelude.length, Prelude.map, Prelude.All, Str.IsUtf8};
 ghost use Rattle.httparse.specs.Spans.{header_bytes, IsHeaderWithin};
 ghost use Rattle.review_requests.specs.Faults.{Answers};
 ghost use Rattle.review_requests.specs.Heads.{caller_of, id_of, id_for, epoch_shown, epoch_named, epoch_of, epoch_for, capped, length_from, length_of, length_for, path_of, routed, routed_by, asked_by};

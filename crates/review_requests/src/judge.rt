@@ -3,8 +3,8 @@ ghost use Rattle.std.specs.Prelude.{◌≡◌, ◌<◌, ◌≤◌, length, drop,
 ghost use Rattle.httparse.specs.Grammar.{HasNoRequest, MayBecomeRequest};
 ghost use Rattle.review_routes.specs.Parts.{Gives};
 ghost use Rattle.review_requests.specs.Faults.{Answers};
-ghost use Rattle.review_requests.specs.Wire.{delivered, delivery_of, front};
 ghost use Rattle.review_requests.specs.Judged.{HeadIs, Finishes, Judges, WaitsFor, request_fault};
+ghost use Rattle.review_requests.specs.Wire.{delivered, delivery_of, front};
 
 use crate::asked::Asked;
 use crate::fault::{Refused, RequestFault, unless_memory};

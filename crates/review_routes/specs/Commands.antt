@@ -1,22 +1,17 @@
 -- The commands that bodies complete routes to.
 use Rattle.std.specs.Prelude.{ℕ, List, if◌then◌else◌, Option, Some, None, option_map, option_and_then, codes}
 use Rattle.serde_json.specs.Data.{Data}
-use Rattle.review_names.specs.Names.{is_word}
-use Rattle.review_names.specs.Forms.{is_commit, is_line}
-use Rattle.review_names.specs.Numerals.{◌>>=◌}
-use Rattle.review_words.specs.declared.command.ChangeCommand.{ChangeCommand}
-use Rattle.review_words.specs.declared.command.ChangeCommand.TheVariants as change_command
-use Rattle.review_words.specs.declared.command.Command.{Command}
-use Rattle.review_words.specs.declared.command.Command.TheVariants as command
-use Rattle.review_routes.specs.Parts.{text_at, name_at, members_at, epoch_at}
+use Rattle.review_names.specs.{Forms.is_commit, Forms.is_line, Names.is_word, Numerals.◌>>=◌}
+use Rattle.review_words.specs.declared.command.{ChangeCommand.ChangeCommand, Command.Command}
 use Rattle.review_routes.specs.Changes.{new_change, new_patch}
-use Rattle.review_routes.specs.Reviews.{has_refused, said}
-use Rattle.review_routes.specs.Roles.{account_named_at, role_in}
-use Rattle.review_routes.specs.declared.route.ChangeRoute.{ChangeRoute}
+use Rattle.review_routes.specs.Parts.{text_at, name_at, members_at, epoch_at}
+use Rattle.review_routes.specs.{Reviews.has_refused, Reviews.said, Roles.account_named_at, Roles.role_in}
+use Rattle.review_routes.specs.{Texts.body_spelled, declared.route.ChangeRoute.ChangeRoute}
 use Rattle.review_routes.specs.declared.route.ChangeRoute.TheVariants.{Upload, Review, AddReviewer, RemoveReviewer, SetWip, SetReady, Abandon, Restore, AddAttention, RemoveAttention}
 use Rattle.review_routes.specs.declared.route.Route.{Route}
 use Rattle.review_routes.specs.declared.route.Route.TheVariants.{CreateAccount, PutGroup, PutProject, RecordBase, CreateChange, OnChange, Submit, CloseEpoch, Branch, AskChange}
-use Rattle.review_routes.specs.Texts.{body_spelled}
+use Rattle.review_words.specs.declared.command.ChangeCommand.TheVariants as change_command
+use Rattle.review_words.specs.declared.command.Command.TheVariants as command
 
 -- what is asked of a change, with what the body says of it
 unfoldable pub change_command_in : ChangeRoute → Data → Option ChangeCommand

@@ -1,8 +1,7 @@
 -- The fault of a body in which a name is bad.
 use Rattle.review_names.specs.declared.names.BadName.{BadName}
+use Rattle.review_routes.specs.declared.fault.BadBody.{BadBody, TheVariants.Form, TheVariants.Memory}
 use Rattle.review_names.specs.declared.names.BadName.TheVariants as names
-use Rattle.review_routes.specs.declared.fault.BadBody.{BadBody}
-use Rattle.review_routes.specs.declared.fault.BadBody.TheVariants.{Form, Memory}
 
 -- why a name in a body is not read, as the fault of the body
 abbrev pub body_fault : BadName → BadBody

@@ -2,10 +2,9 @@
 use Rattle.std.specs.Prelude.{Bool, not, ◌&&◌, Option, Some, None, is_some, is_none}
 use Rattle.serde_json.specs.Data.{object, no_members}
 use Rattle.review_words.specs.declared.command.Query.{Query}
-use Rattle.review_words.specs.declared.command.Query.TheVariants as query
-use Rattle.review_routes.specs.declared.route.Route.{Route}
-use Rattle.review_routes.specs.declared.route.Route.TheVariants.{Branch, AskChange}
 use Rattle.review_routes.specs.Commands.{command_in}
+use Rattle.review_routes.specs.declared.route.Route.{Route, TheVariants.Branch, TheVariants.AskChange}
+use Rattle.review_words.specs.declared.command.Query.TheVariants as query
 
 -- the question that a route is
 abbrev pub query_of : Route → Option Query

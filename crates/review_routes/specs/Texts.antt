@@ -1,9 +1,7 @@
 -- What bytes spell: names, JSON values and bodies.
 use Rattle.std.specs.Prelude.{ℕ, List, Bool, ◌==◌, length, if◌then◌else◌, Option, Some, None, option_map, option_and_then}
 use Rattle.std.specs.Str.{is_utf8}
-use Rattle.serde_json.specs.Data.{Data, object, no_members}
-use Rattle.serde_json.specs.Read.{read}
-use Rattle.serde_json.specs.Find.{as_object}
+use Rattle.serde_json.specs.{Data.Data, Data.object, Data.no_members, Find.as_object, Read.read}
 use Rattle.review_routes.specs.Parts.{formed}
 
 -- the bytes, where they are a text in UTF-8

@@ -2,10 +2,8 @@
 use Rattle.std.specs.Prelude.{ℕ, ℤ, pos, neg_ℤ, int_le, ◌&&◌, List, [], ◌∷◌, if◌then◌else◌, Option, Some, None, option_map, option_and_then, codes}
 use Rattle.serde_json.specs.Data.{Data, Members, no_members, member}
 use Rattle.serde_json.specs.Find.{get, as_i64, as_number, as_object}
-use Rattle.review_names.specs.Forms.{is_label}
-use Rattle.review_names.specs.Numerals.{◌>>=◌}
-use Rattle.review_words.specs.Reviews.{label_set}
-use Rattle.review_words.specs.declared.changes.Given.{Given}
+use Rattle.review_names.specs.{Forms.is_label, Numerals.◌>>=◌}
+use Rattle.review_words.specs.{Reviews.label_set, declared.changes.Given.Given}
 use Rattle.review_routes.specs.Parts.{formed, or_absent}
 
 -- the number, where it is from -99 to 99

@@ -1,8 +1,7 @@
 //! What is asked of a change that is there, one function for each whose body has members.
 ghost use Rattle.serde_json.specs.View.{view};
-ghost use Rattle.review_routes.specs.Parts.{Gives};
+ghost use Rattle.review_routes.specs.{Commands.change_command_in, Parts.Gives};
 ghost use Rattle.review_routes.specs.declared.route.ChangeRoute.TheVariants.{Upload, Review, AddReviewer, AddAttention, RemoveAttention};
-ghost use Rattle.review_routes.specs.Commands.{change_command_in};
 
 use crate::changes::new_patch;
 use crate::fault::BadBody;

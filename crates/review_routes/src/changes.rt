@@ -1,8 +1,8 @@
 //! The bodies of new changes and new patch sets.
 ghost use Rattle.std.specs.Prelude.{◌≡◌, Some, None, Err, IfOk};
 ghost use Rattle.serde_json.specs.View.{view, items_view};
-ghost use Rattle.review_routes.specs.Parts.{Gives, path_of, paths_in, paths_from, paths_at, kind_at};
 ghost use Rattle.review_routes.specs.Changes.{wip_in, new_change, new_patch};
+ghost use Rattle.review_routes.specs.Parts.{Gives, path_of, paths_in, paths_from, paths_at, kind_at};
 
 use crate::fault::BadBody;
 use crate::parts::{flag_at, name_at, text_at};

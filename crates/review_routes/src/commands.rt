@@ -1,8 +1,7 @@
 //! The commands that bodies complete routes to, one function for each whose body has members.
 ghost use Rattle.serde_json.specs.View.{view};
-ghost use Rattle.review_routes.specs.Parts.{Gives};
+ghost use Rattle.review_routes.specs.{Commands.command_in, Commands.command_of, Parts.Gives};
 ghost use Rattle.review_routes.specs.declared.route.Route.TheVariants.{CreateAccount, PutGroup, PutProject, RecordBase, CreateChange, OnChange, CloseEpoch};
-ghost use Rattle.review_routes.specs.Commands.{command_in, command_of};
 
 use crate::asked::change_command_in;
 use crate::changes::new_change;

@@ -2,8 +2,8 @@
 ghost use Rattle.std.specs.Prelude.{◌≡◌, ◌++◌, Some, None, Err, IfOk, OnOk, option_map};
 ghost use Rattle.serde_json.specs.View.{view, items_view, members_view};
 ghost use Rattle.review_names.specs.Forms.{most_comments};
-ghost use Rattle.review_routes.specs.Parts.{Gives, number_of};
 ghost use Rattle.review_routes.specs.Comments.{line_of, line_in, answered_in, comment_of, comments_on, comments_at, comments_from, written, comments_of, comments_in};
+ghost use Rattle.review_routes.specs.Parts.{Gives, number_of};
 
 use crate::fault::BadBody;
 use crate::parts::{flag_at, name_at};

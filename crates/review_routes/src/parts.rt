@@ -1,8 +1,8 @@
 //! What the members of an object spell.
 ghost use Rattle.std.specs.Prelude.{◌≡◌, Some, None, Err, IfOk, option_map};
 ghost use Rattle.serde_json.specs.View.{view, items_view};
-ghost use Rattle.review_routes.specs.Parts.{Gives, text_at, name_at, account_of, account_at, accounts_in, members_from, members_at, number_of, change_at, epoch_of, epoch_at, epoch_or_first, flag_at};
 ghost use Rattle.review_names.specs.Forms.{most_changes};
+ghost use Rattle.review_routes.specs.Parts.{Gives, text_at, name_at, account_of, account_at, accounts_in, members_from, members_at, number_of, change_at, epoch_of, epoch_at, epoch_or_first, flag_at};
 
 use crate::fault::BadBody;
 use review_words::{AccountNo, ChangeNo, Epoch, FileText, Form, Members, Name};

@@ -1,8 +1,7 @@
 //! Which routes are questions, and which need a body.
 ghost use Rattle.std.specs.Prelude.{◌≡◌, is_none};
 ghost use Rattle.serde_json.specs.Data.{object, no_members};
-ghost use Rattle.review_routes.specs.Parts.{Gives};
-ghost use Rattle.review_routes.specs.Commands.{change_command_in};
+ghost use Rattle.review_routes.specs.{Commands.change_command_in, Parts.Gives};
 ghost use Rattle.review_routes.specs.Questions.{query_of, is_question, needs_body};
 
 use crate::fault::BadBody;

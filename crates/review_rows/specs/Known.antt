@@ -1,30 +1,20 @@
 -- What a look-up finds in tables, and what rows know.
+use Rattle.std.specs.{Cmp.Lexicographic.slice_cmp, List.All, List.Contains, Option.option_or, Ordering.nat_cmp}
 use Rattle.std.specs.Prelude.{ℕ, zero, suc, ◌<◌, ◌≡◌, ◌⊎◌, AllPairs, List, [], ◌∷◌, Option, Some, None, IsSome, Bool, true, false, is_some, nat_lt, option_map, if◌then◌else◌}
-use Rattle.std.specs.Option.{option_or}
-use Rattle.std.specs.List.{All, Contains}
-use Rattle.std.specs.Ordering.{nat_cmp}
-use Rattle.std.specs.Cmp.Lexicographic.{slice_cmp}
-use Rattle.review_words.specs.declared.shown.JoinedChange.{JoinedChange}
-use Rattle.review_words.specs.declared.shown.State.TheVariants.{Merged}
+use Rattle.review_table.specs.Rows.{row_in, rows_of}
+use Rattle.review_words.specs.Epochs.{last_epoch}
+use Rattle.review_words.specs.declared.shown.{JoinedChange.JoinedChange, State.TheVariants.Merged}
 use Rattle.review_chain.specs.declared.links.Standing.{Standing}
 use Rattle.review_chain.specs.declared.links.Standing.TheVariants.{InBranch, PatchSet, Nowhere}
-use Rattle.review_table.specs.Rows.{row_in, rows_of}
 use Rattle.review_changes.specs.Change.{Change}
 use Rattle.review_changes.specs.Parts.{Part, TheHeader, PatchOf, PartRow, AHeader, APatch, part_row}
-use Rattle.review_changes.specs.Seen.{seen}
-use Rattle.review_changes.specs.declared.rows.Header.{Header}
-use Rattle.review_changes.specs.declared.rows.PatchRow.{PatchRow}
-use Rattle.review_rows.specs.declared.rows.BranchKey.{BranchKey as Branch}
-use Rattle.review_rows.specs.declared.rows.Base.{Base}
-use Rattle.review_rows.specs.declared.rows.Counted.{Counted}
-use Rattle.review_rows.specs.declared.rows.Counted.TheVariants as counted
-use Rattle.review_rows.specs.declared.rows.Want.{Want}
-use Rattle.review_rows.specs.declared.rows.Want.TheVariants as want
-use Rattle.review_rows.specs.declared.rows.Rows.{Rows}
-use Rattle.review_rows.specs.declared.rows.StoredFile.{StoredFile}
-use Rattle.review_words.specs.Epochs.{last_epoch}
+use Rattle.review_changes.specs.{Seen.seen, declared.rows.Header.Header, declared.rows.PatchRow.PatchRow}
 use Rattle.review_rows.specs.Limits.{most_projects, most_bases}
 use Rattle.review_rows.specs.Rows.{Key, AccountKey, MemberKey, FileKey, BaseKey, PartKey, APart, Row, AccountRow, MemberRow, FileRow, BaseRow, Count, Projects, BasesOf, ClosedEpochs, Tables, member_cmp, branch_cmp, base_cmp, member_row}
+use Rattle.review_rows.specs.declared.rows.{Base.Base, BranchKey.BranchKey as Branch, Counted.Counted, Rows.Rows}
+use Rattle.review_rows.specs.declared.rows.{StoredFile.StoredFile, Want.Want}
+use Rattle.review_rows.specs.declared.rows.Counted.TheVariants as counted
+use Rattle.review_rows.specs.declared.rows.Want.TheVariants as want
 
 -- what a look-up finds, by its kind: a number, an account's name, the account or the change that was looked for, whether something is so, the members of a group, the file of a project with its parent, the bases of a branch, a change, what a commit is to a branch, the changes that joined a branch
 pub data Found : Type 0 where

@@ -1,44 +1,29 @@
 -- The tables after changes.
 use Rattle.std.proofs.Common.{◌≡◌, ℕ, ◌+◌, ◌≤◌, Bool, true, false, cond, arith, List, [], ◌∷◌, ◌++◌, Option, Some, None, Result, Ok, Err, length, ⊎_elim, ap, sym, ◌∙◌, subst, refl, ◌⊎◌, inl, inr}
-use Rattle.std.specs.Option.{IfSome, option_map, is_some}
-use Rattle.std.specs.Str.{bytes_eq}
-use Rattle.std.specs.Cmp.Lexicographic.{slice_cmp}
-use Rattle.std.specs.Prelude.{OnOk, OnErr}
-use Rattle.std.specs.declared.alloc.AllocError.{AllocError}
-use Rattle.std.specs.declared.cmp.Ordering.{Ordering}
-use Rattle.std.specs.Ordering.{nat_cmp, is_eq}
 use Rattle.std.proofs.lemmas.Cmp.{nat_cmp_total, tied_itself}
-use Rattle.std.specs.List.{All, Contains}
-use Rattle.std.specs.BTreeMap.{is_at}
-use Rattle.std.proofs.lemmas.Option.{same_Some}
 use Rattle.std.proofs.lemmas.List.Elements.{All-head, All-tail, All-contains, All-weaker, Contains-append_left, Contains-push, Contains-push_cases}
-use Rattle.std.proofs.lemmas.Map.Lookups.{CmpEqualImpliesEq, exact_unsigned}
-use Rattle.std.proofs.lemmas.Map.Views.{tells_apart}
-use Rattle.review_table.specs.declared.table.Change.{Change}
+use Rattle.std.proofs.lemmas.Map.{Lookups.CmpEqualImpliesEq, Lookups.exact_unsigned, Views.tells_apart}
+use Rattle.std.{proofs.lemmas.Option.same_Some, specs.BTreeMap.is_at, specs.Cmp.Lexicographic.slice_cmp}
+use Rattle.std.specs.{List.All, List.Contains, Option.IfSome, Option.option_map, Option.is_some}
+use Rattle.std.specs.{Ordering.nat_cmp, Ordering.is_eq, Prelude.OnOk, Prelude.OnErr, Str.bytes_eq}
+use Rattle.std.specs.declared.{alloc.AllocError.AllocError, cmp.Ordering.Ordering}
 use Rattle.review_table.specs.Rows.{row_in, rows_of, change_of, after_change, changed, HasNoEmptyPlace}
+use Rattle.review_table.specs.declared.table.Change.{Change}
 use Rattle.review_words.specs.History.{Identity, is_same}
-use Rattle.review_rows.specs.declared.rows.MemberKey.{MemberKey as Member}
-use Rattle.review_rows.specs.declared.rows.Delta.{Delta}
-use Rattle.review_rows.specs.declared.rows.Kept.{Kept}
-use Rattle.review_rows.specs.declared.rows.PlaceKey.{PlaceKey}
-use Rattle.review_rows.specs.declared.rows.Put.{Put}
-use Rattle.review_rows.specs.declared.rows.StoredFile.{StoredFile}
-use Rattle.review_rows.specs.Rows.{Key, AccountKey, MemberKey, FileKey, BaseKey, PartKey, OddKey, Row, AccountRow, FileRow, BaseRow, APart, Count, Projects, BasesOf, ClosedEpochs, AnswerRow, Answered, Tables, member_cmp, member_row, member_change, account_change, after_put, count_put, place_cmp, after, count_after, kept_row}
-use Rattle.review_rows.specs.Shelf.{IsCommitted}
 use Rattle.review_changes.specs.Parts.{PartRow}
-use Rattle.review_rows.specs.Rows.{edited}
-use Rattle.review_kept_rows.specs.Kept.{ArePrepared, part_at}
-use Rattle.review_kept_rows.proofs.Made.{made_by}
-use Rattle.review_shelves.specs.declared.changes.Changes.{Changes}
-use Rattle.review_kept_answers.specs.declared.keys.AnswerKey.{AnswerKey}
-use Rattle.review_shelves.specs.declared.keys.NameKey.{NameKey}
-use Rattle.review_kept_answers.specs.declared.keys.StoredAnswer.{StoredAnswer}
-use Rattle.review_shelves.specs.declared.tables.MemoryTables.{MemoryTables}
-use Rattle.review_shelves.specs.Desk.{beside_epoch, Desk, desk_of, desk_with, tables_of, row_of, count_of, stored_row, file_changes, name_cmp, IsNumber, AddsNames, AreInUse, IsIndexed, IsNumbered, IsBounded, IsSound, IsGiven, IsHeld, IsNameOf, IsStored, IsUsed, AreIndexed, KeepsNames, AreChangesOf, AreApplied, IsWithBase, HasChanged, HasNoSpareRoom, HasRoom, HasRoomOnlyFor, PutsAnswer, with_stored}
-use Rattle.review_kept_answers.specs.Answers.{key_of, answer_cmp}
-use Rattle.review_kept_rows.specs.Bases.{BranchesView, total_in}
-use Rattle.review_shelves.proofs.Orders.{exact_member}
+use Rattle.review_rows.specs.Rows.{Key, AccountKey, MemberKey, FileKey, BaseKey, PartKey, OddKey, Row, AccountRow, FileRow, BaseRow, APart, Count, Projects, BasesOf, ClosedEpochs, AnswerRow, Answered, Tables, member_cmp, member_row, member_change, account_change, after_put, count_put, place_cmp, after, count_after, kept_row, edited}
+use Rattle.review_rows.specs.Shelf.{IsCommitted}
+use Rattle.review_rows.specs.declared.rows.{Delta.Delta, Kept.Kept, MemberKey.MemberKey as Member, PlaceKey.PlaceKey}
+use Rattle.review_rows.specs.declared.rows.{Put.Put, StoredFile.StoredFile}
 use Rattle.review_kept_answers.proofs.Orders.{exact_answer, at_answer}
+use Rattle.review_kept_answers.specs.Answers.{key_of, answer_cmp}
+use Rattle.review_kept_answers.specs.declared.keys.{AnswerKey.AnswerKey, StoredAnswer.StoredAnswer}
+use Rattle.review_kept_rows.proofs.Made.{made_by}
+use Rattle.review_kept_rows.specs.{Bases.BranchesView, Bases.total_in, Kept.ArePrepared, Kept.part_at}
+use Rattle.review_shelves.proofs.Orders.{exact_member}
+use Rattle.review_shelves.specs.Desk.{beside_epoch, Desk, desk_of, desk_with, tables_of, row_of, count_of, stored_row, file_changes, name_cmp, IsNumber, AddsNames, AreInUse, IsIndexed, IsNumbered, IsBounded, IsSound, IsGiven, IsHeld, IsNameOf, IsStored, IsUsed, AreIndexed, KeepsNames, AreChangesOf, AreApplied, IsWithBase, HasChanged, HasNoSpareRoom, HasRoom, HasRoomOnlyFor, PutsAnswer, with_stored}
+use Rattle.review_shelves.specs.declared.{changes.Changes.Changes, keys.NameKey.NameKey}
+use Rattle.review_shelves.specs.declared.tables.MemoryTables.{MemoryTables}
 
 -- names that are listed stay so
 more_listed : (names : List NameKey) (key : NameKey) (number : ℕ) (o : Option (List ℕ)) → IfSome o (λ name. Contains names (record { name = name; account = number })) → IfSome o (λ name. Contains (names ++ key ∷ []) (record { name = name; account = number }))

@@ -1,29 +1,21 @@
 -- The desk that tables in memory hold.
-use Rattle.std.specs.Prelude.{ℕ, ◌≡◌, ◌≤◌, ◌+◌, ◌⊎◌, Bool, true, false, List, [], ◌∷◌, Option, Some, None, IfSome, option_map, string_bytes, if◌then◌else◌}
-use Rattle.std.specs.BTreeMap.{is_at}
-use Rattle.std.specs.List.{All, Contains}
-use Rattle.std.specs.declared.cmp.Ordering.{Ordering}
+use Rattle.std.specs.{BTreeMap.is_at, Cmp.Lexicographic.slice_cmp, List.All, List.Contains}
 use Rattle.std.specs.Ordering.{nat_cmp, ordering_then}
-use Rattle.std.specs.Cmp.Lexicographic.{slice_cmp}
-use Rattle.review_table.specs.declared.table.Change.{Change}
+use Rattle.std.specs.Prelude.{ℕ, ◌≡◌, ◌≤◌, ◌+◌, ◌⊎◌, Bool, true, false, List, [], ◌∷◌, Option, Some, None, IfSome, option_map, string_bytes, if◌then◌else◌}
+use Rattle.std.specs.declared.cmp.Ordering.{Ordering}
 use Rattle.review_table.specs.Rows.{row_in, rows_of, change_of, is_named, HasEmptyOnly, HasNoEmptyPlace, HavePlaces, changed}
+use Rattle.review_table.specs.declared.table.Change.{Change}
 use Rattle.review_words.specs.History.{Identity}
-use Rattle.review_rows.specs.declared.rows.MemberKey.{MemberKey as Member}
-use Rattle.review_rows.specs.declared.rows.PlaceKey.{PlaceKey}
-use Rattle.review_rows.specs.declared.rows.Put.{Put}
-use Rattle.review_rows.specs.declared.rows.StoredFile.{StoredFile}
-use Rattle.review_rows.specs.declared.rows.Delta.{Delta}
-use Rattle.review_rows.specs.declared.rows.Kept.{Kept}
 use Rattle.review_rows.specs.Rows.{Key, AccountKey, MemberKey, FileKey, BaseKey, PartKey, OddKey, Row, AccountRow, FileRow, BaseRow, APart, Count, Projects, BasesOf, ClosedEpochs, AnswerRow, Stored, Answered, Tables, member_cmp, member_row, kept_row}
 use Rattle.review_rows.specs.View.{tables_version}
+use Rattle.review_rows.specs.declared.rows.{Delta.Delta, Kept.Kept, MemberKey.MemberKey as Member, PlaceKey.PlaceKey}
+use Rattle.review_rows.specs.declared.rows.{Put.Put, StoredFile.StoredFile}
 use Rattle.review_change_rows.specs.declared.tables.ChangeTables.{ChangeTables}
-use Rattle.review_kept_rows.specs.Kept.{HasRoomFor, IsFull, IsFullBut, part_at}
-use Rattle.review_kept_rows.specs.Bases.{BranchesView, IsPut, base_at, total_in}
-use Rattle.review_shelves.specs.declared.keys.NameKey.{NameKey}
-use Rattle.review_kept_answers.specs.declared.keys.AnswerKey.{AnswerKey}
-use Rattle.review_kept_answers.specs.declared.keys.StoredAnswer.{StoredAnswer}
 use Rattle.review_kept_answers.specs.Answers.{answer_cmp, key_of}
-use Rattle.review_shelves.specs.declared.changes.Changes.{Changes}
+use Rattle.review_kept_answers.specs.declared.keys.{AnswerKey.AnswerKey, StoredAnswer.StoredAnswer}
+use Rattle.review_kept_rows.specs.Bases.{BranchesView, IsPut, base_at, total_in}
+use Rattle.review_kept_rows.specs.Kept.{HasRoomFor, IsFull, IsFullBut, part_at}
+use Rattle.review_shelves.specs.declared.{changes.Changes.Changes, keys.NameKey.NameKey}
 use Rattle.review_shelves.specs.declared.tables.MemoryTables.{MemoryTables}
 
 -- by name, then by number

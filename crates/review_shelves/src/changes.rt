@@ -1,6 +1,5 @@
 //! What a delta and its request change in tables in memory, in copies of their own.
-ghost use Rattle.std.specs.Prelude.{◌≡◌, IfOk, OnOk};
-ghost use Rattle.std.specs.List.{All};
+ghost use Rattle.std.specs.{List.All, Prelude.◌≡◌, Prelude.IfOk, Prelude.OnOk};
 ghost use Rattle.review_table.specs.Rows.{rows_of};
 ghost use Rattle.review_kept_rows.specs.Kept.{ArePrepared};
 ghost use Rattle.review_shelves.specs.Desk.{IsNumber, IsHeld, IsGiven, IsNameOf, AreChangesOf, PutsAnswer, file_changes};

@@ -1,15 +1,13 @@
 //! What look-ups find in tables in memory.
+ghost use Rattle.std.specs.{Cmp.Lexicographic.slice_cmp, Ordering.nat_cmp};
 ghost use Rattle.std.specs.Prelude.{◌≡◌, ℕ, Some, None, IfOk, IfErr, OnOk, MatchOption, is_some, nat_lt, option_copied};
-ghost use Rattle.std.specs.Ordering.{nat_cmp};
-ghost use Rattle.std.specs.Cmp.Lexicographic.{slice_cmp};
 ghost use Rattle.review_table.specs.Rows.{row_in, rows_of};
+ghost use Rattle.review_rows.specs.Known.{Agrees, AreAsked, IsLast, HasMembers, StandsAs, LearnsFound};
+ghost use Rattle.review_rows.specs.Rows.{AccountKey, member_cmp};
+ghost use Rattle.review_shelves.specs.Desk.{tables_of, desk_of, row_of, IsIndexed, IsNumbered};
+ghost use Rattle.review_shelves.specs.Loads.{IsUnread};
 ghost use Rattle.review_rows.specs.declared.rows.Want.TheVariants as want;
 ghost use Rattle.review_rows.specs.declared.rows.Counted.TheVariants as counted;
-ghost use Rattle.review_rows.specs.Rows.{AccountKey, member_cmp};
-ghost use Rattle.review_rows.specs.Known.{Agrees, AreAsked, IsLast, HasMembers, StandsAs};
-ghost use Rattle.review_shelves.specs.Desk.{tables_of, desk_of, row_of, IsIndexed, IsNumbered};
-ghost use Rattle.review_rows.specs.Known.{LearnsFound};
-ghost use Rattle.review_shelves.specs.Loads.{IsUnread};
 
 use crate::keys::NameKey;
 use crate::tables::MemoryTables;

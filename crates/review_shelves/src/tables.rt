@@ -1,20 +1,16 @@
 //! The tables of a desk in memory, and what changes in them.
+ghost use Rattle.std.specs.{Cmp.Lexicographic.slice_cmp, List.All, Ordering.nat_cmp};
 ghost use Rattle.std.specs.Prelude.{◌≡◌, List, ◌∷◌, Some, IfOk, OnOk, OnErr, ◌<◌, ◌^◌, ◌-◌, IsTrue, ◌↔◌, [], true, None, unwrap_or, if◌then◌else◌};
-ghost use Rattle.std.specs.List.{All};
-ghost use Rattle.review_kept_answers.specs.declared.keys.AnswerKey.{AnswerKey};
-ghost use Rattle.review_kept_answers.specs.Answers.{answer_cmp, is_among, key_of};
-ghost use Rattle.std.specs.Ordering.{nat_cmp};
-ghost use Rattle.std.specs.Cmp.Lexicographic.{slice_cmp};
 ghost use Rattle.review_table.specs.Rows.{row_in, rows_of, is_named, HasEmptyOnly, HasNoEmptyPlace};
+ghost use Rattle.review_table.specs.declared.table.Change.{Change};
 ghost use Rattle.review_rows.specs.Rows.{FileKey, count_put, kept_row, member_cmp};
-ghost use Rattle.review_shelves.specs.declared.changes.Changes.{Changes};
-ghost use Rattle.review_rows.specs.Shelf.{IsRecalled, IsCommitted};
-ghost use Rattle.review_rows.specs.View.{IsView};
+ghost use Rattle.review_rows.specs.{Shelf.IsRecalled, Shelf.IsCommitted, View.IsView};
+ghost use Rattle.review_kept_answers.specs.Answers.{answer_cmp, is_among, key_of};
+ghost use Rattle.review_kept_answers.specs.declared.keys.AnswerKey.{AnswerKey};
+ghost use Rattle.review_kept_rows.specs.{Bases.IsPut, Kept.IsReady};
 ghost use Rattle.review_shelves.specs.Desk.{tables_of, desk_of, desk_with, row_of, name_cmp, is_removed, IsIndexed, IsBounded, IsSound, AddsNames, AreChangesOf, AreIndexed, KeepsNames, HasChanged, HasNoSpareRoom, HasRemovedOnly, HasRoom, HasRoomOnlyFor, AreApplied, IsNameOf, IsStored, IsUsed, IsWithBase, beside_epoch, with_answers, with_stored};
 ghost use Rattle.review_shelves.specs.First.{HasAccount, HasName, HasMember};
-ghost use Rattle.review_table.specs.declared.table.Change.{Change};
-ghost use Rattle.review_kept_rows.specs.Bases.{IsPut};
-ghost use Rattle.review_kept_rows.specs.Kept.{IsReady};
+ghost use Rattle.review_shelves.specs.declared.changes.Changes.{Changes};
 
 use crate::changes::{Changes, names_given, names_held, stored};
 use crate::keys::NameKey;

@@ -1,11 +1,9 @@
 -- Questions and their replies.
 use Rattle.std.proofs.Common.{◌≡◌, List, [], length, take, sym, subst, arith}
 use Rattle.std.proofs.lemmas.List.{take_all}
-use Rattle.review_words.specs.declared.command.Delivery.{Delivery}
-use Rattle.review_words.specs.declared.reply.Reply.{Reply}
+use Rattle.review_words.specs.declared.{command.Delivery.Delivery, reply.Reply.Reply}
 use Rattle.review_rows.specs.Shelf.{Shown}
-use Rattle.review_deliveries.specs.Delivered.{WasRun}
-use Rattle.review_deliveries.proofs.Ran.{ran_none}
+use Rattle.review_deliveries.{proofs.Ran.ran_none, specs.Delivered.WasRun}
 use Rattle.review_showing.specs.Shown.{WereAsked}
 
 -- all questions were asked

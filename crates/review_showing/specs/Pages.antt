@@ -2,11 +2,8 @@
 use Rattle.std.specs.Prelude.{ℕ, ◌+◌, ℤ, pos, negsuc, List, [], ◌∷◌, ◌++◌, flat_map, codes, Bool, true, false}
 use Rattle.review_names.specs.Numerals.{numeral}
 use Rattle.review_words.specs.Texts.{signed}
-use Rattle.review_words.specs.declared.shown.JoinedChange.{JoinedChange}
-use Rattle.review_words.specs.declared.shown.ShownCall.{ShownCall}
-use Rattle.review_words.specs.declared.shown.ShownChange.{ShownChange}
-use Rattle.review_words.specs.declared.shown.ShownRequirement.{ShownRequirement}
-use Rattle.review_words.specs.declared.shown.ShownVote.{ShownVote}
+use Rattle.review_words.specs.declared.shown.{JoinedChange.JoinedChange, ShownCall.ShownCall, ShownChange.ShownChange}
+use Rattle.review_words.specs.declared.shown.{ShownRequirement.ShownRequirement, ShownVote.ShownVote}
 use Rattle.review_json.specs.Shown.{state_name, status_name}
 
 -- what follows the first word of a line: the other words, each behind a space, and a line feed

@@ -1,13 +1,11 @@
 -- What was asked and written.
-use Rattle.std.specs.Prelude.{◌≡◌, ℕ, List, [], Option, Result, Ok, Err, length, take}
 use Rattle.std.specs.Io.KnownBytes.{Appends}
-use Rattle.review_words.specs.declared.command.Delivery.{Delivery}
-use Rattle.review_words.specs.declared.reply.Reply.{Reply}
+use Rattle.std.specs.Prelude.{◌≡◌, ℕ, List, [], Option, Result, Ok, Err, length, take}
+use Rattle.review_words.specs.declared.{command.Delivery.Delivery, reply.Reply.Reply}
 use Rattle.review_rows.specs.Shelf.{Shown}
 use Rattle.review_deliveries.specs.Delivered.{WasRun}
 use Rattle.review_lines.specs.Answers.{IsPartOf}
-use Rattle.review_showing.specs.declared.fault.ShowFault.{ShowFault}
-use Rattle.review_showing.specs.declared.fault.ShowFault.TheVariants.{Memory, Output}
+use Rattle.review_showing.specs.declared.fault.ShowFault.{ShowFault, TheVariants.Memory, TheVariants.Output}
 
 -- questions were a run with these replies, which may be fewer where there was no memory for them
 abbrev pub WereAsked : List Delivery → List Reply → Shown → Shown → Type 0

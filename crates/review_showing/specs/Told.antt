@@ -1,25 +1,17 @@
 -- What the replies to questions tell, and the page that is made of them.
 use Rattle.std.specs.Prelude.{ℕ, List, [], ◌∷◌, Result, Ok, Err}
-use Rattle.review_words.specs.declared.command.ChangeQuery.{ChangeQuery}
-use Rattle.review_words.specs.declared.command.ChangeQuery.TheVariants as asks
-use Rattle.review_words.specs.declared.command.Delivery.{Delivery}
-use Rattle.review_words.specs.declared.command.Delivery.TheVariants.{Read}
+use Rattle.review_words.specs.declared.command.{ChangeQuery.ChangeQuery, Delivery.Delivery, Delivery.TheVariants.Read}
 use Rattle.review_words.specs.declared.command.Query.TheVariants.{Branch, OnChange}
-use Rattle.review_words.specs.declared.reply.Answer.{Answer}
-use Rattle.review_words.specs.declared.reply.Answer.TheVariants as answer
-use Rattle.review_words.specs.declared.reply.NotTaken.{NotTaken as Cause}
-use Rattle.review_words.specs.declared.reply.NotTaken.TheVariants as cause
-use Rattle.review_words.specs.declared.reply.Refusal.{Refusal}
-use Rattle.review_words.specs.declared.reply.Refusal.TheVariants as refusal
-use Rattle.review_words.specs.declared.reply.Reply.{Reply}
+use Rattle.review_words.specs.declared.reply.{Answer.Answer, NotTaken.NotTaken as Cause, Refusal.Refusal, Reply.Reply}
 use Rattle.review_words.specs.declared.reply.Reply.TheVariants.{Done, Refused, IdentityReused, EpochClosed, NotTaken}
-use Rattle.review_words.specs.declared.shown.JoinedChange.{JoinedChange}
-use Rattle.review_words.specs.declared.shown.ShownCall.{ShownCall}
-use Rattle.review_words.specs.declared.shown.ShownChange.{ShownChange}
+use Rattle.review_words.specs.declared.shown.{JoinedChange.JoinedChange, ShownCall.ShownCall, ShownChange.ShownChange}
 use Rattle.review_words.specs.declared.shown.ShownRequirement.{ShownRequirement}
-use Rattle.review_showing.specs.declared.fault.ShowFault.{ShowFault}
+use Rattle.review_showing.specs.{Pages.change_text, Pages.joined_text, declared.fault.ShowFault.ShowFault}
 use Rattle.review_showing.specs.declared.fault.ShowFault.TheVariants.{Memory, Store, Damaged, Pattern, NoChange, NoProject, NoBranch}
-use Rattle.review_showing.specs.Pages.{change_text, joined_text}
+use Rattle.review_words.specs.declared.command.ChangeQuery.TheVariants as asks
+use Rattle.review_words.specs.declared.reply.Answer.TheVariants as answer
+use Rattle.review_words.specs.declared.reply.NotTaken.TheVariants as cause
+use Rattle.review_words.specs.declared.reply.Refusal.TheVariants as refusal
 
 -- a question about a change, asked by account 1
 abbrev pub about : ℕ → ChangeQuery → Delivery

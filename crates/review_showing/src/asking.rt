@@ -1,7 +1,7 @@
 //! Questions, and what their replies tell.
 ghost use Rattle.std.specs.Prelude.{◌≡◌, Ok, Err, IfOk, IfErr, length, string_bytes};
-ghost use Rattle.review_showing.specs.Told.{about, calls_told, change_page, change_told, joined_page, joined_told, page_of_three, requirements_told, told};
 ghost use Rattle.review_showing.specs.Shown.{IsPage, WereAsked};
+ghost use Rattle.review_showing.specs.Told.{about, calls_told, change_page, change_told, joined_page, joined_told, page_of_three, requirements_told, told};
 
 use crate::fault::ShowFault;
 use crate::pages::{change_text, joined_text};

@@ -1,6 +1,6 @@
 //! Pages on their way out.
-ghost use Rattle.std.specs.Prelude.{◌≡◌, ℕ, List, IfErr, OnOk, OnErr};
 ghost use Rattle.std.specs.Io.KnownBytes.{Appends};
+ghost use Rattle.std.specs.Prelude.{◌≡◌, ℕ, List, IfErr, OnOk, OnErr};
 ghost use Rattle.review_lines.specs.Answers.{IsPartOf};
 ghost use Rattle.review_showing.specs.declared.fault.ShowFault.TheVariants as fault;
 

@@ -1,8 +1,8 @@
 //! Pages asked for and written.
-ghost use Rattle.std.specs.Prelude.{◌≡◌, ◌∷◌, ℕ, List, [], IfOk};
 ghost use Rattle.std.specs.Io.KnownBytes.{Appends};
-ghost use Rattle.review_showing.specs.Told.{branch_questions, change_page, change_questions, joined_page};
+ghost use Rattle.std.specs.Prelude.{◌≡◌, ◌∷◌, ℕ, List, [], IfOk};
 ghost use Rattle.review_showing.specs.Shown.{IsWritten, Showed};
+ghost use Rattle.review_showing.specs.Told.{branch_questions, change_page, change_questions, joined_page};
 
 use crate::asking::{about, change_page, joined_page, replies_to};
 use crate::fault::ShowFault;

@@ -1,10 +1,8 @@
 -- Texts that are the numbers of accounts.
 use Rattle.std.proofs.Common.{◌≡◌, ℕ, ◌≤◌, List, Bool, true, false, cond, Option, None, Some, refl, sym, ap, ◌∙◌, arith}
 use Rattle.std.proofs.lemmas.Bool.Decides.{nat_tests}
-use Rattle.review_names.specs.Names.{is_account_number}
-use Rattle.review_names.specs.Numerals.{numeral}
-use Rattle.review_names.specs.Numerals.{account_of, number_of, ◌>>=◌}
-use Rattle.review_names.proofs.Numerals.{number_back, number_shown}
+use Rattle.review_names.{proofs.Numerals.number_back, proofs.Numerals.number_shown, specs.Names.is_account_number}
+use Rattle.review_names.specs.Numerals.{numeral, account_of, number_of, ◌>>=◌}
 
 pub account_bounds : (n : ℕ) → is_account_number n ≡ true → (1 ≤ n) × (n ≤ 1000000)
 unfolding is_account_number

@@ -1,7 +1,7 @@
 -- Numbers up to 99, by their one or two digits.
 use Rattle.std.proofs.Common.{◌≡◌, ℕ, ◌<◌, ◌≤◌, ◌*◌, ◌+◌, ◌-◌, List, [], ◌∷◌, length, Bool, true, false, cond, Option, None, Some, IfSome, refl, sym, ap, ◌∙◌, arith}
-use Rattle.std.specs.Prelude.{◌&&◌, nat_le, nat_lt, if◌then◌else◌}
 use Rattle.std.proofs.lemmas.Bool.Decides.{nat_tests}
+use Rattle.std.specs.Prelude.{◌&&◌, nat_le, nat_lt, if◌then◌else◌}
 use Rattle.review_names.specs.Numerals.{number_after, number_of, begins_well, ◌>>=◌}
 use Rattle.review_spelling.specs.Values.{digits_in}
 

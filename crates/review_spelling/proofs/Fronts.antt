@@ -1,11 +1,9 @@
 -- Fronts of texts that are names of labels.
 use Rattle.std.proofs.Common.{◌≡◌, ℕ, zero, suc, ◌-◌, ◌<◌, ◌≤◌, ◌==◌, List, [], ◌∷◌, length, take, drop, get_or, Bool, true, false, Option, None, Some, refl, sym, ap, subst, ◌∙◌, arith, add-one}
-use Rattle.std.specs.Prelude.{◌&&◌, ◌||◌, nat_le}
-use Rattle.std.proofs.lemmas.List.{length-take, get_or-take}
-use Rattle.std.specs.Char.{is_ascii_alphabetic, is_ascii_alphanumeric}
-use Rattle.std.specs.Str.{IsUtf8, IsCharBoundary}
+use Rattle.std.proofs.lemmas.{Bool.Decides.nat_tests, List.length-take, List.get_or-take}
 use Rattle.std.proofs.lemmas.Str.{IsCharBoundary-after_ascii}
-use Rattle.std.proofs.lemmas.Bool.Decides.{nat_tests}
+use Rattle.std.specs.Char.{is_ascii_alphabetic, is_ascii_alphanumeric}
+use Rattle.std.specs.{Prelude.◌&&◌, Prelude.◌||◌, Prelude.nat_le, Str.IsUtf8, Str.IsCharBoundary}
 use Rattle.review_names.specs.Forms.{is_label, goes_on}
 use Rattle.review_spelling.specs.Labels.{longest_label}
 

@@ -1,6 +1,6 @@
 -- Parts of a word.
-use Rattle.std.specs.Prelude.{ℕ, List, [], ◌∷◌, ◌==◌, if◌then◌else◌, Option, Some, None, option_map}
 use denote.Ref.{Bor}
+use Rattle.std.specs.Prelude.{ℕ, List, [], ◌∷◌, ◌==◌, if◌then◌else◌, Option, Some, None, option_map}
 use Rattle.review_names.specs.Numerals.{◌>>=◌}
 
 -- what follows a front, where the text begins with it

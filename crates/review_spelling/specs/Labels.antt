@@ -1,16 +1,11 @@
 -- The value of a `label:` word.
 use Rattle.std.specs.Prelude.{ℕ, zero, suc, List, ◌&&◌, nat_le, if◌then◌else◌, codes, length, take, drop, Option, Some, None, option_map}
 use Rattle.std.specs.Str.{bytes_eq}
-use Rattle.review_names.specs.Forms.{is_label}
-use Rattle.review_names.specs.Names.{is_word}
-use Rattle.review_names.specs.Numerals.{◌>>=◌, account_of}
-use Rattle.review_terms.specs.declared.terms.Voters.{Voters}
+use Rattle.review_names.specs.{Forms.is_label, Names.is_word, Numerals.◌>>=◌, Numerals.account_of}
+use Rattle.review_terms.specs.declared.terms.{Count.Count, LabelTerm.LabelTerm, Voters.Voters}
+use Rattle.review_spelling.specs.{Cuts.behind, Cuts.cut_at, Values.by_front, Values.comparison_in, Values.digits_in}
 use Rattle.review_terms.specs.declared.terms.Voters.TheVariants as voters
-use Rattle.review_terms.specs.declared.terms.Count.{Count}
 use Rattle.review_terms.specs.declared.terms.Count.TheVariants as count
-use Rattle.review_terms.specs.declared.terms.LabelTerm.{LabelTerm}
-use Rattle.review_spelling.specs.Cuts.{behind, cut_at}
-use Rattle.review_spelling.specs.Values.{by_front, comparison_in, digits_in}
 
 -- the longest front, of at most so many bytes, that is the name of a label, and what follows it
 unfoldable pub longest_label : ℕ → List ℕ → Option (List ℕ × List ℕ)

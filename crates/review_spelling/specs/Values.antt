@@ -1,13 +1,12 @@
 -- Values that stand in words: numbers, votes, kinds of change.
-use Rattle.std.specs.Prelude.{ℕ, ℤ, pos, neg_ℤ, List, nat_le, if◌then◌else◌, Bool, false, int_lt, int_le, codes, Option, Some, None, option_map}
 use Rattle.std.specs.Ordering.{int_eq}
+use Rattle.std.specs.Prelude.{ℕ, ℤ, pos, neg_ℤ, List, nat_le, if◌then◌else◌, Bool, false, int_lt, int_le, codes, Option, Some, None, option_map}
 use Rattle.std.specs.Str.{bytes_eq}
 use Rattle.review_names.specs.Numerals.{◌>>=◌, number_of}
-use Rattle.review_terms.specs.declared.terms.VoteValue.{VoteValue}
-use Rattle.review_terms.specs.declared.terms.VoteValue.TheVariants as value
-use Rattle.review_terms.specs.declared.terms.Comparison.{Comparison}
-use Rattle.review_terms.specs.declared.terms.Comparison.TheVariants as comparison
+use Rattle.review_terms.specs.declared.terms.{Comparison.Comparison, VoteValue.VoteValue}
 use Rattle.review_spelling.specs.Cuts.{behind}
+use Rattle.review_terms.specs.declared.terms.VoteValue.TheVariants as value
+use Rattle.review_terms.specs.declared.terms.Comparison.TheVariants as comparison
 
 -- D: 0 to 99 in decimal, without leading zeros
 unfoldable pub digits_in : List ℕ → Option ℕ

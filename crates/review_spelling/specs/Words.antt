@@ -1,23 +1,18 @@
 -- What a word is read as.
 use Rattle.std.specs.Prelude.{ℕ, List, ◌&&◌, Bool, true, false, if◌then◌else◌, codes, Option, Some, None, option_map, IsSomeAnd}
 use Rattle.std.specs.Str.{bytes_eq}
-use Rattle.review_names.specs.Forms.{is_slashed_name, is_path}
-use Rattle.review_names.specs.Names.{is_word}
-use Rattle.review_terms.specs.Words.{Reading, Good, Bad}
+use Rattle.review_names.specs.{Forms.is_slashed_name, Forms.is_path, Kinds.kind_named, Names.is_word}
 use Rattle.review_terms.specs.Patterns.{is_pattern, IsDeepPattern, IsEnginePattern}
-use Rattle.review_terms.specs.declared.terms.Comparison.TheVariants as comparison
-use Rattle.review_terms.specs.declared.terms.RequirementTerm.{RequirementTerm}
-use Rattle.review_terms.specs.declared.terms.RequirementTerm.TheVariants as requirement
-use Rattle.review_terms.specs.declared.terms.CopyTerm.{CopyTerm}
-use Rattle.review_terms.specs.declared.terms.CopyTerm.TheVariants as copy
-use Rattle.review_spelling.specs.Cuts.{behind, cut_at, key_and_value}
-use Rattle.review_names.specs.Kinds.{kind_named}
-use Rattle.review_spelling.specs.Values.{vote_in, is_met_by_zero}
-use Rattle.review_spelling.specs.Labels.{label_in}
+use Rattle.review_terms.specs.Words.{Reading, Good, Bad}
+use Rattle.review_terms.specs.declared.terms.{CopyTerm.CopyTerm, RequirementTerm.RequirementTerm}
+use Rattle.review_spelling.specs.{Cuts.behind, Cuts.cut_at, Cuts.key_and_value, Labels.label_in}
 use Rattle.review_spelling.specs.Readings.{◌>>=◌, in_term, in_value, unless_zero}
-use Rattle.review_spelling.specs.declared.keys.RequirementKey.{RequirementKey}
+use Rattle.review_spelling.specs.Values.{vote_in, is_met_by_zero}
+use Rattle.review_spelling.specs.declared.keys.{CopyKey.CopyKey, RequirementKey.RequirementKey}
+use Rattle.review_terms.specs.declared.terms.Comparison.TheVariants as comparison
+use Rattle.review_terms.specs.declared.terms.RequirementTerm.TheVariants as requirement
+use Rattle.review_terms.specs.declared.terms.CopyTerm.TheVariants as copy
 use Rattle.review_spelling.specs.declared.keys.RequirementKey.TheVariants as of_requirement
-use Rattle.review_spelling.specs.declared.keys.CopyKey.{CopyKey}
 use Rattle.review_spelling.specs.declared.keys.CopyKey.TheVariants as of_copy
 
 -- a text that is of a form

@@ -1,8 +1,8 @@
 //! Words of copy conditions.
 ghost use Rattle.std.specs.Prelude.{◌≡◌, IfOk, IfErr};
 ghost use Rattle.review_terms.specs.Words.{Good, IsWordFault};
-ghost use Rattle.review_spelling.specs.declared.keys.CopyKey.TheVariants as of_copy;
 ghost use Rattle.review_spelling.specs.Words.{copy_reading, copy_value};
+ghost use Rattle.review_spelling.specs.declared.keys.CopyKey.TheVariants as of_copy;
 
 use crate::cuts::key_and_value;
 use crate::keys::CopyKey;

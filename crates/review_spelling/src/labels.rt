@@ -1,7 +1,6 @@
 //! The values of `label:` words.
 ghost use Rattle.std.specs.Prelude.{◌≡◌, ◌<◌, ◌-◌, true, IfOk, IfErr, IfNone, IfSome, Some, option_map};
-ghost use Rattle.review_names.specs.Forms.{is_label};
-ghost use Rattle.review_names.specs.Numerals.{account_of};
+ghost use Rattle.review_names.specs.{Forms.is_label, Numerals.account_of};
 ghost use Rattle.review_spelling.specs.Cuts.{text_behind};
 ghost use Rattle.review_spelling.specs.Labels.{accounts_in, count_in, label_in, longest_label, one_part, parts_in, two_parts, user_in, voters_in};
 ghost use Rattle.review_spelling.specs.Readings.{IsUnread};

@@ -2,8 +2,7 @@
 ghost use Rattle.std.specs.Prelude.{◌≡◌, IfOk, IfErr, Some};
 ghost use Rattle.review_terms.specs.Patterns.{is_pattern, IsDeepPattern, IsEnginePattern};
 ghost use Rattle.review_terms.specs.Words.{IsWordFault};
-ghost use Rattle.review_spelling.specs.Readings.{in_value, IsUnread};
-ghost use Rattle.review_spelling.specs.Words.{formed};
+ghost use Rattle.review_spelling.specs.{Readings.in_value, Readings.IsUnread, Words.formed};
 
 use review_names::{BadName, Form, Name};
 use review_terms::{Pattern, PatternFault, WordFault};

@@ -1,9 +1,9 @@
 //! Words of submit requirements.
 ghost use Rattle.std.specs.Prelude.{◌≡◌, IfOk, IfErr, IsSomeAnd};
-ghost use Rattle.review_terms.specs.Words.{Good, IsWordFault};
-ghost use Rattle.review_terms.specs.Patterns.{IsDeepPattern, IsEnginePattern};
+ghost use Rattle.review_terms.specs.{Patterns.IsDeepPattern, Patterns.IsEnginePattern, Words.Good, Words.IsWordFault};
+ghost use Rattle.review_spelling.specs.Words.{is_component, pattern_of, requirement_reading, requirement_value};
+ghost use Rattle.review_spelling.specs.Words.{truth_in, IsDeep, IsPattern};
 ghost use Rattle.review_spelling.specs.declared.keys.RequirementKey.TheVariants as of_requirement;
-ghost use Rattle.review_spelling.specs.Words.{is_component, pattern_of, requirement_reading, requirement_value, truth_in, IsDeep, IsPattern};
 
 use crate::cuts::{behind, cut_at, key_and_value};
 use crate::keys::RequirementKey;

@@ -1,25 +1,20 @@
 -- A shelf over a connection that one which was closed has left.
 use Rattle.std.proofs.Common.{◌≡◌, ◌≢◌, ◌⊎◌, inl, inr, ◌∙◌, Bool, IsTrue, refl, sym, subst, arith}
 use Rattle.std.proofs.lemmas.Option.{same_Some}
+use Rattle.sqlite.specs.{Effect.Database, Held.Held, Held.state, State.State}
 use Rattle.sqlite_trees.specs.declared.store.Store.{Ghosts}
-use Rattle.sqlite.specs.Effect.{Database}
-use Rattle.sqlite.specs.State.{State}
-use Rattle.sqlite.specs.Held.{Held, state}
 use Rattle.review_statements.specs.Ran.{IsReady}
-use Rattle.review_transactions.specs.Numbers.{IsDesk}
-use Rattle.review_transactions.specs.declared.numbers.Numbers.{Numbers}
-use Rattle.review_sql.specs.declared.faults.DeskFault.{DeskFault}
-use Rattle.review_sql.specs.declared.faults.DeskFault.TheVariants.{NotADesk, WrongVersion, Store, NotEmpty, NotOurs, Memory}
+use Rattle.review_tables.specs.{Versions.schema_at, declared.versions.TablesVersion.TablesVersion}
+use Rattle.review_tables.specs.declared.versions.TablesVersion.TheVariants.{First, Second, Third}
+use Rattle.review_transactions.specs.{Numbers.IsDesk, declared.numbers.Numbers.Numbers}
+use Rattle.review_sql.proofs.Saying.{desk_says, never_earlier, never_no_desk, never_other_version, never_there_earlier}
+use Rattle.review_sql.proofs.Shown.{stays}
 use Rattle.review_sql.specs.Migrated.{IsNotMigrated, IsUnfit}
 use Rattle.review_sql.specs.Opened.{AreAllApart, AreApartIn, IsOpened, IsRefused}
 use Rattle.review_sql.specs.Reopened.{ReopensLast, IsRefusedAgain, IsReopened}
 use Rattle.review_sql.specs.Said.{IsNone, IsThere}
-use Rattle.review_sql.specs.Shelf.{Holds, ShelfView, Stays}
-use Rattle.review_tables.specs.Versions.{schema_at}
-use Rattle.review_tables.specs.declared.versions.TablesVersion.{TablesVersion}
-use Rattle.review_tables.specs.declared.versions.TablesVersion.TheVariants.{First, Second, Third}
-use Rattle.review_sql.proofs.Saying.{desk_says, never_earlier, never_no_desk, never_other_version, never_there_earlier}
-use Rattle.review_sql.proofs.Shown.{stays}
+use Rattle.review_sql.specs.{Shelf.Holds, Shelf.ShelfView, Shelf.Stays, declared.faults.DeskFault.DeskFault}
+use Rattle.review_sql.specs.declared.faults.DeskFault.TheVariants.{NotADesk, WrongVersion, Store, NotEmpty, NotOurs, Memory}
 
 -- the rows of each table of a desk have rowids of their own
 all_apart : (db : Database) → IsReady db → AreAllApart db.trees

@@ -1,29 +1,23 @@
 -- What the texts that read the tables `desk` and `epochs` show over any schema.
 use Rattle.std.proofs.Common.{◌≡◌, ◌∙◌, ◌⊎◌, inl, inr, ℕ, List, [], Option, Some, None, Ok, Err, Result, IfOk, IfErr, IsTrue, false, ◌+◌, refl, sym, ap, subst, subst₂}
 use Rattle.std.proofs.lemmas.Bool.{cases_Bool}
-use Rattle.sqlite_value.specs.Order.{Row}
-use Rattle.sqlite_ast.specs.declared.Statement.{Statement}
-use Rattle.sqlite_ast.specs.declared.Statement.TheVariants as written
-use Rattle.sqlite_ast.specs.declared.Select as written_select
-use Rattle.sqlite_syntax.specs.declared.statement.Parsed.{Parsed}
-use Rattle.sqlite_schema.specs.declared.schema.Schema.{Schema}
-use Rattle.sqlite_schema.specs.declared.command.Command.{Command}
-use Rattle.sqlite_schema.specs.declared.command.Returning.{Returning}
-use Rattle.sqlite_resolve.specs.declared.compiled.Compiled.{Compiled}
-use Rattle.sqlite_resolve.specs.Lowering.{Checked, and_then}
-use Rattle.sqlite_resolve.specs.declared.error.CompileError.TheVariants.{NoSuchTable}
-use Rattle.sqlite_resolve.specs.Compile.{compiled, first, planned, meaning, command, returning, timed, small, with_command}
-use Rattle.sqlite_tied.specs.Compute.{everything}
-use Rattle.sqlite.specs.Clock.{timed as in_time}
+use Rattle.sqlite.{proofs.StateLemmas.survives_weaker, specs.Clock.timed as in_time, specs.Effect.Reads}
 use Rattle.sqlite.specs.Listing.{understood, reads_listing, listing_schema, if_select, IsSourceOf}
 use Rattle.sqlite.specs.State.{State, Shown, HasCleanDisk, Survives, FailsToQuery, FailsToShow, IsNotRun, IsUnchanged, IsRolledBack, CommitsShowing}
-use Rattle.sqlite.specs.Effect.{Reads}
 use Rattle.sqlite.specs.declared.error.Error.{Error}
+use Rattle.sqlite_ast.specs.declared.Statement.{Statement}
+use Rattle.sqlite_resolve.specs.Compile.{compiled, first, planned, meaning, command, returning, timed, small, with_command}
+use Rattle.sqlite_resolve.specs.Lowering.{Checked, and_then}
+use Rattle.sqlite_resolve.specs.declared.{compiled.Compiled.Compiled, error.CompileError.TheVariants.NoSuchTable}
+use Rattle.sqlite_schema.specs.declared.{command.Command.Command, command.Returning.Returning, schema.Schema.Schema}
+use Rattle.sqlite_syntax.specs.declared.statement.Parsed.{Parsed}
+use Rattle.sqlite_tied.specs.Compute.{everything}
 use Rattle.sqlite_trees.specs.Tree.{Trees}
-use Rattle.sqlite.proofs.StateLemmas.{survives_weaker}
+use Rattle.sqlite_value.specs.Order.{Row}
 use Rattle.review_statements.specs.declared.texts.TheConstants.{FIND_DESK, FIND_EPOCHS}
-use Rattle.review_sql.specs.Said.{ShowsRows}
-use Rattle.review_sql.specs.Shelf.{Stays}
+use Rattle.review_sql.specs.{Said.ShowsRows, Shelf.Stays}
+use Rattle.sqlite_ast.specs.declared.Statement.TheVariants as written
+use Rattle.sqlite_ast.specs.declared.Select as written_select
 
 -- a text that was read as one query, which doesn't read the time
 abbrev IsQuery : Checked Parsed → Type 0

@@ -1,20 +1,14 @@
 -- Look-ups one after the other.
 use Rattle.std.proofs.Common.{◌≡◌, ℕ, ◌+◌, ◌<◌, List, take, get_or, length, Result, Ok, Err}
+use Rattle.sqlite.specs.{State.State, declared.error.Error.Error}
 use Rattle.sqlite_trees.specs.Tree.{Trees}
-use Rattle.sqlite.specs.State.{State}
-use Rattle.review_rows.specs.declared.rows.Rows.{Rows}
-use Rattle.review_rows.specs.declared.rows.Want.{Want}
-use Rattle.review_rows.specs.Known.{AreAsked, Agrees}
-use Rattle.review_rows.proofs.Looked.{asked_more, looked_agrees}
 use Rattle.review_statements.specs.Ran.{Looks}
 use Rattle.review_tables.proofs.Found.{look_on, look_both}
-use Rattle.sqlite.specs.declared.error.Error.{Error}
-use Rattle.review_database.specs.declared.sights.Sight.{Sight}
+use Rattle.review_rows.proofs.Looked.{asked_more, looked_agrees}
+use Rattle.review_rows.specs.{Known.AreAsked, Known.Agrees, declared.rows.Rows.Rows, declared.rows.Want.Want}
+use Rattle.review_database.specs.{Loads.HasLearnt, Loads.Sees, Tables.tables_at, declared.sights.Sight.Sight}
+use Rattle.review_lookups.specs.{Counts.AreBounded, Counts.SeesBounded, declared.counts.Counts.Counts}
 use Rattle.review_database.specs.declared.sights.Sight.TheVariants as sight
-use Rattle.review_database.specs.Loads.{HasLearnt, Sees}
-use Rattle.review_database.specs.Tables.{tables_at}
-use Rattle.review_lookups.specs.declared.counts.Counts.{Counts}
-use Rattle.review_lookups.specs.Counts.{AreBounded, SeesBounded}
 
 -- what rows know is so, and what is known of counts, where what was known is so
 abbrev pub Have : Rows → Counts → Counts → Trees → Unit {0} → Type 0

@@ -1,18 +1,13 @@
 -- What look-ups found, by how the last one ended.
 use Rattle.std.proofs.Common.{◌≡◌, List, Ok, Err, refl, sym, subst}
 use Rattle.std.specs.Prelude.{Result, IfOk}
-use Rattle.sqlite.specs.State.{State}
-use Rattle.sqlite.specs.declared.error.Error.{Error}
-use Rattle.review_rows.specs.Known.{AreAsked}
-use Rattle.review_rows.specs.declared.rows.Rows.{Rows}
-use Rattle.review_rows.specs.declared.rows.Want.{Want}
+use Rattle.sqlite.specs.{State.State, declared.error.Error.Error}
 use Rattle.review_statements.specs.Ran.{Serves}
-use Rattle.review_database.specs.Loads.{WereAsked}
-use Rattle.review_database.specs.declared.sights.Loaded.{Loaded}
-use Rattle.review_database.specs.declared.sights.Sight.{Sight}
-use Rattle.review_database.specs.declared.sights.Sight.TheVariants as sight
+use Rattle.review_rows.specs.{Known.AreAsked, declared.rows.Rows.Rows, declared.rows.Want.Want}
+use Rattle.review_database.specs.{Loads.WereAsked, declared.sights.Loaded.Loaded, declared.sights.Sight.Sight}
 use Rattle.review_lookups.specs.declared.counts.Counts.{Counts}
 use Rattle.review_sql.specs.Loading.{AreLoadedBounded, WereSeen, loaded_by}
+use Rattle.review_database.specs.declared.sights.Sight.TheVariants as sight
 
 on_loaded : (rows : Rows) (known more : Counts) (old new : State) (r : Result Sight Error) → Serves (WereSeen rows known more) old new r → Serves (AreLoadedBounded known more) old new (loaded_by rows r)
 on_loaded rows known more old new (Ok sight.Learnt) it = record { found = it.found; undone = it.undone; survives = it.survives }

@@ -1,25 +1,17 @@
 -- What a stop left of a desk of ours is opened as one.
 use Rattle.std.proofs.Common.{◌≡◌, ◌≢◌, ◌⊎◌, inl, inr, List, IsTrue, refl, sym, subst, arith}
+use Rattle.sqlite.specs.{Effect.Database, Effect.IsDatabase, State.State, State.IsLive}
 use Rattle.sqlite_trees.specs.declared.store.Store.{Ghosts}
-use Rattle.sqlite.specs.Effect.{Database, IsDatabase}
-use Rattle.sqlite.specs.State.{State, IsLive}
-use Rattle.review_words.specs.History.{Entry}
-use Rattle.review_rows.specs.View.{IsView}
-use Rattle.review_rows.specs.Answer.{IsHistory}
-use Rattle.review_rows.proofs.Readings.{reading_of}
-use Rattle.review_database.specs.Tables.{tables_at}
-use Rattle.review_statements.specs.Desk.{desk_schema, schema_0}
-use Rattle.review_statements.specs.Ran.{IsReady}
 use Rattle.review_statements.proofs.OneSchema.{one_schema}
+use Rattle.review_statements.specs.{Desk.desk_schema, Desk.schema_0, Ran.IsReady}
+use Rattle.review_words.specs.History.{Entry}
 use Rattle.review_tables.specs.Made.{IsBlank}
-use Rattle.review_sql.specs.Opened.{IsRefused}
-use Rattle.review_sql.specs.Migrated.{IsUnfit}
-use Rattle.review_sql.specs.Left.{MakesOurs, StopLeavesDesk}
-use Rattle.review_sql.specs.Shelf.{AreLeftOfOurs, AreOurs, no_tables}
-use Rattle.review_sql.specs.declared.faults.DeskFault.{DeskFault}
+use Rattle.review_rows.{proofs.Readings.reading_of, specs.Answer.IsHistory, specs.View.IsView}
+use Rattle.review_database.specs.Tables.{tables_at}
+use Rattle.review_sql.proofs.{Again.cause_left, Again.unfit_left, Shown.ready_ours}
+use Rattle.review_sql.specs.{Left.MakesOurs, Left.StopLeavesDesk, Migrated.IsUnfit, Opened.IsRefused}
+use Rattle.review_sql.specs.{Shelf.AreLeftOfOurs, Shelf.AreOurs, Shelf.no_tables, declared.faults.DeskFault.DeskFault}
 use Rattle.review_sql.specs.declared.faults.DeskFault.TheVariants.{NotADesk, WrongVersion, Store, NotEmpty, NotOurs, Memory}
-use Rattle.review_sql.proofs.Again.{cause_left, unfit_left}
-use Rattle.review_sql.proofs.Shown.{ready_ours}
 
 -- a database of trees of a desk of ours is a desk
 ready_again : (db : Database) → IsDatabase db → AreOurs db.trees → IsReady db

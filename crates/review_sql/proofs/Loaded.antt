@@ -1,24 +1,17 @@
 -- What is answered of what look-ups found.
 use Rattle.std.proofs.Common.{◌≡◌, Bool, List, Option, Ok, IfOk, IsTrue, subst, sym}
-use Rattle.sqlite.specs.State.{HasCleanDisk}
-use Rattle.review_rows.specs.Rows.{Tables}
-use Rattle.review_statements.specs.Ran.{Serves}
+use Rattle.sqlite.specs.{Effect.Database, Held.Held, Held.state, State.HasCleanDisk}
 use Rattle.sqlite_trees.specs.declared.store.Store.{Ghosts}
-use Rattle.sqlite.specs.Held.{Held, state}
-use Rattle.review_rows.specs.Known.{Agrees, AreAsked}
+use Rattle.review_statements.specs.Ran.{Serves}
+use Rattle.review_rows.specs.{Known.Agrees, Known.AreAsked, Rows.Tables}
 use Rattle.review_rows.specs.Shelf.{BlamesTables, IsDamaged, KeepsTables, Shows}
 use Rattle.review_rows.specs.declared.rows.Want.{Want}
-use Rattle.review_database.specs.declared.sights.Loaded.{Loaded}
-use Rattle.review_database.specs.declared.sights.Loaded.TheVariants as loaded
-use Rattle.review_database.specs.Loads.{AreLoaded, WereAsked}
+use Rattle.review_database.specs.{Loads.AreLoaded, Loads.WereAsked, Tables.tables_at, declared.sights.Loaded.Loaded}
+use Rattle.review_lookups.specs.{Counts.AreBounded, declared.counts.Counts.Counts}
 use Rattle.review_transactions.specs.declared.numbers.Numbers.{Numbers}
-use Rattle.sqlite.specs.Effect.{Database}
-use Rattle.review_database.specs.Tables.{tables_at}
-use Rattle.review_lookups.specs.declared.counts.Counts.{Counts}
-use Rattle.review_lookups.specs.Counts.{AreBounded}
-use Rattle.review_sql.specs.Loading.{AreLoadedBounded}
-use Rattle.review_sql.specs.Shelf.{Holds, KnowsCounts, answer_of, tables_of}
 use Rattle.review_sql.proofs.Shown.{desk_if_open, same_shown, shown_now}
+use Rattle.review_sql.specs.{Loading.AreLoadedBounded, Shelf.Holds, Shelf.KnowsCounts, Shelf.answer_of, Shelf.tables_of}
+use Rattle.review_database.specs.declared.sights.Loaded.TheVariants as loaded
 
 pub was_asked : (wants : List Want) (found : Loaded) → WereAsked wants found → IfOk (answer_of found) (AreAsked wants)
 was_asked wants (loaded.Rows rows) asked = asked

@@ -1,27 +1,18 @@
 -- A shelf that was made.
 use Rattle.std.proofs.Common.{◌≡◌, ◌∙◌, ◌⊎◌, inl, inr, Bool, Some, true, false, Ok, Err, IsTrue, refl, sym, ap, subst, arith}
-use Rattle.sqlite_trees.specs.declared.store.Store.{Ghosts}
-use Rattle.sqlite.specs.Effect.{Database}
-use Rattle.sqlite.specs.State.{State, HasCleanDisk}
-use Rattle.sqlite.specs.declared.error.Error.{Error}
-use Rattle.sqlite.specs.Held.{Held, state}
-use Rattle.sqlite.proofs.StateLemmas.{survives_then}
-use Rattle.review_statements.specs.Desk.{schema_0}
+use Rattle.sqlite.{proofs.StateLemmas.survives_then, specs.Effect.Database}
+use Rattle.sqlite.specs.{Held.Held, Held.state, State.State, State.HasCleanDisk, declared.error.Error.Error}
+use Rattle.sqlite_trees.specs.{Tree.Trees, declared.store.Store.Ghosts}
+use Rattle.review_statements.specs.{Desk.schema_0, Ran.Transacts, Ran.IsReady}
 use Rattle.review_tables.specs.Made.{IsBlank}
-use Rattle.review_statements.specs.Ran.{Transacts}
-use Rattle.review_transactions.specs.Numbers.{IsDesk}
-use Rattle.review_transactions.specs.First.{MakesDesk}
+use Rattle.review_database.specs.Tables.{tables_at}
+use Rattle.review_transactions.specs.{First.MakesDesk, Numbers.IsDesk}
+use Rattle.review_sql.proofs.{Saying.never_shown, Shown.of_ours, Shown.ready_ours}
+use Rattle.review_sql.specs.{Created.IsCreated, Opened.IsOpened, Opened.IsRefused, Opened.IsSeen}
 use Rattle.review_sql.specs.Shelf.{AreOurs, Holds, IsAnyThere, IsUnmade, Stays}
-use Rattle.review_sql.proofs.Shown.{of_ours, ready_ours}
-use Rattle.review_sql.specs.Created.{IsCreated}
-use Rattle.review_statements.specs.Ran.{IsReady}
-use Rattle.review_sql.specs.declared.seen.Seen.{Seen}
-use Rattle.review_sql.specs.Opened.{IsOpened, IsRefused, IsSeen}
 use Rattle.review_sql.specs.declared.faults.DeskFault.{DeskFault}
 use Rattle.review_sql.specs.declared.faults.DeskFault.TheVariants.{NotADesk, WrongVersion, Store, NotEmpty, NotOurs, Memory}
-use Rattle.review_sql.proofs.Saying.{never_shown}
-use Rattle.sqlite_trees.specs.Tree.{Trees}
-use Rattle.review_database.specs.Tables.{tables_at}
+use Rattle.review_sql.specs.declared.seen.Seen.{Seen}
 
 module _ {S : Type 0} (g : Ghosts S) (c0 c1 c2 : Held S) (is_ours : Bool) (decided : IsTrue is_ours → c1.schema ≡ schema_0) (x : Unit {0}) (acts : Transacts MakesDesk (state g c1) (state g c2) (Ok x)) where
   blank : c1.schema ≡ schema_0 → IsBlank schema_0 (state g c1).now

@@ -1,30 +1,22 @@
 -- A look at tables that is taken back.
-use Rattle.sqlite_value.specs.Order.{Row}
-use Rattle.sqlite.specs.Effect.{Database, IsDatabase}
 use Rattle.std.proofs.Common.{◌≡◌, ◌≢◌, ◌∙◌, ◌⊎◌, inl, inr, ℕ, List, Some, None, Bool, false, Ok, Err, Result, IfOk, IfErr, IsTrue, refl, sym, subst, arith, Option, IfSome}
-use Rattle.std.specs.Bool.{Decides}
-use Rattle.std.specs.List.{AllByRecursion}
-use Rattle.sqlite_trees.specs.Tree.{Trees}
+use Rattle.std.specs.{Bool.Decides, List.AllByRecursion}
+use Rattle.sqlite.{proofs.StateLemmas.survives_then, specs.Effect.Database, specs.Effect.IsDatabase}
 use Rattle.sqlite.specs.State.{State, HasCleanDisk, Survives, IsRolledBack}
 use Rattle.sqlite.specs.declared.error.Error.{Error}
-use Rattle.sqlite.proofs.StateLemmas.{survives_then}
-use Rattle.review_statements.specs.Ran.{Looks}
-use Rattle.review_tables.proofs.Sequences.{begun, taken_back, survives_from}
-use Rattle.review_statements.specs.Content.{AreApart}
-use Rattle.review_statements.specs.Desk.{desk_schema}
-use Rattle.review_transactions.specs.declared.numbers.Numbers.{Numbers}
-use Rattle.review_sql.specs.declared.seen.Said.{Said}
-use Rattle.review_sql.specs.declared.seen.Seen.{Seen}
-use Rattle.review_sql.specs.declared.faults.DeskFault.{DeskFault}
-use Rattle.review_sql.specs.declared.faults.DeskFault.TheVariants.{NotADesk, WrongVersion, NotEmpty, NotOurs}
-use Rattle.review_sql.specs.Shelf.{AreAllRead}
-use Rattle.review_tables.specs.declared.versions.TablesVersion.{TablesVersion}
-use Rattle.review_tables.specs.declared.versions.TablesVersion.TheVariants.{Third}
-use Rattle.review_sql.specs.Said.{IsSaid, IsDeskThere, IsNoDesk, IsNone, IsOtherVersion, IsThere, LacksLeast, SaysLeast, SaysOther, least_shown, ShowsEpochs}
+use Rattle.sqlite_trees.specs.Tree.{Trees}
+use Rattle.sqlite_value.specs.Order.{Row}
+use Rattle.review_statements.specs.{Content.AreApart, Desk.desk_schema, Ran.Looks}
+use Rattle.review_tables.proofs.{ByTree.at_tree, Sequences.begun, Sequences.taken_back, Sequences.survives_from}
 use Rattle.review_tables.specs.Versions.{version_number}
-use Rattle.review_tables.proofs.ByTree.{at_tree}
-use Rattle.review_sql.specs.Opened.{AreAllApart, Peeks, IsLacking, IsSeen, IsRefused}
+use Rattle.review_tables.specs.declared.versions.TablesVersion.{TablesVersion, TheVariants.Third}
+use Rattle.review_transactions.specs.declared.numbers.Numbers.{Numbers}
 use Rattle.review_sql.proofs.Saying.{desk_of_ours}
+use Rattle.review_sql.specs.Opened.{AreAllApart, Peeks, IsLacking, IsSeen, IsRefused}
+use Rattle.review_sql.specs.Said.{IsSaid, IsDeskThere, IsNoDesk, IsNone, IsOtherVersion, IsThere, LacksLeast, SaysLeast, SaysOther, least_shown, ShowsEpochs}
+use Rattle.review_sql.specs.{Shelf.AreAllRead, declared.faults.DeskFault.DeskFault}
+use Rattle.review_sql.specs.declared.faults.DeskFault.TheVariants.{NotADesk, WrongVersion, NotEmpty, NotOurs}
+use Rattle.review_sql.specs.declared.seen.{Said.Said, Seen.Seen}
 
 pub peeked : {X : Type 0} (Found : Trees → X → Type 0) (s0 s2 s3 : State) (settled : IsTrue s0.is_open → s0.now ≡ s0.committed) (open_clean : IsTrue s3.is_open → HasCleanDisk s3) (r : Result X Error)
     → Looks Found (begun s0) s2 r → (HasCleanDisk s3 → IsRolledBack s2 s3) → Survives s2 s3 (λ _. ⊥) → Peeks Found s0 s3 r

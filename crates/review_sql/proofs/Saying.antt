@@ -1,43 +1,30 @@
 -- What the tables `desk` and `epochs` say where the tables are of our form, and where there is none.
-use Rattle.review_tables.specs.declared.versions.EarlierVersion.TheVariants as earlier
-use Rattle.review_words.specs.Epochs.{is_epoch}
 use Rattle.std.proofs.Common.{◌≡◌, ◌≢◌, ◌∙◌, inl, inr, ℕ, List, [], ◌∷◌, map, filter, Option, Some, None, Ok, Err, true, false, codes, refl, sym, ap, subst, arith}
-use Rattle.std.specs.Result.{is_ok}
-use Rattle.std.specs.List.{AllByRecursion}
-use Rattle.std.specs.List.Sorted.{IsPermutation}
-use Rattle.std.proofs.lemmas.List.Sorted.{length_permutation}
-use Rattle.std.proofs.lemmas.List.Elements.{All-from_recursion}
-use Rattle.std.proofs.lemmas.Option.{same_Some}
-use Rattle.sqlite_value.specs.Order.{Row, column}
-use Rattle.sqlite_value.specs.declared.value.Value.TheVariants.{Null}
-use Rattle.sqlite_sql.specs.Term.{Term, col}
-use Rattle.sqlite_schema.specs.declared.schema.Schema.{Schema}
-use Rattle.sqlite_schema.specs.declared.command.Command.TheVariants.{Select}
-use Rattle.sqlite_resolve.specs.declared.compiled.Compiled.{Compiled}
-use Rattle.sqlite_resolve.specs.Lowering.{Checked}
-use Rattle.sqlite_tied.specs.Compute.{everything}
-use Rattle.sqlite_keyed.proofs.ListLemmas.{filter_same}
-use Rattle.sqlite.specs.Effect.{Database, Reads}
-use Rattle.sqlite.specs.Listing.{understood, listing_schema}
+use Rattle.std.proofs.lemmas.{List.Elements.All-from_recursion, List.Sorted.length_permutation, Option.same_Some}
+use Rattle.std.specs.{List.AllByRecursion, List.Sorted.IsPermutation, Result.is_ok}
 use Rattle.sqlite.proofs.Callers.{command_of, one_permutation}
+use Rattle.sqlite.specs.{Effect.Database, Effect.Reads, Listing.understood, Listing.listing_schema}
+use Rattle.sqlite_keyed.proofs.ListLemmas.{filter_same}
+use Rattle.sqlite_resolve.specs.{Lowering.Checked, declared.compiled.Compiled.Compiled}
+use Rattle.sqlite_schema.specs.declared.{command.Command.TheVariants.Select, schema.Schema.Schema}
+use Rattle.sqlite_sql.specs.Term.{Term, col}
+use Rattle.sqlite_tied.specs.Compute.{everything}
+use Rattle.sqlite_value.specs.{Order.Row, Order.column, declared.value.Value.TheVariants.Null}
+use Rattle.review_statements.proofs.{Meaning.plain, Queries.passes, Queries.selects, Queries.shows}
+use Rattle.review_statements.specs.{Content.has_key, Desk.desk_schema, Desk.schema_0}
+use Rattle.review_statements.specs.{Search.only, Search.reads, Search.row_at, Texts.over_table}
 use Rattle.review_statements.specs.declared.texts.TheConstants.{FIND_DESK, FIND_EPOCHS, READ_ROWS}
-use Rattle.review_statements.specs.Content.{has_key}
-use Rattle.review_statements.specs.Desk.{desk_schema, schema_0}
-use Rattle.review_statements.specs.Search.{only, reads, row_at}
-use Rattle.review_statements.specs.Texts.{over_table}
-use Rattle.review_statements.proofs.Meaning.{plain}
-use Rattle.review_statements.proofs.Queries.{passes, selects, shows}
-use Rattle.review_records.specs.declared.rows.DeskRow.{DeskRow}
-use Rattle.review_records.specs.Forms.{desk, desk_row, epochs, first_epoch, where_is}
+use Rattle.review_words.specs.Epochs.{is_epoch}
 use Rattle.review_tables.specs.Versions.{schema_at, version_number, version_of}
-use Rattle.review_tables.specs.declared.versions.EarlierVersion.{EarlierVersion}
-use Rattle.review_tables.specs.declared.versions.TablesVersion.{TablesVersion}
+use Rattle.review_tables.specs.declared.versions.{EarlierVersion.EarlierVersion, TablesVersion.TablesVersion}
 use Rattle.review_tables.specs.declared.versions.TablesVersion.TheVariants.{First, Second, Third}
+use Rattle.review_records.specs.Forms.{desk, desk_row, epochs, first_epoch, where_is}
+use Rattle.review_records.specs.declared.rows.DeskRow.{DeskRow}
 use Rattle.review_database.specs.EarlierTables.{IsEarlierDesk}
-use Rattle.review_transactions.specs.Numbers.{IsDesk}
-use Rattle.review_transactions.specs.declared.numbers.Numbers.{Numbers}
+use Rattle.review_transactions.specs.{Numbers.IsDesk, declared.numbers.Numbers.Numbers}
 use Rattle.review_sql.specs.Said.{number_of_one, version_shown, requests_shown, ShowsDesk, ShowsEpochs, ShowsRows, IsDeskThere, IsThere, IsNoDesk, IsNone, IsOtherVersion, LacksDesk, least_shown, SaysLeast}
 use Rattle.review_sql.specs.Shelf.{AreAllRead, IsUnderstood}
+use Rattle.review_tables.specs.declared.versions.EarlierVersion.TheVariants as earlier
 
 -- ---- the texts over our form
 

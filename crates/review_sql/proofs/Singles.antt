@@ -1,22 +1,16 @@
 -- The tables whose rows are counted have one row at each key, since their keys are UNIQUE.
 use Rattle.std.proofs.Common.{◌≡◌, ◌≤◌, ◌&&◌, true, sym, ℤ, ℕ, pos, List, [], ◌∷◌, length, refl, subst, inl, inr}
-use Rattle.std.proofs.lemmas.Bool.{and_parts, and_from}
-use Rattle.sqlite_value.specs.declared.value.Value.TheVariants.{Int, Text}
-use Rattle.sqlite_value.specs.Keys.{plain, first_key}
-use Rattle.sqlite_trees.specs.Tree.{Trees, rowid}
-use Rattle.sqlite_value.specs.Order.{column, value_cmp}
-use Rattle.sqlite_value.specs.declared.value.Value.{Value}
-use Rattle.std.specs.Ordering.{is_eq}
-use Rattle.sqlite_schema.specs.Rules.{agree, differ}
-use Rattle.sqlite_catalog.specs.Listing.{IsSound}
-use Rattle.sqlite_catalog.proofs.AlterLemmas.{keys_are_unique}
+use Rattle.std.{proofs.lemmas.Bool.and_parts, proofs.lemmas.Bool.and_from, specs.Ordering.is_eq}
 use Rattle.sqlite.specs.Effect.{Database}
+use Rattle.sqlite_catalog.{proofs.AlterLemmas.keys_are_unique, specs.Listing.IsSound}
+use Rattle.sqlite_schema.specs.Rules.{agree, differ}
+use Rattle.sqlite_trees.specs.Tree.{Trees, rowid}
+use Rattle.sqlite_value.specs.{Keys.plain, Keys.first_key, Order.column, Order.value_cmp}
+use Rattle.sqlite_value.specs.declared.value.Value.{Value, TheVariants.Int, TheVariants.Text}
 use Rattle.review_statements.specs.Content.{has_key, is_value, AreApart}
-use Rattle.review_tables.proofs.Keys.{int_is, itself}
 use Rattle.review_statements.specs.Desk.{desk_schema, projects_2 as project_table, bases as base_table}
-use Rattle.review_statements.specs.Ran.{IsReady}
-use Rattle.review_statements.specs.Search.{rows_at}
-use Rattle.review_tables.proofs.Single.{equal_values, differ_ids, one_passes}
+use Rattle.review_statements.specs.{Ran.IsReady, Search.rows_at}
+use Rattle.review_tables.proofs.{Keys.int_is, Keys.itself, Single.equal_values, Single.differ_ids, Single.one_passes}
 use Rattle.review_rows.specs.declared.rows.PlaceKey.{PlaceKey}
 use Rattle.review_records.specs.Forms.{projects, bases}
 use Rattle.review_transactions.specs.Commits.{AreSingle}

@@ -1,43 +1,35 @@
 -- Tables of an earlier version that became those of a desk show the same history.
 use Rattle.std.proofs.Common.{◌≡◌, ◌≢◌, ◌∙◌, ◌||◌, ℕ, List, [], ◌∷◌, Option, Some, None, option_map, Bool, cond, true, false, not, length, refl, sym, ap, subst, arith, inl, inr, eqb-true, ◌==◌}
-use Rattle.std.specs.Bool.{Decides}
-use Rattle.std.specs.List.{AllByRecursion, list_any}
 use Rattle.std.proofs.lemmas.Bool.{both_ways, or_parts, cases_Bool, eqb-false}
-use Rattle.sqlite_value.specs.Order.{Row as Raw}
-use Rattle.sqlite_value.specs.declared.value.Value.TheVariants.{Text}
-use Rattle.sqlite_trees.specs.Tree.{Trees}
+use Rattle.std.specs.{Bool.Decides, List.AllByRecursion, List.list_any}
 use Rattle.sqlite.specs.Effect.{Database}
-use Rattle.review_words.specs.History.{Entry, Identity}
-use Rattle.review_changes.specs.Parts.{Part}
-use Rattle.review_rows.specs.declared.rows.StoredFile.{StoredFile}
-use Rattle.review_rows.specs.Changes.{Reading, own_of}
-use Rattle.review_rows.specs.Rows.{Key, AccountKey, MemberKey, FileKey, BaseKey, PartKey, OddKey, Row, AccountRow, MemberRow, FileRow, BaseRow, OddRow, Count, Projects, BasesOf, ClosedEpochs}
-use Rattle.review_rows.specs.View.{IsViewBy, fact, counted, tables_version, kept_answer}
-use Rattle.review_statements.specs.Content.{AreApart, Then}
-use Rattle.review_statements.specs.Desk.{desk_schema, desk_tables, is_tree}
+use Rattle.sqlite_trees.specs.Tree.{Trees}
+use Rattle.sqlite_value.specs.{Order.Row as Raw, declared.value.Value.TheVariants.Text}
+use Rattle.review_statements.specs.{Content.AreApart, Content.Then, Desk.desk_schema, Desk.desk_tables, Desk.is_tree}
 use Rattle.review_statements.specs.Moved.{AreMoved, with_first_epoch, without_parent}
-use Rattle.review_statements.specs.Ran.{IsReady, OnDesk}
-use Rattle.review_statements.specs.Search.{only, reads, row_at, rows_at}
+use Rattle.review_statements.specs.{Ran.IsReady, Ran.OnDesk, Search.only, Search.reads, Search.row_at, Search.rows_at}
+use Rattle.review_words.specs.History.{Entry, Identity}
+use Rattle.review_tables.proofs.{ByTree.at_tree, Sequences.Next}
 use Rattle.review_tables.specs.Migrated.{AllMoved, Migrates}
 use Rattle.review_tables.specs.Versions.{is_new, schema_at, version_of}
 use Rattle.review_tables.specs.declared.versions.EarlierVersion.{EarlierVersion}
-use Rattle.review_tables.specs.declared.versions.EarlierVersion.TheVariants as earlier
-use Rattle.review_tables.proofs.ByTree.{at_tree}
-use Rattle.review_tables.proofs.Sequences.{Next}
-use Rattle.review_change_records.specs.Forms.{headers, patches, votes, roles, comments, calls}
-use Rattle.review_records.specs.Keyed.{answer_keyed, earlier_answer_keyed, project_keyed}
-use Rattle.review_records.specs.Forms.{accounts, members, projects, bases, answers, earlier_answers, epochs, request_key, earlier_key, first_epoch}
-use Rattle.review_records.specs.declared.rows.Answered.{Answered as Rest}
+use Rattle.review_changes.specs.Parts.{Part}
+use Rattle.review_rows.specs.Changes.{Reading, own_of}
+use Rattle.review_rows.specs.Rows.{Key, AccountKey, MemberKey, FileKey, BaseKey, PartKey, OddKey, Row, AccountRow, MemberRow, FileRow, BaseRow, OddRow, Count, Projects, BasesOf, ClosedEpochs}
+use Rattle.review_rows.specs.View.{IsViewBy, fact, counted, tables_version, kept_answer}
+use Rattle.review_rows.specs.declared.rows.StoredFile.{StoredFile}
 use Rattle.review_records.proofs.ReadAlike.{answer_moved, answers_keyed, file_moved, projects_counted, projects_keyed, answers_of_others}
+use Rattle.review_records.specs.Forms.{accounts, members, projects, bases, answers, earlier_answers, epochs, request_key, earlier_key, first_epoch}
+use Rattle.review_records.specs.Keyed.{answer_keyed, earlier_answer_keyed, project_keyed}
+use Rattle.review_records.specs.declared.rows.Answered.{Answered as Rest}
+use Rattle.review_change_records.specs.Forms.{headers, patches, votes, roles, comments, calls}
 use Rattle.review_database.specs.EarlierTables.{IsEarlierDesk, keyed_tables_in, projects_in, tables_in}
 use Rattle.review_database.specs.Tables.{answer_in, count_in, has_unkeyed, keyed_tables, number_of, row_in, stored_as, tables_at, told, least_in, version_in}
-use Rattle.review_transactions.specs.Numbers.{IsDesk}
-use Rattle.review_transactions.specs.declared.numbers.Numbers.{Numbers}
-use Rattle.review_transactions.specs.Changes.{SetsDesk, SetsLeast}
-use Rattle.review_sql.specs.Migrated.{KeepsRows, Upgrades}
-use Rattle.review_sql.specs.Opened.{AreAllApart}
-use Rattle.review_transactions.proofs.Edits.{part_same}
+use Rattle.review_transactions.{proofs.Edits.part_same, specs.Changes.SetsDesk, specs.Changes.SetsLeast}
+use Rattle.review_transactions.specs.{Numbers.IsDesk, declared.numbers.Numbers.Numbers}
 use Rattle.review_sql.proofs.Shown.{not_kept_odd}
+use Rattle.review_sql.specs.{Migrated.KeepsRows, Migrated.Upgrades, Opened.AreAllApart}
+use Rattle.review_tables.specs.declared.versions.EarlierVersion.TheVariants as earlier
 
 -- what tells no odd row reads as what is told
 pub told_file : (found : Option (Option StoredFile)) (file : Option StoredFile) → told FileRow found ≡ option_map FileRow file → found ≡ option_map Some file

@@ -1,18 +1,13 @@
 -- What a stop leaves of a desk of ours.
 use Rattle.std.specs.Prelude.{◌≡◌, [], List, true}
-use Rattle.sqlite_schema.specs.declared.schema.Schema.{Schema}
-use Rattle.sqlite_trees.specs.declared.store.Store.{Ghosts}
-use Rattle.sqlite_trees.specs.Tree.{Trees}
+use Rattle.sqlite.specs.{Effect.Database, Held.state}
 use Rattle.sqlite_catalog.specs.Listing.{IsSound}
-use Rattle.sqlite.specs.Effect.{Database}
-use Rattle.sqlite.specs.Held.{state}
-use Rattle.review_words.specs.History.{Entry}
-use Rattle.review_rows.specs.Answer.{IsHistory}
-use Rattle.review_rows.specs.Rows.{Tables}
-use Rattle.review_rows.specs.Shelf.{Shown}
-use Rattle.review_rows.specs.View.{IsView}
-use Rattle.review_database.specs.Tables.{tables_at}
+use Rattle.sqlite_schema.specs.declared.schema.Schema.{Schema}
+use Rattle.sqlite_trees.specs.{Tree.Trees, declared.store.Store.Ghosts}
 use Rattle.review_statements.specs.Desk.{schema_0}
+use Rattle.review_words.specs.History.{Entry}
+use Rattle.review_rows.specs.{Answer.IsHistory, Rows.Tables, Shelf.Shown, View.IsView}
+use Rattle.review_database.specs.Tables.{tables_at}
 use Rattle.review_transactions.specs.First.{MakesDesk}
 use Rattle.review_sql.specs.Shelf.{AreLeftOfOurs, AreOurs, ShelfView, shown}
 

@@ -2,17 +2,12 @@
 use Rattle.std.specs.Prelude.{Result, Ok, Err}
 use Rattle.sqlite.specs.declared.error.Error.{Error}
 use Rattle.sqlite_trees.specs.Tree.{Trees}
-use Rattle.review_rows.specs.Known.{Agrees}
-use Rattle.review_rows.specs.Shelf.{IsDamaged}
-use Rattle.review_rows.specs.declared.rows.Rows.{Rows}
-use Rattle.review_database.specs.declared.sights.Loaded.{Loaded}
+use Rattle.review_rows.specs.{Known.Agrees, Shelf.IsDamaged, declared.rows.Rows.Rows}
+use Rattle.review_database.specs.{Loads.AreLoaded, Tables.tables_at}
+use Rattle.review_database.specs.declared.sights.{Loaded.Loaded, Sight.Sight}
+use Rattle.review_lookups.specs.{Counts.AreBounded, declared.counts.Counts.Counts}
 use Rattle.review_database.specs.declared.sights.Loaded.TheVariants as loaded
-use Rattle.review_database.specs.declared.sights.Sight.{Sight}
 use Rattle.review_database.specs.declared.sights.Sight.TheVariants as sight
-use Rattle.review_database.specs.Loads.{AreLoaded}
-use Rattle.review_database.specs.Tables.{tables_at}
-use Rattle.review_lookups.specs.declared.counts.Counts.{Counts}
-use Rattle.review_lookups.specs.Counts.{AreBounded}
 
 -- what all found, by how the last one ended, and the rows that learnt it
 abbrev pub all_found : Rows → Sight → Loaded

@@ -1,35 +1,24 @@
 -- What `migrate` does.
-use Rattle.std.specs.Prelude.{◌≡◌, ◌≢◌, ◌⊎◌, [], ◌∷◌, List, Bool, true, false, Result, Ok, Err, IsTrue, IfOk}
 use Rattle.std.specs.List.{AllByRecursion}
-use Rattle.sqlite_trees.specs.declared.store.Store.{Ghosts}
-use Rattle.sqlite_trees.specs.Tree.{Trees}
-use Rattle.sqlite.specs.Effect.{Database}
-use Rattle.sqlite.specs.State.{State, HasCleanDisk, Survives}
-use Rattle.sqlite.specs.Held.{Held, state}
-use Rattle.sqlite.specs.declared.error.Error.{Error}
-use Rattle.sqlite.specs.declared.error.Error.TheVariants.{InvalidQuery}
-use Rattle.review_words.specs.History.{Entry}
-use Rattle.review_rows.specs.Rows.{Tables}
-use Rattle.review_rows.specs.Shelf.{StopLeavesOwnTables}
-use Rattle.review_rows.specs.View.{IsView, tables_version}
-use Rattle.review_statements.specs.Desk as table
+use Rattle.std.specs.Prelude.{◌≡◌, ◌≢◌, ◌⊎◌, [], ◌∷◌, List, Bool, true, false, Result, Ok, Err, IsTrue, IfOk}
+use Rattle.sqlite.specs.{Effect.Database, Held.Held, Held.state, State.State, State.HasCleanDisk, State.Survives}
+use Rattle.sqlite.specs.declared.error.Error.{Error, TheVariants.InvalidQuery}
+use Rattle.sqlite_trees.specs.{Tree.Trees, declared.store.Store.Ghosts}
 use Rattle.review_statements.specs.Ran.{IsReady, Transacts}
+use Rattle.review_words.specs.History.{Entry}
 use Rattle.review_tables.specs.Migrated.{AllMoved}
 use Rattle.review_tables.specs.Versions.{is_new, schema_at, version_number, version_of}
-use Rattle.review_tables.specs.declared.versions.EarlierVersion.{EarlierVersion}
-use Rattle.review_tables.specs.declared.versions.TablesVersion.{TablesVersion}
+use Rattle.review_tables.specs.declared.versions.{EarlierVersion.EarlierVersion, TablesVersion.TablesVersion}
 use Rattle.review_tables.specs.declared.versions.TablesVersion.TheVariants.{First, Second, Third}
+use Rattle.review_rows.specs.{Rows.Tables, Shelf.StopLeavesOwnTables, View.IsView, View.tables_version}
 use Rattle.review_records.specs.Forms.{first_epoch}
-use Rattle.review_database.specs.EarlierTables.{tables_in, IsEarlierDesk}
-use Rattle.review_database.specs.Tables.{tables_at}
-use Rattle.review_transactions.specs.Numbers.{IsDesk}
-use Rattle.review_transactions.specs.declared.numbers.Numbers.{Numbers}
-use Rattle.review_sql.specs.declared.faults.DeskFault.{DeskFault}
-use Rattle.review_sql.specs.declared.faults.DeskFault.TheVariants.{NotADesk, WrongVersion, NotEmpty, NotOurs}
+use Rattle.review_database.specs.{EarlierTables.tables_in, EarlierTables.IsEarlierDesk, Tables.tables_at}
+use Rattle.review_transactions.specs.{Numbers.IsDesk, declared.numbers.Numbers.Numbers}
 use Rattle.review_sql.specs.Opened.{AreApartIn, IsOpened, IsSeen}
-use Rattle.review_sql.specs.Reopened.{ReopensLast}
-use Rattle.review_sql.specs.Said.{IsNone, IsThere, SaysOther}
-use Rattle.review_sql.specs.Shelf.{ShelfView, Stays, shown}
+use Rattle.review_sql.specs.{Reopened.ReopensLast, Said.IsNone, Said.IsThere, Said.SaysOther}
+use Rattle.review_sql.specs.{Shelf.ShelfView, Shelf.Stays, Shelf.shown, declared.faults.DeskFault.DeskFault}
+use Rattle.review_sql.specs.declared.faults.DeskFault.TheVariants.{NotADesk, WrongVersion, NotEmpty, NotOurs}
+use Rattle.review_statements.specs.Desk as table
 
 -- The tables of a history as an earlier version keeps them: but for the version, they have just what the history says. They tell of no other epoch than 0, and that none is closed,
 -- so they can be so only for a history in which each request is of epoch 0. Tables of version 1, which tell of no parents, can be so for a history whose entries are all of

@@ -1,24 +1,16 @@
 -- What is seen of tables before a desk is opened, what opening gives, and why it is refused.
-use Rattle.std.specs.Prelude.{◌≡◌, ◌≢◌, ◌⊎◌, true, Result, IsTrue, IfOk}
 use Rattle.std.specs.List.{AllByRecursion}
-use Rattle.sqlite_trees.specs.Tree.{Trees}
-use Rattle.sqlite_trees.specs.declared.store.Store.{Ghosts}
-use Rattle.sqlite.specs.State.{State, HasCleanDisk}
-use Rattle.sqlite.specs.Held.{Held, state}
-use Rattle.sqlite.specs.declared.error.Error.{Error}
-use Rattle.review_statements.specs.Content.{AreApart}
-use Rattle.review_statements.specs.Desk.{desk_schema}
-use Rattle.review_statements.specs.Ran.{IsDeskIfOpen, IsReady}
+use Rattle.std.specs.Prelude.{◌≡◌, ◌≢◌, ◌⊎◌, true, Result, IsTrue, IfOk}
+use Rattle.sqlite.specs.{Held.Held, Held.state, State.State, State.HasCleanDisk, declared.error.Error.Error}
+use Rattle.sqlite_trees.specs.{Tree.Trees, declared.store.Store.Ghosts}
+use Rattle.review_statements.specs.{Content.AreApart, Desk.desk_schema, Ran.IsDeskIfOpen, Ran.IsReady}
 use Rattle.review_tables.specs.Versions.{schema_at}
-use Rattle.review_tables.specs.declared.versions.TablesVersion.{TablesVersion}
-use Rattle.review_tables.specs.declared.versions.TablesVersion.TheVariants.{Third}
-use Rattle.review_sql.specs.declared.seen.Seen.{Seen}
-use Rattle.review_sql.specs.declared.faults.DeskFault.{DeskFault}
-use Rattle.review_sql.specs.declared.faults.DeskFault.TheVariants.{NotADesk, WrongVersion, NotEmpty, NotOurs, Memory, Store}
-use Rattle.review_transactions.specs.Numbers.{IsDesk}
-use Rattle.review_transactions.specs.declared.numbers.Numbers.{Numbers}
+use Rattle.review_tables.specs.declared.versions.TablesVersion.{TablesVersion, TheVariants.Third}
+use Rattle.review_transactions.specs.{Numbers.IsDesk, declared.numbers.Numbers.Numbers}
 use Rattle.review_sql.specs.Said.{IsDeskThere, IsNoDesk, IsNone, IsOtherVersion}
-use Rattle.review_sql.specs.Shelf.{ShelfView, Stays}
+use Rattle.review_sql.specs.{Shelf.ShelfView, Shelf.Stays, declared.faults.DeskFault.DeskFault}
+use Rattle.review_sql.specs.declared.faults.DeskFault.TheVariants.{NotADesk, WrongVersion, NotEmpty, NotOurs, Memory, Store}
+use Rattle.review_sql.specs.declared.seen.Seen.{Seen}
 
 -- the rows of each table of a version have rowids of their own
 abbrev pub AreApartIn : TablesVersion → Trees → Type 0

@@ -1,12 +1,10 @@
 -- What a shelf is whose connection was left by one that was closed.
 use Rattle.std.specs.Prelude.{◌≡◌, ◌⊎◌, Bool, IsTrue}
+use Rattle.sqlite.specs.{Held.Held, Held.state, State.HasCleanDisk}
 use Rattle.sqlite_trees.specs.declared.store.Store.{Ghosts}
-use Rattle.sqlite.specs.State.{HasCleanDisk}
-use Rattle.sqlite.specs.Held.{Held, state}
 use Rattle.review_rows.specs.Shelf.{AddsNoStop, StaysOrShuts}
-use Rattle.review_sql.specs.declared.faults.DeskFault.{DeskFault}
-use Rattle.review_sql.specs.declared.faults.DeskFault.TheVariants.{Memory, Store}
 use Rattle.review_sql.specs.Shelf.{IsHandedBack, ShelfView, shown, tables_of}
+use Rattle.review_sql.specs.declared.faults.DeskFault.{DeskFault, TheVariants.Memory, TheVariants.Store}
 
 -- The tables stay, or the store is shut; it is honest only where the shelf before it was; and, while the disk is clean, a stop leaves nothing new.
 pub record IsReopened {S : Type 0} (g : Ghosts S) (is_ours : Bool) (old new : ShelfView S) : Type 0 where

@@ -1,20 +1,17 @@
 -- What the tables `desk` and `epochs` say, whatever the form of the tables.
-use Rattle.std.specs.Prelude.{ℕ, ◌≡◌, ◌≢◌, ◌⊎◌, List, [], ◌∷◌, Option, Some, None, Ok}
 use Rattle.std.specs.List.{AllByRecursion}
-use Rattle.sqlite_value.specs.Order.{Row, column}
+use Rattle.std.specs.Prelude.{ℕ, ◌≡◌, ◌≢◌, ◌⊎◌, List, [], ◌∷◌, Option, Some, None, Ok}
+use Rattle.sqlite.specs.{Effect.Database, Effect.Reads, Listing.understood}
 use Rattle.sqlite_resolve.specs.declared.compiled.Compiled.{Compiled}
-use Rattle.sqlite.specs.Effect.{Database, Reads}
-use Rattle.sqlite.specs.Listing.{understood}
+use Rattle.sqlite_value.specs.Order.{Row, column}
 use Rattle.review_statements.specs.declared.texts.TheConstants.{FIND_DESK, FIND_EPOCHS}
-use Rattle.review_tables.specs.Columns.{number_in}
-use Rattle.review_tables.specs.Versions.{version_number}
+use Rattle.review_words.specs.Epochs.{is_epoch}
+use Rattle.review_tables.specs.{Columns.number_in, Versions.version_number}
 use Rattle.review_tables.specs.declared.versions.TablesVersion.{TablesVersion}
 use Rattle.review_tables.specs.declared.versions.TablesVersion.TheVariants.{First, Second, Third}
-use Rattle.review_words.specs.Epochs.{is_epoch}
 use Rattle.review_records.specs.Forms.{first_epoch, where_is}
 use Rattle.review_transactions.specs.declared.numbers.Numbers.{Numbers}
-use Rattle.review_sql.specs.declared.seen.Said.{Said}
-use Rattle.review_sql.specs.Shelf.{AreAllRead, IsUnderstood}
+use Rattle.review_sql.specs.{Shelf.AreAllRead, Shelf.IsUnderstood, declared.seen.Said.Said}
 
 -- the query that a text is understood as shows these rows
 pub record ShowsRows (db : Database) (sql : List ℕ) (rows : List Row) : Type 0 where

@@ -1,35 +1,22 @@
 -- What proofs see of a shelf in SQLite.
-use Rattle.std.specs.Prelude.{ℕ, ◌≡◌, ◌≤◌, ◌⊎◌, map, false, Bool, List, Option, Some, None, Result, Ok, Err, IsTrue, if◌then◌else◌, refl, min}
 use Rattle.std.proofs.Math.Nat.{min-le_right}
-use Rattle.std.specs.List.{Contains}
-use Rattle.review_statements.specs.declared.texts.TheConstants.{ANY_ROW, READ_ROWS, READ_ROWS_1, READ_ROWS_2}
-use Rattle.std.specs.Coded.{Coded, code_by, coded×, coded_ℕ}
-use Rattle.sqlite_trees.specs.declared.store.Store.{Ghosts}
-use Rattle.sqlite_trees.specs.Tree.{Trees}
-use Rattle.sqlite_schema.specs.declared.schema.Schema.{Schema}
-use Rattle.sqlite_resolve.specs.declared.compiled.Compiled.{Compiled}
-use Rattle.sqlite.specs.Effect.{Database}
-use Rattle.sqlite.specs.Listing.{understood}
+use Rattle.std.specs.{Coded.Coded, Coded.code_by, Coded.coded×, Coded.coded_ℕ, List.Contains}
+use Rattle.std.specs.Prelude.{ℕ, ◌≡◌, ◌≤◌, ◌⊎◌, map, false, Bool, List, Option, Some, None, Result, Ok, Err, IsTrue, if◌then◌else◌, refl, min}
+use Rattle.sqlite.specs.{Effect.Database, Held.Held, Held.held_code, Held.state, Listing.understood}
 use Rattle.sqlite.specs.State.{State, HasCleanDisk, Survives}
-use Rattle.sqlite.specs.Held.{Held, held_code, state}
-use Rattle.review_rows.specs.Count.{greatest_count}
-use Rattle.review_rows.specs.Rows.{Tables}
-use Rattle.review_rows.specs.Shelf.{Shown}
-use Rattle.review_rows.specs.declared.rows.Rows.{Rows}
-use Rattle.review_rows.specs.declared.shelf.ShelfFault.{ShelfFault}
-use Rattle.review_rows.specs.declared.shelf.ShelfFault.TheVariants.{Memory, Damaged}
-use Rattle.review_database.specs.declared.sights.Loaded.{Loaded}
-use Rattle.review_database.specs.declared.sights.Loaded.TheVariants as loaded
-use Rattle.review_statements.specs.Desk.{desk_schema}
-use Rattle.review_statements.specs.Ran.{IsReady}
+use Rattle.sqlite_resolve.specs.declared.compiled.Compiled.{Compiled}
+use Rattle.sqlite_schema.specs.declared.schema.Schema.{Schema}
+use Rattle.sqlite_trees.specs.{Tree.Trees, declared.store.Store.Ghosts}
+use Rattle.review_statements.specs.{Desk.desk_schema, Ran.IsReady}
+use Rattle.review_statements.specs.declared.texts.TheConstants.{ANY_ROW, READ_ROWS, READ_ROWS_1, READ_ROWS_2}
 use Rattle.review_tables.specs.declared.versions.TablesVersion.{TablesVersion}
 use Rattle.review_tables.specs.declared.versions.TablesVersion.TheVariants.{First, Second, Third}
-use Rattle.review_transactions.specs.First.{MakesDesk}
-use Rattle.review_database.specs.Tables.{tables_at}
-use Rattle.review_lookups.specs.declared.counts.Counts.{Counts}
-use Rattle.review_lookups.specs.Counts.{AreBounded}
-use Rattle.review_transactions.specs.Numbers.{IsDesk}
-use Rattle.review_transactions.specs.declared.numbers.Numbers.{Numbers}
+use Rattle.review_rows.specs.{Count.greatest_count, Rows.Tables, Shelf.Shown, declared.rows.Rows.Rows}
+use Rattle.review_rows.specs.declared.shelf.ShelfFault.{ShelfFault, TheVariants.Memory, TheVariants.Damaged}
+use Rattle.review_database.specs.{Tables.tables_at, declared.sights.Loaded.Loaded}
+use Rattle.review_lookups.specs.{Counts.AreBounded, declared.counts.Counts.Counts}
+use Rattle.review_transactions.specs.{First.MakesDesk, Numbers.IsDesk, declared.numbers.Numbers.Numbers}
+use Rattle.review_database.specs.declared.sights.Loaded.TheVariants as loaded
 
 -- the connection, what the desk says of itself, and how many calls were refused
 pub record ShelfView (S : Type 0) : Type 0 where

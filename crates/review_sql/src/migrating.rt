@@ -1,15 +1,11 @@
 //! Tables of an earlier version become those of a desk, in one transaction.
 ghost use Rattle.std.specs.Prelude.{◌≡◌, ◌≢◌, ◌⊎◌, true, false, IsTrue, IfOk, IfErr};
-ghost use Rattle.sqlite.specs.Held.{state};
-ghost use Rattle.sqlite.specs.State.{HasCleanDisk};
-ghost use Rattle.review_statements.specs.Content.{Then};
-ghost use Rattle.review_statements.specs.Ran.{Inside, Within, Opens, Transacts};
+ghost use Rattle.sqlite.specs.{Held.state, State.HasCleanDisk};
+ghost use Rattle.review_statements.specs.{Content.Then, Ran.Inside, Ran.Within, Ran.Opens, Ran.Transacts};
 ghost use Rattle.review_tables.specs.Versions.{schema_at, version_of};
 ghost use Rattle.review_transactions.specs.Changes.{SetsDesk, SetsLeast};
 ghost use Rattle.review_sql.specs.Migrated.{IsBrought, IsHindered, IsKept, IsNotMigrated, IsRaised, IsUnfit, Upgrades, if_whole};
-ghost use Rattle.review_sql.specs.Opened.{AreApartIn, TellsShut};
-ghost use Rattle.review_sql.specs.Said.{SaysVersion};
-ghost use Rattle.review_sql.specs.Shelf.{Stays};
+ghost use Rattle.review_sql.specs.{Opened.AreApartIn, Opened.TellsShut, Said.SaysVersion, Shelf.Stays};
 
 use crate::faults::DeskFault;
 use crate::opening::{ask, see_desk, see_tables, version_of};

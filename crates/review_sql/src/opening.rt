@@ -1,12 +1,11 @@
 //! What is seen of tables before a desk is opened: first what the table `desk` says, then the other tables, and last the rowids of tables of our form.
-ghost use Rattle.std.specs.Prelude.{◌≡◌, ◌≢◌, ◌⊎◌, ℕ, Some, None, true, false, IsTrue, IfOk, IfErr, IfSome};
 ghost use Rattle.std.specs.Bool.{Decides};
-ghost use Rattle.sqlite.specs.Held.{state};
-ghost use Rattle.sqlite.specs.State.{HasCleanDisk, IsLive};
-ghost use Rattle.review_sql.specs.Shelf.{AreAllRead, Stays};
-ghost use Rattle.review_sql.specs.Said.{LacksLeast, least_shown, SaysLeast, ShowsDesk, ShowsEpochs, number_of_one, version_shown, requests_shown, IsSaid, IsThere, SaysVersion};
-ghost use Rattle.review_sql.specs.Opened.{AreAllApart, Peeks, IsLacking, IsSeen, IsRefused, TellsShut};
+ghost use Rattle.std.specs.Prelude.{◌≡◌, ◌≢◌, ◌⊎◌, ℕ, Some, None, true, false, IsTrue, IfOk, IfErr, IfSome};
+ghost use Rattle.sqlite.specs.{Held.state, State.HasCleanDisk, State.IsLive};
 ghost use Rattle.review_tables.specs.Versions.{schema_at, version_number};
+ghost use Rattle.review_sql.specs.Opened.{AreAllApart, Peeks, IsLacking, IsSeen, IsRefused, TellsShut};
+ghost use Rattle.review_sql.specs.Said.{LacksLeast, least_shown, SaysLeast, ShowsDesk, ShowsEpochs, number_of_one, version_shown, requests_shown, IsSaid, IsThere, SaysVersion};
+ghost use Rattle.review_sql.specs.Shelf.{AreAllRead, Stays};
 
 use crate::faults::DeskFault;
 use crate::seen::{Said, Seen};

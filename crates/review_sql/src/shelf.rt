@@ -1,13 +1,11 @@
 //! A shelf in SQLite.
-ghost use Rattle.std.specs.Prelude.{ℕ, ◌≡◌, ◌≢◌, ◌≤◌, ◌⊎◌, Some, None, true, false, IfOk, IfErr, IsTrue, min};
 ghost use Rattle.std.specs.Bool.{Decides};
-ghost use Rattle.sqlite.specs.Held.{state};
-ghost use Rattle.sqlite.specs.State.{HasCleanDisk};
+ghost use Rattle.std.specs.Prelude.{ℕ, ◌≡◌, ◌≢◌, ◌≤◌, ◌⊎◌, Some, None, true, false, IfOk, IfErr, IsTrue, min};
+ghost use Rattle.sqlite.specs.{Held.state, State.HasCleanDisk};
+ghost use Rattle.review_statements.specs.Desk.{schema_0};
 ghost use Rattle.review_rows.specs.Rows.{ClosedEpochs, Tables, kept_row};
 ghost use Rattle.review_rows.specs.Shelf.{CountsFaults, IsCounted, IsRecalled, greatest_count};
-ghost use Rattle.review_statements.specs.Desk.{schema_0};
-ghost use Rattle.review_sql.specs.LookedUp.{IsLookedUpIn};
-ghost use Rattle.review_sql.specs.Shelf.{Stays, answer_of};
+ghost use Rattle.review_sql.specs.{LookedUp.IsLookedUpIn, Shelf.Stays, Shelf.answer_of};
 
 use crate::faults::DeskFault;
 use crate::loading::load;
@@ -110,12 +108,11 @@ fn may_be_made<O: Origin>(is_blank: bool) -> bool
 }
 
 impl<S: Alter + Drop, O: Origin> SqlShelf<S, O> {
-    ghost use Rattle.review_sql.specs.Shelf.{AreLeftOfOurs, IsAnyThere, IsHandedBack, IsUnmade};
-    ghost use Rattle.review_sql.specs.Said.{IsDeskThere};
     ghost use Rattle.review_sql.specs.Created.{IsCreated};
-    ghost use Rattle.review_sql.specs.Opened.{IsOpened, IsRefused, TellsShut};
-    ghost use Rattle.review_sql.specs.Reopened.{ReopensLast, IsRefusedAgain};
     ghost use Rattle.review_sql.specs.Migrated.{IsNotMigrated, IsOpenedAsIs, IsUnfit, IsUpgraded};
+    ghost use Rattle.review_sql.specs.Opened.{IsOpened, IsRefused, TellsShut};
+    ghost use Rattle.review_sql.specs.{Reopened.ReopensLast, Reopened.IsRefusedAgain, Said.IsDeskThere};
+    ghost use Rattle.review_sql.specs.Shelf.{AreLeftOfOurs, IsAnyThere, IsHandedBack, IsUnmade};
 
     /// Makes an empty desk, in one transaction: over a store with no table as ours. A refusal hands the connection back with its tables as
     /// they were: NotEmpty where a table of one of the names that tables of a desk have in any version is there, and NotOurs where the shelf is to be ours and other tables

@@ -1,8 +1,7 @@
 //! Whether a text is understood by the tables of a connection.
 ghost use Rattle.std.specs.Prelude.{◌≡◌, ◌≢◌, ◌<◌, ℕ, List, length, true, false, map, slice_index_or, IsTrue, IfOk};
+ghost use Rattle.sqlite.specs.{Held.state, State.HasCleanDisk};
 ghost use Rattle.review_statements.specs.declared.texts.TheConstants.{ANY_ROW};
-ghost use Rattle.sqlite.specs.Held.{state};
-ghost use Rattle.sqlite.specs.State.{HasCleanDisk};
 ghost use Rattle.review_sql.specs.Shelf.{Stays, IsUnderstood, IsAnyThere, AreAllRead, rows_read};
 
 use review_statements::texts;

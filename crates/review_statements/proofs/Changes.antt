@@ -1,28 +1,17 @@
 -- What the texts of changes do.
-use Rattle.std.proofs.Common.{◌≡◌, ◌∙◌, ◌/◌, ℕ, suc, zero, ℤ, List, [], ◌∷◌, Some, Ok, Bool, ◌||◌, true, false, refl, sym, ap, subst, length, slice_get, eqb}
-use Rattle.std.specs.List.{AllByRecursion, list_any}
-use Rattle.std.proofs.lemmas.Bool.Decides.{Decides-eqb}
-use Rattle.sqlite_value.specs.Order.{Row}
-use Rattle.sqlite_schema.specs.declared.schema.Table.{Table}
-use Rattle.sqlite_schema.specs.declared.command.Command.TheVariants.{Delete}
-use Rattle.sqlite_rules.specs.declared.error.Rowids.TheVariants.{Chosen}
-use Rattle.sqlite_rules.specs.Edit.{edit_of}
-use Rattle.sqlite.specs.Effect.{value_rows}
-use Rattle.sqlite.specs.Listing.{understood}
-use Rattle.sqlite.specs.State.{State, Executes}
+use Rattle.std.proofs.Common.{◌≡◌, ◌∙◌, ◌/◌, ℕ, suc, zero, ℤ, List, [], ◌∷◌, Some, Ok, Bool, ◌||◌, true, false, refl, sym, ap, subst, length, slice_get, eqb, filter, not, pos, ◌&&◌}
+use Rattle.std.{proofs.lemmas.Bool.Decides.Decides-eqb, specs.List.AllByRecursion, specs.List.list_any}
 use Rattle.sqlite.proofs.Callers.{command_of}
-use Rattle.review_statements.specs.Desk.{simple, desk_schema}
-use Rattle.review_statements.specs.Content.{Adds, Removes, RemovesWhere, SparesOthers, has_key, is_number_below, is_natural, is_text}
-use Rattle.review_statements.specs.Ran.{IsReady}
-use Rattle.review_statements.specs.Search.{At}
-use Rattle.review_statements.specs.Texts.{Alters, Deletes, DeletesBelow, Inserts, over_table, tests_below, tests_from, values_of, new_terms}
-use Rattle.review_statements.proofs.Statements.{inserts, deletes}
-use Rattle.review_statements.proofs.Meaning.{tested, tested_below, plain}
-use Rattle.review_statements.proofs.Queries.{passes}
+use Rattle.sqlite.specs.{Effect.value_rows, Listing.understood, State.State, State.Executes}
+use Rattle.sqlite_rules.specs.{Edit.edit_of, declared.error.Rowids.TheVariants.Chosen}
+use Rattle.sqlite_schema.specs.declared.{command.Command.TheVariants.Delete, schema.Table.Table}
 use Rattle.sqlite_sql.specs.Term.{Term, col}
-use Rattle.sqlite_value.specs.declared.value.Value.TheVariants.{Int}
-use Rattle.sqlite_value.specs.Order.{column}
-use Rattle.std.proofs.Common.{filter, not, pos, ◌&&◌}
+use Rattle.sqlite_value.specs.{Order.Row, Order.column, declared.value.Value.TheVariants.Int}
+use Rattle.review_statements.proofs.Meaning.{tested, tested_below, plain}
+use Rattle.review_statements.proofs.{Queries.passes, Statements.inserts, Statements.deletes}
+use Rattle.review_statements.specs.Content.{Adds, Removes, RemovesWhere, SparesOthers, has_key, is_number_below, is_natural, is_text}
+use Rattle.review_statements.specs.{Desk.simple, Desk.desk_schema, Ran.IsReady, Search.At}
+use Rattle.review_statements.specs.Texts.{Alters, Deletes, DeletesBelow, Inserts, over_table, tests_below, tests_from, values_of, new_terms}
 
 -- ---- the tables of a desk
 

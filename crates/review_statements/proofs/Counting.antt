@@ -1,27 +1,16 @@
 -- What a query shows that counts the rows of a key.
 use Rattle.std.proofs.Common.{◌≡◌, ◌∙◌, ℕ, false, List, [], ◌∷◌, Some, refl, sym, ap, subst, map, filter, length}
-use Rattle.std.proofs.lemmas.List.{length-map}
-use Rattle.std.specs.List.{AllZip}
-use Rattle.std.proofs.lemmas.List.Sorted.{length_permutation}
-use Rattle.sqlite_value.specs.declared.value.Value.TheVariants.{Null}
-use Rattle.sqlite_value.specs.Order.{Row}
-use Rattle.sqlite_sql.specs.Aggregate.{count}
-use Rattle.sqlite_sql.specs.Group.{Grouping, IsSummary, value_over}
-use Rattle.sqlite_sql.specs.Query.{Query, Output, output}
-use Rattle.sqlite_sql.specs.Term.{Env, lit}
-use Rattle.sqlite_sql.specs.declared.aggregate.AggregateOp.TheVariants.{CountRows}
-use Rattle.sqlite_value.specs.declared.keys.Collation.TheVariants.{Binary}
-use Rattle.sqlite_sql.specs.Program.{overlay}
+use Rattle.std.{proofs.lemmas.List.length-map, proofs.lemmas.List.Sorted.length_permutation, specs.List.AllZip}
+use Rattle.sqlite.{proofs.Callers.reads_as, proofs.Callers.one_permutation, specs.State.State, specs.State.Shown}
 use Rattle.sqlite_keyed.proofs.ListLemmas.{filter_same}
-use Rattle.sqlite.specs.State.{State, Shown}
-use Rattle.sqlite.proofs.Callers.{reads_as, one_permutation}
-use Rattle.review_statements.specs.Desk.{desk_schema}
-use Rattle.review_statements.specs.Content.{has_key}
-use Rattle.review_statements.specs.Greatest.{ShowsCount}
+use Rattle.sqlite_sql.specs.{Aggregate.count, Group.Grouping, Group.IsSummary, Group.value_over, Program.overlay}
+use Rattle.sqlite_sql.specs.Query.{Query, Output, output}
+use Rattle.sqlite_sql.specs.{Term.Env, Term.lit, declared.aggregate.AggregateOp.TheVariants.CountRows}
+use Rattle.sqlite_value.specs.Order.{Row}
+use Rattle.sqlite_value.specs.declared.{keys.Collation.TheVariants.Binary, value.Value.TheVariants.Null}
+use Rattle.review_statements.proofs.{Meaning.tested, Meaning.plain, Queries.passes, Queries.staged_is}
+use Rattle.review_statements.specs.{Content.has_key, Desk.desk_schema, Greatest.ShowsCount, Search.At}
 use Rattle.review_statements.specs.Texts.{Asks, values_of, tests_from, count_where}
-use Rattle.review_statements.specs.Search.{At}
-use Rattle.review_statements.proofs.Queries.{passes, staged_is}
-use Rattle.review_statements.proofs.Meaning.{tested, plain}
 
 -- how all rows are grouped
 abbrev all_rows : Grouping

@@ -1,30 +1,23 @@
 -- What a query shows that is cut: the row with the greatest value of a column.
 use Rattle.std.proofs.Common.{◌≡◌, ◌∙◌, ◌==◌, ℕ, suc, pos, List, [], ◌∷◌, false, Ordering, Less, Equal, Greater, refl, sym, ap, subst, subst₂, arith, map, filter, length, take, drop, nat_le, nat_lt, is_gt, is_lt, inl, inr, IsSorted}
-use Rattle.std.specs.List.{AllByRecursion}
-use Rattle.std.specs.List.Sorted.{IsPermutation}
-use Rattle.std.specs.Ordering.{ordering_reverse, ordering_then}
-use Rattle.std.specs.Cmp.{IsTotalOrder}
 use Rattle.std.proofs.lemmas.Cmp.{upto, on_total}
 use Rattle.std.proofs.lemmas.List.Elements.{recursion_from_All, All-from_recursion}
 use Rattle.std.proofs.lemmas.List.Sorted.{length_permutation, All-permutation, IsPermutation-sym}
-use Rattle.sqlite_value.specs.declared.value.Value.TheVariants.{Null, Int}
-use Rattle.sqlite_value.specs.Order.{Row, column, value_cmp}
-use Rattle.sqlite_trees.specs.Tree.{Trees}
-use Rattle.sqlite_rules.specs.Lists.{Has}
-use Rattle.sqlite_sql.specs.Term.{Term, lit, col}
-use Rattle.sqlite_sql.specs.Query.{Query, IsAnswer, Output, output, output_cmp}
-use Rattle.sqlite_sql.specs.Program.{overlay}
-use Rattle.sqlite_sql.proofs.QueryLemmas.{key_cmp_total}
+use Rattle.std.specs.{Cmp.IsTotalOrder, List.AllByRecursion, List.Sorted.IsPermutation}
+use Rattle.std.specs.Ordering.{ordering_reverse, ordering_then}
+use Rattle.sqlite.{proofs.Callers.reads_as, specs.State.State, specs.State.Shown}
 use Rattle.sqlite_keyed.proofs.ListLemmas.{all_weaker, all_map, all_unmap, filter_same, map-map}
-use Rattle.sqlite.specs.State.{State, Shown}
-use Rattle.sqlite.proofs.Callers.{reads_as}
-use Rattle.review_statements.specs.Desk.{desk_schema}
-use Rattle.review_statements.specs.Content.{has_key}
-use Rattle.review_statements.specs.Greatest.{ShowsGreatest}
-use Rattle.review_statements.specs.Texts.{Asks, values_of, tests_from, over_table, falling, last_where}
-use Rattle.review_statements.specs.Search.{At}
-use Rattle.review_statements.proofs.Queries.{passes, shows, staged_is}
+use Rattle.sqlite_rules.specs.Lists.{Has}
+use Rattle.sqlite_sql.{proofs.QueryLemmas.key_cmp_total, specs.Program.overlay}
+use Rattle.sqlite_sql.specs.Query.{Query, IsAnswer, Output, output, output_cmp}
+use Rattle.sqlite_sql.specs.Term.{Term, lit, col}
+use Rattle.sqlite_trees.specs.Tree.{Trees}
+use Rattle.sqlite_value.specs.Order.{Row, column, value_cmp}
+use Rattle.sqlite_value.specs.declared.value.Value.TheVariants.{Null, Int}
 use Rattle.review_statements.proofs.Meaning.{tested, plain, shows_columns}
+use Rattle.review_statements.proofs.Queries.{passes, shows, staged_is}
+use Rattle.review_statements.specs.{Content.has_key, Desk.desk_schema, Greatest.ShowsGreatest, Search.At}
+use Rattle.review_statements.specs.Texts.{Asks, values_of, tests_from, over_table, falling, last_where}
 
 -- ---- the first of rows in order is at most each
 

@@ -1,36 +1,27 @@
 -- What the parts of texts mean: the tests of a WHERE, the values of an INSERT, and whole queries.
 use Rattle.std.proofs.Common.{arith, inl, inr, codes, ◌≡◌, ◌∙◌, ◌&&◌, ◌++◌, ◌^◌, ◌-◌, ℕ, zero, suc, ℤ, get_or, List, [], ◌∷◌, Bool, cond, Some, true, false, refl, sym, ap, map, filter, drop, nat_le, subst, subst₂}
-use Rattle.std.specs.List.{list_all}
+use Rattle.std.proofs.lemmas.{Bool.cases_Bool, Bool.ltb-true, List.get_or-drop}
+use Rattle.std.specs.{Cmp.Lexicographic.slice_cmp, List.list_all, List.Sorted.IsPermutation}
+use Rattle.std.specs.Ordering.{is_eq, is_lt, nat_cmp}
 use Rattle.std.specs.Prelude.{int_lt, pos, negsuc, nat_lt, not}
 use Rattle.std.specs.declared.cmp.Ordering.TheVariants.{Less, Equal, Greater}
-use Rattle.std.specs.Ordering.{is_eq, is_lt, nat_cmp}
-use Rattle.std.specs.Cmp.Lexicographic.{slice_cmp}
-use Rattle.std.specs.List.Sorted.{IsPermutation}
-use Rattle.std.proofs.lemmas.Bool.{cases_Bool, ltb-true}
-use Rattle.std.proofs.lemmas.List.{get_or-drop}
+use Rattle.sqlite.{proofs.Callers.reads_as, specs.State.State, specs.State.Shown}
+use Rattle.sqlite_keyed.proofs.ListLemmas.{filter_same, map-map}
+use Rattle.sqlite_rules.specs.Cast.{cast}
 use Rattle.sqlite_schema.specs.declared.schema.Kind.TheVariants.{Integer}
-use Rattle.sqlite_value.specs.declared.value.Value.{Value}
-use Rattle.sqlite_value.specs.declared.value.Value.TheVariants.{Null, Int, Real, Text, Blob}
-use Rattle.sqlite_value.specs.declared.keys.Collation.TheVariants.{Binary}
-use Rattle.sqlite_value.specs.Order.{Row, column, value_cmp}
-use Rattle.sqlite_value.proofs.OrderLemmas.{value_cmp-Int, value_cmp-Null, value_cmp-Text}
-use Rattle.sqlite_trees.specs.Tree.{Trees, rowid}
-use Rattle.sqlite_sql.specs.Term.{col, eval, holds}
-use Rattle.sqlite_sql.specs.Ops.{unary, binary, is_true, is_null, from_truth}
-use Rattle.sqlite_sql.specs.Program.{overlay}
-use Rattle.sqlite_sql.specs.declared.ops.BinaryOp.TheVariants.{Compare}
+use Rattle.sqlite_sql.specs.{Ops.unary, Ops.binary, Ops.is_true, Ops.is_null, Ops.from_truth, Program.overlay}
+use Rattle.sqlite_sql.specs.{Term.col, Term.eval, Term.holds, declared.ops.BinaryOp.TheVariants.Compare}
 use Rattle.sqlite_sql.specs.declared.ops.CompareOp.TheVariants.{Eq, Lt}
 use Rattle.sqlite_sql.specs.declared.ops.UnaryOp.TheVariants.{Not, ToNumeric, TypeOf}
-use Rattle.sqlite_rules.specs.Cast.{cast}
-use Rattle.sqlite_keyed.proofs.ListLemmas.{filter_same, map-map}
-use Rattle.sqlite.specs.State.{State, Shown}
-use Rattle.sqlite.proofs.Callers.{reads_as}
-use Rattle.review_statements.specs.Desk.{desk_schema}
-use Rattle.sqlite_trees.specs.View.{is_int}
-use Rattle.review_statements.specs.Content.{has_key, is_number_below, is_integer, is_natural, is_text, is_value}
-use Rattle.review_statements.specs.Search.{At, FindsIds}
-use Rattle.review_statements.specs.Texts.{Asks, number_at, tests_below, tests_for, tests_from, values_of, rows_where}
+use Rattle.sqlite_trees.specs.{Tree.Trees, Tree.rowid, View.is_int}
+use Rattle.sqlite_value.proofs.OrderLemmas.{value_cmp-Int, value_cmp-Null, value_cmp-Text}
+use Rattle.sqlite_value.specs.Order.{Row, column, value_cmp}
+use Rattle.sqlite_value.specs.declared.{keys.Collation.TheVariants.Binary, value.Value.Value}
+use Rattle.sqlite_value.specs.declared.value.Value.TheVariants.{Null, Int, Real, Text, Blob}
 use Rattle.review_statements.proofs.Queries.{passes, shows, selects}
+use Rattle.review_statements.specs.Content.{has_key, is_number_below, is_integer, is_natural, is_text, is_value}
+use Rattle.review_statements.specs.{Desk.desk_schema, Search.At, Search.FindsIds}
+use Rattle.review_statements.specs.Texts.{Asks, number_at, tests_below, tests_for, tests_from, values_of, rows_where}
 
 either : (b : Bool) (x : Value) → cond b x x ≡ x
 either true x = refl

@@ -1,16 +1,14 @@
 -- What INSERT with a SELECT of all rows of another table does, and what DROP TABLE does.
 use Rattle.std.proofs.Common.{◌≡◌, ◌∙◌, true, false, List, [], ◌∷◌, ◌++◌, map, append-nil, Ordering, Less, Equal, Greater, refl, ap, subst}
-use Rattle.std.specs.List.Sorted.{IsPermutation}
-use Rattle.std.specs.Ordering.{is_eq, match_ordering}
 use Rattle.std.proofs.lemmas.Bool.{or_parts, and_parts, not-true}
 use Rattle.std.proofs.lemmas.List.Sorted.{IsPermutation-refl, IsPermutation-trans, IsPermutation-cons, IsPermutation-sym, IsPermutation-middle, IsPermutation-append_right}
-use Rattle.sqlite_value.specs.Order.{Row, value_cmp}
-use Rattle.sqlite_trees.specs.Tree.{rowid, put_row}
-use Rattle.sqlite_rules.specs.declared.error.Rowids.TheVariants.{Chosen}
+use Rattle.std.specs.{List.Sorted.IsPermutation, Ordering.is_eq, Ordering.match_ordering}
 use Rattle.sqlite_rules.specs.Edit.{is_taken, put_all, are_fresh, have_rowids, numbered, with_rowid, is_chosen}
-use Rattle.review_statements.specs.Content.{AreApart}
-use Rattle.review_statements.specs.Moved.{columns_of}
+use Rattle.sqlite_rules.specs.declared.error.Rowids.TheVariants.{Chosen}
+use Rattle.sqlite_trees.specs.Tree.{rowid, put_row}
+use Rattle.sqlite_value.specs.Order.{Row, value_cmp}
 use Rattle.review_statements.proofs.Lists.{apart_put}
+use Rattle.review_statements.specs.{Content.AreApart, Moved.columns_of}
 
 -- ---- rows put into a tree
 

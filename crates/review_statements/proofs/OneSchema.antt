@@ -1,30 +1,19 @@
 -- Trees list one schema.
 use Rattle.std.proofs.Common.{Equal, ◌≡◌, ◌∙◌, inl, inr, ℕ, ◌+◌, ◌<◌, List, [], ◌∷◌, ◌++◌, Result, Ok, true, false, refl, sym, ap, subst, arith}
-use Rattle.std.proofs.lemmas.List.{append_cancel_left}
-use Rattle.std.proofs.lemmas.Option.{same_Some}
-use Rattle.std.proofs.lemmas.Fmt.{decimal_is_IsNumeral}
-use Rattle.std.specs.Prelude.{codes, filter, pos, slice_get}
-use Rattle.std.specs.Fmt.{decimal}
-use Rattle.std.specs.List.{AllByRecursion, AllZip}
+use Rattle.std.proofs.lemmas.{Bool.Decides.nat_tests, Fmt.decimal_is_IsNumeral, List.append_cancel_left}
+use Rattle.std.{proofs.lemmas.Option.same_Some, specs.Char.to_ascii_lowercase}
+use Rattle.std.specs.{Cmp.Lexicographic.slice_cmp, Fmt.decimal, List.AllByRecursion, List.AllZip}
 use Rattle.std.specs.Ordering.{is_eq, nat_cmp, ordering_then}
-use Rattle.std.specs.Cmp.Lexicographic.{slice_cmp}
-use Rattle.std.specs.Prelude.{map}
+use Rattle.std.specs.Prelude.{codes, filter, pos, slice_get, map}
 use Rattle.std.specs.Str.Parse.{digits_value}
-use Rattle.std.proofs.lemmas.Bool.Decides.{nat_tests}
-use Rattle.std.specs.Char.{to_ascii_lowercase}
-use Rattle.sqlite_value.specs.declared.value.Value.{Value}
-use Rattle.sqlite_value.specs.declared.value.Value.TheVariants.{Null, Int, Real, Text, Blob}
-use Rattle.sqlite_value.specs.Order.{Row, column}
-use Rattle.sqlite_trees.specs.Tree.{Trees, rowid, IsAscending}
-use Rattle.sqlite_trees.specs.Objects.{catalog_tree}
-use Rattle.sqlite_schema.specs.declared.schema.Table.{Table}
-use Rattle.sqlite_schema.specs.declared.schema.Index.{Index}
-use Rattle.sqlite_schema.specs.declared.schema.View.{View as Stored}
-use Rattle.sqlite_schema.specs.declared.schema.Schema.{Schema}
-use Rattle.sqlite_schema.specs.Names.{same_name}
-use Rattle.sqlite_rules.specs.Lists.{Has}
-use Rattle.sqlite_resolve.specs.Compile.{table_defined_by}
 use Rattle.sqlite_catalog.specs.Listing.{IsTableRow, IsIndexRow, IsViewRow, IsDefined, IsSound, automatic, is_table_row, is_index_row, is_view_row}
+use Rattle.sqlite_resolve.specs.Compile.{table_defined_by}
+use Rattle.sqlite_rules.specs.Lists.{Has}
+use Rattle.sqlite_schema.specs.Names.{same_name}
+use Rattle.sqlite_schema.specs.declared.schema.{Index.Index, Schema.Schema, Table.Table, View.View as Stored}
+use Rattle.sqlite_trees.specs.{Objects.catalog_tree, Tree.Trees, Tree.rowid, Tree.IsAscending}
+use Rattle.sqlite_value.specs.{Order.Row, Order.column, declared.value.Value.Value}
+use Rattle.sqlite_value.specs.declared.value.Value.TheVariants.{Null, Int, Real, Text, Blob}
 
 -- elements that stand in a relation to those of a list, each to one of its own
 one_list : {A B : Type 0} (R : A → B → Type 0) → ((a : A) (x y : B) → R a x → R a y → x ≡ y) → (es : List A) (xs ys : List B) → AllZip R es xs → AllZip R es ys → xs ≡ ys

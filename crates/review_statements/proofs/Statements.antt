@@ -1,54 +1,33 @@
 -- What a fixed INSERT, DELETE or SELECT does, whatever the table.
-use Rattle.std.proofs.Common.{◌≡◌, ◌≢◌, ◌⊎◌, inl, inr, ℕ, ◌/◌, List, [], ◌∷◌, length, map, slice_get, append-nil, true, false, Some, None, Ok, Err, Result, refl, sym, ap, subst, subst₂, ◌∙◌, IsTrue, Option}
-use Rattle.sqlite_value.specs.Order.{Row}
-use Rattle.sqlite_trees.specs.Tree.{Trees}
-use Rattle.sqlite_sql.specs.Term.{Term}
-use Rattle.sqlite_schema.specs.declared.command.Source.{Source}
-use Rattle.sqlite_schema.specs.declared.schema.Table.{Table}
-use Rattle.sqlite_schema.specs.declared.schema.Schema.{Schema}
-use Rattle.sqlite_schema.specs.declared.schema.Keys.TheVariants.{Enforced}
-use Rattle.sqlite_schema.specs.declared.command.Source.TheVariants.{Values, Query}
-use Rattle.sqlite_schema.specs.declared.command.Command.TheVariants.{Insert, Delete, DropTable}
-use Rattle.sqlite_catalog.specs.Change.{without_table, KeepsRows}
-use Rattle.sqlite_rules.specs.declared.error.Rowids.TheVariants.{Chosen, Given}
-use Rattle.sqlite_rules.specs.Calls.{ids_of}
-use Rattle.sqlite_schema.specs.declared.program.Program.{Program}
-use Rattle.sqlite_rules.specs.Action.{works}
-use Rattle.sqlite_rules.specs.Edit.{Edit, edit_of, edited, taken_by, without_all}
-use Rattle.sqlite.specs.Effect.{Database, IsDatabase, value_rows, IsSource, Answers}
-use Rattle.sqlite.specs.Rows.{Part, Written, Task, stamped, Inserts, Deletes}
-use Rattle.sqlite.specs.Does.{Tally, Does, AtPlace, OnRows, Concludes, Drops, is_acted_on}
-use Rattle.sqlite.specs.declared.run.Mode.{Mode}
-use Rattle.std.specs.Bool.{MatchBool}
-use Rattle.std.specs.List.{AllByRecursion}
-use Rattle.sqlite.specs.Listing.{understood}
-use Rattle.sqlite.specs.State.{State, Executes}
-use Rattle.sqlite.proofs.Callers.{IsPlain, command_of, statement_of, runs_as, one_step}
-use Rattle.review_statements.specs.Desk.{simple}
-use Rattle.std.proofs.Common.{Bool, not, map, filter, eqb, eqb-true}
-use Rattle.std.specs.List.{list_any}
-use Rattle.std.specs.List.Sorted.{IsPermutation}
+use Rattle.std.proofs.Common.{◌≡◌, ◌≢◌, ◌⊎◌, inl, inr, ℕ, ◌/◌, List, [], ◌∷◌, length, map, slice_get, append-nil, true, false, Some, None, Ok, Err, Result, refl, sym, ap, subst, subst₂, ◌∙◌, IsTrue, Option, Bool, not, filter, eqb, eqb-true}
 use Rattle.std.proofs.lemmas.Bool.{or_cases, cases_Bool, eqb-false, and_parts, not-true}
-use Rattle.std.proofs.lemmas.List.Sorted.{IsPermutation-map}
-use Rattle.sqlite_value.specs.declared.value.Value.TheVariants.{Null}
-use Rattle.sqlite_value.specs.Order.{column}
-use Rattle.sqlite_trees.specs.Tree.{rowid, put_row}
-use Rattle.sqlite_trees.specs.View.{is_int}
-use Rattle.sqlite_sql.specs.Term.{col}
-use Rattle.sqlite_sql.specs.Program.{overlay}
-use Rattle.sqlite_rules.specs.Cast.{cast_row}
-use Rattle.sqlite_rules.specs.Edit.{id_in, have_rowids, are_fresh, left_by, numbered, put_all, is_taken}
+use Rattle.std.{proofs.lemmas.List.Sorted.IsPermutation-map, specs.Bool.MatchBool}
+use Rattle.std.specs.List.{AllByRecursion, list_any, Sorted.IsPermutation}
+use Rattle.sqlite.proofs.Callers.{IsPlain, command_of, statement_of, runs_as, one_step}
+use Rattle.sqlite.specs.Does.{Tally, Does, AtPlace, OnRows, Concludes, Drops, is_acted_on}
+use Rattle.sqlite.specs.Effect.{Database, IsDatabase, value_rows, IsSource, Answers}
+use Rattle.sqlite.specs.Listing.{understood}
+use Rattle.sqlite.specs.Rows.{Part, Written, Task, stamped, Inserts, Deletes}
+use Rattle.sqlite.specs.{State.State, State.Executes, declared.run.Mode.Mode}
+use Rattle.sqlite_catalog.specs.Change.{without_table, KeepsRows}
 use Rattle.sqlite_keyed.proofs.ListLemmas.{map-map, filter_same}
-use Rattle.review_statements.specs.Desk.{desk_schema, is_tree}
-use Rattle.review_statements.specs.Content.{AreApart, IsAdded, Adds, SparesOthers}
-use Rattle.review_statements.specs.Ran.{IsReady}
-use Rattle.review_statements.specs.Moved.{columns_of}
+use Rattle.sqlite_rules.specs.{Action.works, Calls.ids_of, Cast.cast_row}
+use Rattle.sqlite_rules.specs.Edit.{Edit, edit_of, edited, taken_by, without_all, id_in, have_rowids, are_fresh, left_by, numbered, put_all, is_taken}
+use Rattle.sqlite_rules.specs.declared.error.Rowids.TheVariants.{Chosen, Given}
+use Rattle.sqlite_schema.specs.declared.command.Command.TheVariants.{Insert, Delete, DropTable}
+use Rattle.sqlite_schema.specs.declared.command.Source.{Source, TheVariants.Values, TheVariants.Query}
+use Rattle.sqlite_schema.specs.declared.program.Program.{Program}
+use Rattle.sqlite_schema.specs.declared.schema.{Column.Column, Keys.TheVariants.Enforced, Schema.Schema, Table.Table}
+use Rattle.sqlite_sql.specs.{Program.overlay, Term.Term, Term.col}
+use Rattle.sqlite_trees.specs.{Tree.Trees, Tree.rowid, Tree.put_row, View.is_int}
+use Rattle.sqlite_value.specs.Order.{Row, column}
+use Rattle.sqlite_value.specs.declared.{keys.Order.Order, value.Value.TheVariants.Null}
 use Rattle.review_statements.proofs.Lists.{id_of, added, removed, apart_put, apart_filter}
 use Rattle.review_statements.proofs.Moves.{apart_all, put_in_empty}
-use Rattle.review_statements.specs.Texts.{over_table}
 use Rattle.review_statements.proofs.Queries.{passes, shows, selects}
-use Rattle.sqlite_schema.specs.declared.schema.Column.{Column}
-use Rattle.sqlite_value.specs.declared.keys.Order.{Order}
+use Rattle.review_statements.specs.Content.{AreApart, IsAdded, Adds, SparesOthers}
+use Rattle.review_statements.specs.Desk.{simple, desk_schema, is_tree}
+use Rattle.review_statements.specs.{Moved.columns_of, Ran.IsReady, Texts.over_table}
 
 -- a part that gave a value did not stop on the way
 pub went : {B E R : Type 0} {b : B} {Stops : E → Type 0} → ((stop : E) × Stops stop × (Ok b ≡ Err stop)) ⊎ R → R

@@ -1,13 +1,13 @@
 -- What the texts of changes are understood as.
 use Rattle.std.proofs.Common.{ℕ, ℤ, pos, List, [], ◌∷◌, refl}
-use Rattle.sqlite_value.specs.declared.value.Value.TheVariants.{Null, Int, Text}
+use Rattle.sqlite.specs.Listing.{understood}
 use Rattle.sqlite_rules.specs.Edit.{next_rowid}
 use Rattle.sqlite_tied.specs.Compute.{everything}
-use Rattle.sqlite.specs.Listing.{understood}
-use Rattle.review_statements.specs.declared.texts.TheConstants.{INSERT_ACCOUNT, DELETE_ACCOUNT, INSERT_MEMBER, DELETE_MEMBER, INSERT_PROJECT, DELETE_PROJECT, INSERT_BASE, DELETE_BASE, INSERT_CHANGE, DELETE_CHANGE, INSERT_PATCH, DELETE_PATCH, INSERT_VOTE, DELETE_VOTE, INSERT_REVIEWER, DELETE_REVIEWER, INSERT_COMMENT, DELETE_COMMENT, INSERT_ATTENTION, DELETE_ATTENTION, INSERT_ANSWER, DELETE_ANSWER, INSERT_DESK, DELETE_DESK, INSERT_EPOCHS, DELETE_EPOCHS, DELETE_ANSWERS_BELOW}
+use Rattle.sqlite_value.specs.declared.value.Value.TheVariants.{Null, Int, Text}
+use Rattle.review_statements.proofs.Meaning.{cast_null, cast_int}
 use Rattle.review_statements.specs.Desk.{accounts, members, projects_2, bases, changes, patches, votes, reviewers, comments, attention, answers_3, desk, epochs}
 use Rattle.review_statements.specs.Texts.{Deletes, DeletesBelow, Inserts}
-use Rattle.review_statements.proofs.Meaning.{cast_null, cast_int}
+use Rattle.review_statements.specs.declared.texts.TheConstants.{INSERT_ACCOUNT, DELETE_ACCOUNT, INSERT_MEMBER, DELETE_MEMBER, INSERT_PROJECT, DELETE_PROJECT, INSERT_BASE, DELETE_BASE, INSERT_CHANGE, DELETE_CHANGE, INSERT_PATCH, DELETE_PATCH, INSERT_VOTE, DELETE_VOTE, INSERT_REVIEWER, DELETE_REVIEWER, INSERT_COMMENT, DELETE_COMMENT, INSERT_ATTENTION, DELETE_ATTENTION, INSERT_ANSWER, DELETE_ANSWER, INSERT_DESK, DELETE_DESK, INSERT_EPOCHS, DELETE_EPOCHS, DELETE_ANSWERS_BELOW}
 
 pub insert_account : (number : ℤ) (name : List ℕ) → Inserts INSERT_ACCOUNT.now accounts.tree (Int number ∷ Text name ∷ []) (λ id. Int number ∷ Null ∷ Text name ∷ [])
 unfolding understood everything

@@ -1,34 +1,26 @@
 -- What the texts of a migration are understood as, and what such texts do.
 use Rattle.std.proofs.Common.{◌≡◌, ◌≢◌, ◌∙◌, ℕ, List, [], ◌∷◌, map, filter, slice_get, Some, Ok, false, refl, ap, sym, subst, pos}
-use Rattle.std.specs.List.{AllByRecursion}
-use Rattle.std.specs.List.Sorted.{IsPermutation}
 use Rattle.std.proofs.lemmas.List.Sorted.{IsPermutation-map, IsPermutation-trans}
-use Rattle.sqlite_keyed.proofs.ListLemmas.{map-map}
-use Rattle.sqlite_value.specs.Order.{Row}
-use Rattle.sqlite_value.specs.declared.keys.Collation.{Collation}
-use Rattle.sqlite_rules.specs.Cast.{cast_row}
-use Rattle.sqlite_schema.specs.declared.schema.Schema.{Schema}
-use Rattle.sqlite_schema.specs.declared.schema.Keys.TheVariants.{Enforced}
-use Rattle.sqlite_schema.specs.declared.program.Program.{Program}
+use Rattle.std.specs.List.{AllByRecursion, Sorted.IsPermutation}
+use Rattle.sqlite.proofs.Callers.{IsPlain, command_of, statement_of, runs_as}
+use Rattle.sqlite.specs.{Does.is_acted_on, Listing.understood, State.State, State.Executes}
 use Rattle.sqlite_catalog.specs.Change.{without_table, KeepsRows}
-use Rattle.sqlite.specs.Does.{is_acted_on}
-use Rattle.sqlite.specs.State.{State, Executes}
-use Rattle.sqlite_value.specs.declared.value.Value.TheVariants.{Null, Int, Text}
-use Rattle.sqlite_value.specs.declared.keys.Collation.TheVariants.{Binary}
+use Rattle.sqlite_keyed.proofs.ListLemmas.{map-map}
+use Rattle.sqlite_rules.specs.Cast.{cast_row}
 use Rattle.sqlite_schema.specs.declared.command.Command.TheVariants.{Insert, DropTable}
-use Rattle.sqlite_schema.specs.declared.command.Source.TheVariants.{Query}
+use Rattle.sqlite_schema.specs.declared.{command.Source.TheVariants.Query, program.Program.Program}
+use Rattle.sqlite_schema.specs.declared.schema.{Keys.TheVariants.Enforced, Schema.Schema}
 use Rattle.sqlite_sql.specs.Term.{Term, lit, col}
 use Rattle.sqlite_tied.specs.Compute.{everything}
-use Rattle.sqlite.specs.Listing.{understood}
-use Rattle.sqlite.proofs.Callers.{IsPlain, command_of, statement_of, runs_as}
-use Rattle.review_statements.specs.declared.texts.TheConstants.{MOVE_PROJECTS, DROP_PROJECTS, MOVE_ANSWERS, DROP_ANSWERS}
+use Rattle.sqlite_value.specs.{Order.Row, declared.keys.Collation.Collation, declared.keys.Collation.TheVariants.Binary}
+use Rattle.sqlite_value.specs.declared.value.Value.TheVariants.{Null, Int, Text}
+use Rattle.review_statements.proofs.{Changes.IsSimple, Meaning.plain, Meaning.cast_int}
+use Rattle.review_statements.proofs.Queries.{selects_by, shows, passes}
+use Rattle.review_statements.proofs.Statements.{HasNoKeys, copies_in, drops_in}
 use Rattle.review_statements.specs.Desk.{schema_of, simple}
 use Rattle.review_statements.specs.Moved.{Move, with_both, columns_of, Fills, Drops, projects_move, answers_move}
-use Rattle.review_statements.proofs.Changes.{IsSimple}
-use Rattle.review_statements.proofs.Queries.{selects_by, shows, passes}
-use Rattle.review_statements.proofs.Meaning.{plain, cast_int}
-use Rattle.review_statements.proofs.Statements.{HasNoKeys, copies_in, drops_in}
 use Rattle.review_statements.specs.Texts.{over_table}
+use Rattle.review_statements.specs.declared.texts.TheConstants.{MOVE_PROJECTS, DROP_PROJECTS, MOVE_ANSWERS, DROP_ANSWERS}
 
 -- all rows of a table, each shown by these terms
 abbrev all_rows : ℕ → List Term → List Collation → Program

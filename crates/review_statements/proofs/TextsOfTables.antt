@@ -1,11 +1,10 @@
 -- What the texts for each table of the list are understood as.
 use Rattle.std.proofs.Common.{◌≡◌, ◌<◌, ℕ, zero, suc, List, [], ◌∷◌, codes, map, drop, take, length, slice_index_or, refl, arith}
+use Rattle.sqlite.specs.Listing.{understood}
 use Rattle.sqlite_schema.specs.declared.schema.Table.{Table}
 use Rattle.sqlite_tied.specs.Compute.{everything}
-use Rattle.sqlite.specs.Listing.{understood}
-use Rattle.review_statements.specs.declared.texts.TheConstants.{ROW_IDS}
 use Rattle.review_statements.specs.Desk.{desk_tables, table_at}
-use Rattle.review_statements.specs.Texts.{Asks, rows_where}
+use Rattle.review_statements.specs.{Texts.Asks, Texts.rows_where, declared.texts.TheConstants.ROW_IDS}
 
 infixr 2 ◌also◌
 abbrev pub ◌also◌ : {A B : Type 0} → A → B → A × B

@@ -1,14 +1,11 @@
 -- What the rows of a table have at a key.
+use Rattle.std.specs.{List.list_all, Ordering.is_eq}
 use Rattle.std.specs.Prelude.{ℕ, ℤ, pos, ◌≡◌, ◌≢◌, ◌+◌, Bool, true, false, nat_lt, not, List, [], ◌∷◌, filter, length, IsTrue}
-use Rattle.std.specs.List.{list_all}
-use Rattle.std.specs.Ordering.{is_eq}
-use Rattle.sqlite_value.specs.declared.value.Value.{Value}
+use Rattle.sqlite_rules.specs.Edit.{is_taken}
+use Rattle.sqlite_trees.specs.{Tree.Trees, Tree.rowid, View.is_int}
+use Rattle.sqlite_value.specs.{Order.Row, Order.column, Order.value_cmp, declared.value.Value.Value}
 use Rattle.sqlite_value.specs.declared.value.Value.TheVariants.{Null, Int, Real, Text, Blob}
 use Rattle.review_statements.specs.Desk.{is_tree}
-use Rattle.sqlite_value.specs.Order.{Row, column, value_cmp}
-use Rattle.sqlite_trees.specs.Tree.{Trees, rowid}
-use Rattle.sqlite_rules.specs.Edit.{is_taken}
-use Rattle.sqlite_trees.specs.View.{is_int}
 
 -- whether a value is this integer; a real number that equals it is not
 abbrev pub is_integer : Value → ℤ → Bool

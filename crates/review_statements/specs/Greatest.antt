@@ -1,11 +1,9 @@
 -- The row with the greatest value of a column, and how many rows there are.
+use Rattle.std.specs.{List.AllByRecursion, Ordering.is_gt}
 use Rattle.std.specs.Prelude.{ℕ, ◌≡◌, false, List, [], ◌∷◌, length, Option, Some, None, min, pos}
-use Rattle.std.specs.List.{AllByRecursion}
-use Rattle.std.specs.Ordering.{is_gt}
-use Rattle.sqlite_value.specs.Order.{Row as Raw, column, value_cmp}
 use Rattle.sqlite_rules.specs.Lists.{Has}
-use Rattle.sqlite_value.specs.declared.value.Value.TheVariants.{Int}
 use Rattle.sqlite_trees.specs.Tree.{Trees}
+use Rattle.sqlite_value.specs.{Order.Row as Raw, Order.column, Order.value_cmp, declared.value.Value.TheVariants.Int}
 use Rattle.review_statements.specs.Search.{Search, reads, rows_at, shown}
 
 -- the row is one of these, and none of them has more in the column, as SQL orders values

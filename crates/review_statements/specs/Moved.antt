@@ -1,13 +1,11 @@
 -- Rows that move from one table to another.
+use Rattle.std.specs.List.{AllByRecursion, Sorted.IsPermutation}
 use Rattle.std.specs.Prelude.{pos, ◌≡◌, ◌≢◌, ◌++◌, List, [], ◌∷◌, drop, map}
-use Rattle.std.specs.List.{AllByRecursion}
-use Rattle.std.specs.List.Sorted.{IsPermutation}
+use Rattle.sqlite.specs.Effect.{Database, IsDatabase}
+use Rattle.sqlite_rules.specs.Cast.{as_text, cast}
+use Rattle.sqlite_schema.specs.declared.schema.{Kind.TheVariants.Integer, Table.Table}
 use Rattle.sqlite_value.specs.Order.{Row, column}
 use Rattle.sqlite_value.specs.declared.value.Value.TheVariants.{Int, Text}
-use Rattle.sqlite_rules.specs.Cast.{as_text, cast}
-use Rattle.sqlite_schema.specs.declared.schema.Kind.TheVariants.{Integer}
-use Rattle.sqlite_schema.specs.declared.schema.Table.{Table}
-use Rattle.sqlite.specs.Effect.{Database, IsDatabase}
 use Rattle.review_statements.specs.Content.{AreApart}
 use Rattle.review_statements.specs.Desk.{accounts, answers_1, answers_3, attention, bases, changes, comments, desk, members, patches, projects_1, projects_2, reviewers, schema_of, tables_1, tables_2, votes}
 

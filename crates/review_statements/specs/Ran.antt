@@ -1,11 +1,9 @@
 -- What statements do inside a transaction, and what a whole transaction does.
 use Rattle.std.specs.Prelude.{ℕ, ◌≡◌, true, Result, IsTrue, IfOk, OnOk, OnErr}
-use Rattle.sqlite_trees.specs.Tree.{Trees}
 use Rattle.sqlite.specs.Effect.{Database, IsDatabase}
-use Rattle.sqlite.specs.State.{State, HasCleanDisk, Survives, KeepsCommit}
-use Rattle.sqlite.specs.declared.error.Error.{Error}
-use Rattle.review_statements.specs.Desk.{desk_schema, is_tree}
-use Rattle.review_statements.specs.Content.{AreApart}
+use Rattle.sqlite.specs.{State.State, State.HasCleanDisk, State.Survives, State.KeepsCommit, declared.error.Error.Error}
+use Rattle.sqlite_trees.specs.Tree.{Trees}
+use Rattle.review_statements.specs.{Content.AreApart, Desk.desk_schema, Desk.is_tree}
 
 -- the tables are those that `create` makes, they list and obey that schema, and the rows of each have rowids of their own
 pub record IsReady (db : Database) : Type 0 where

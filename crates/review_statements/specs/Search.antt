@@ -1,11 +1,9 @@
 -- How rows are looked up and stored, whatever the table.
+use Rattle.std.specs.List.{list_any, Sorted.IsPermutation}
 use Rattle.std.specs.Prelude.{ℕ, ℤ, ◌≡◌, ◌≢◌, ◌+◌, Bool, true, false, not, List, [], ◌∷◌, filter, map, length, Option, Some, None, option_map, is_some}
-use Rattle.std.specs.List.{list_any}
-use Rattle.std.specs.List.Sorted.{IsPermutation}
-use Rattle.sqlite_value.specs.declared.value.Value.{Value}
-use Rattle.sqlite_value.specs.declared.value.Value.TheVariants.{Null, Int}
-use Rattle.sqlite_value.specs.Order.{Row as Raw, column}
 use Rattle.sqlite_trees.specs.Tree.{Trees, rowid}
+use Rattle.sqlite_value.specs.Order.{Row as Raw, column}
+use Rattle.sqlite_value.specs.declared.value.Value.{Value, TheVariants.Null, TheVariants.Int}
 use Rattle.review_table.specs.declared.table.Change.{Change}
 use Rattle.review_statements.specs.Content.{has_key, SparesOthers, Adds}
 

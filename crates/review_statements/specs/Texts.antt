@@ -1,29 +1,21 @@
 -- What texts are understood as, by the tables of a desk.
 use Rattle.std.specs.Prelude.{codes, ℕ, ℤ, zero, suc, pos, negsuc, ◌≡◌, ◌+◌, ◌/◌, ◌++◌, false, List, [], ◌∷◌, map, drop, length, Option, None, Some, slice_get}
-use Rattle.sqlite_value.specs.declared.value.Value.{Value}
-use Rattle.sqlite_value.specs.declared.value.Value.TheVariants.{Null, Int, Real, Text, Blob}
-use Rattle.sqlite_value.specs.declared.keys.Collation.TheVariants.{Binary}
-use Rattle.sqlite_value.specs.declared.keys.Key.{Key}
-use Rattle.sqlite_value.specs.Order.{Row}
-use Rattle.sqlite_trees.specs.Tree.{Trees}
-use Rattle.sqlite_sql.specs.Term.{Term, lit, col, op1, op2}
-use Rattle.sqlite_sql.specs.Query.{Query, inner, end}
+use Rattle.sqlite.proofs.Callers.{IsPlain, command_of}
+use Rattle.sqlite.specs.{Effect.value_rows, Listing.understood, Listing.reads_listing}
+use Rattle.sqlite_rules.specs.{Edit.edit_of, declared.error.Rowids.TheVariants.Chosen}
+use Rattle.sqlite_schema.specs.declared.command.Command.{Command}
+use Rattle.sqlite_schema.specs.declared.command.Command.TheVariants.{Insert, Select, Delete}
+use Rattle.sqlite_schema.specs.declared.{command.Source.TheVariants.Values, schema.Column.Column, schema.Table.Table}
+use Rattle.sqlite_sql.specs.{Query.Query, Query.inner, Query.end, Term.Term, Term.lit, Term.col, Term.op1, Term.op2}
 use Rattle.sqlite_sql.specs.declared.ops.BinaryOp.TheVariants.{Compare}
 use Rattle.sqlite_sql.specs.declared.ops.CompareOp.TheVariants.{Eq, Lt}
 use Rattle.sqlite_sql.specs.declared.ops.UnaryOp.TheVariants.{Not, ToNumeric, TypeOf}
-use Rattle.sqlite_schema.specs.declared.schema.Column.{Column}
-use Rattle.sqlite_schema.specs.declared.schema.Table.{Table}
-use Rattle.sqlite_schema.specs.declared.command.Command.{Command}
-use Rattle.sqlite_schema.specs.declared.command.Command.TheVariants.{Insert, Select, Delete}
-use Rattle.sqlite_schema.specs.declared.command.Source.TheVariants.{Values}
 use Rattle.sqlite_tied.specs.Listing.{counting}
-use Rattle.sqlite_rules.specs.declared.error.Rowids.TheVariants.{Chosen}
-use Rattle.sqlite_rules.specs.Edit.{edit_of}
-use Rattle.sqlite.specs.Effect.{value_rows}
-use Rattle.sqlite.specs.Listing.{understood, reads_listing}
-use Rattle.sqlite.proofs.Callers.{IsPlain, command_of}
-use Rattle.review_statements.specs.Desk.{desk_schema}
-use Rattle.review_statements.specs.Search.{At}
+use Rattle.sqlite_trees.specs.Tree.{Trees}
+use Rattle.sqlite_value.specs.Order.{Row}
+use Rattle.sqlite_value.specs.declared.{keys.Collation.TheVariants.Binary, keys.Key.Key, value.Value.Value}
+use Rattle.sqlite_value.specs.declared.value.Value.TheVariants.{Null, Int, Real, Text, Blob}
+use Rattle.review_statements.specs.{Desk.desk_schema, Search.At}
 
 -- ---- the tests of a WHERE
 

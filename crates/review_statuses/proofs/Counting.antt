@@ -1,25 +1,17 @@
 -- A term counts accounts.
 use Rattle.std.proofs.Common.{◌≡◌, ℕ, ℤ, List, length, Some, None, Bool, true, false, not, cond, ◌==◌, ◌&&◌, refl, sym, ap, ◌∙◌}
-use Rattle.std.specs.Prelude.{is_some, option_map}
-use Rattle.std.specs.List.{filter}
-use Rattle.std.specs.Map.{keys_of}
-use Rattle.std.specs.Ordering.{nat_cmp}
-use Rattle.std.proofs.lemmas.List.{length-map}
-use Rattle.std.proofs.lemmas.List.Sums.{length-filter}
-use Rattle.std.proofs.lemmas.Map.Entries.{option_filter}
+use Rattle.std.proofs.lemmas.{List.length-map, List.Sums.length-filter, Map.Entries.option_filter}
+use Rattle.std.specs.{List.filter, Map.keys_of, Ordering.nat_cmp, Prelude.is_some, Prelude.option_map}
 use Rattle.review_names.specs.Groups.{GroupList, has_account}
-use Rattle.review_terms.specs.declared.terms.LabelTerm.{LabelTerm}
-use Rattle.review_terms.specs.declared.terms.Voters.{Voters}
-use Rattle.review_terms.specs.declared.terms.Voters.TheVariants as voters
-use Rattle.review_judging.specs.declared.facts.ChangeFacts.{ChangeFacts}
+use Rattle.review_terms.specs.declared.terms.{LabelTerm.LabelTerm, Voters.Voters}
 use Rattle.review_judging.specs.Holds.{compares, is_count, is_counted, is_voter, label_holds, meets, votes_of}
+use Rattle.review_judging.specs.declared.facts.ChangeFacts.{ChangeFacts}
 use Rattle.review_changes.specs.Change.{Change, Setting, current, label_in, range_of}
-use Rattle.review_changes.specs.Facts.{AreFacts}
-use Rattle.review_changes.specs.Listed.{AreThose}
-use Rattle.review_changes.specs.Votes.{voted}
+use Rattle.review_changes.specs.{Facts.AreFacts, Listed.AreThose, Votes.voted}
 use Rattle.review_parts.proofs.Accounts.{accounts_tell, has_row}
-use Rattle.review_statuses.specs.Counting.{counts, is_asked_for}
 use Rattle.review_statuses.proofs.Kept.{order_kept, row_kept}
+use Rattle.review_statuses.specs.Counting.{counts, is_asked_for}
+use Rattle.review_terms.specs.declared.terms.Voters.TheVariants as voters
 
 pub voters_alike : (s : Setting) (c : Change) (f : ChangeFacts) (v : Voters) (a : ℕ) → AreFacts s c f → is_voter f v a ≡ is_asked_for s c v a
 voters_alike s c f voters.Everyone a h = refl

@@ -1,12 +1,8 @@
 -- Rows in order of which some are kept, read at a key.
 use Rattle.std.proofs.Common.{◌≡◌, List, [], ◌∷◌, Option, Some, None, Bool, true, false, cond, refl, sym, ap, ◌∙◌}
-use Rattle.std.specs.declared.cmp.Ordering.{Ordering}
-use Rattle.std.specs.declared.cmp.Ordering.TheVariants.{Less}
-use Rattle.std.specs.List.{filter, AllByRecursion}
-use Rattle.std.specs.List.Sorted.{IsStrictlySortedBy}
-use Rattle.std.specs.Map.{keys_of}
-use Rattle.std.specs.BTreeMap.{is_at}
 use Rattle.std.proofs.lemmas.Map.Entries.{option_filter}
+use Rattle.std.specs.{BTreeMap.is_at, List.filter, List.AllByRecursion, List.Sorted.IsStrictlySortedBy, Map.keys_of}
+use Rattle.std.specs.declared.cmp.Ordering.{Ordering, TheVariants.Less}
 use Rattle.review_table.specs.Rows.{row_in}
 use Rattle.review_parts.proofs.InTurn.{Tells, none_after}
 

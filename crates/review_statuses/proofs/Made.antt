@@ -1,33 +1,19 @@
 -- The facts of a change, from its rows.
 use Rattle.std.proofs.Common.{◌≡◌, ℕ, ℤ, List, [], ◌∷◌, length, Option, Some, None, Bool, true, false, cond, ◌&&◌, ◌==◌, refl, sym, ap, subst, ◌∙◌, ⊎_elim, slice_get, suc, ◌-◌, arith}
-use Rattle.std.specs.Prelude.{is_some}
-use Rattle.std.specs.BTreeMap.{BTreeMap, get, is_at}
-use Rattle.std.specs.Cmp.Lexicographic.{slice_cmp}
-use Rattle.std.specs.List.{filter}
-use Rattle.std.specs.List.Sorted.{IsStrictlySortedBy}
-use Rattle.std.specs.Map.{keys_of}
-use Rattle.std.specs.Option.{option_or}
-use Rattle.std.specs.Ordering.{nat_cmp}
-use Rattle.std.specs.Str.{bytes_eq}
-use Rattle.std.specs.declared.cmp.Ordering.{Ordering}
-use Rattle.std.proofs.lemmas.Bool.{cases_Bool}
-use Rattle.std.proofs.lemmas.Map.Entries.{option_filter}
-use Rattle.std.proofs.lemmas.Map.Text.{is_eq-slice_cmp}
+use Rattle.std.proofs.lemmas.{Bool.cases_Bool, Map.Entries.option_filter, Map.Text.is_eq-slice_cmp}
 use Rattle.std.proofs.lemmas.Slice.Eq.{bytes_eq-Decides}
+use Rattle.std.specs.BTreeMap.{BTreeMap, get, is_at}
+use Rattle.std.specs.{Cmp.Lexicographic.slice_cmp, List.filter, List.Sorted.IsStrictlySortedBy, Map.keys_of}
+use Rattle.std.specs.{Option.option_or, Ordering.nat_cmp, Prelude.is_some, Str.bytes_eq, declared.cmp.Ordering.Ordering}
 use Rattle.review_table.specs.Rows.{row_in, rows_of}
-use Rattle.review_judging.specs.Holds.{votes_on}
-use Rattle.review_judging.specs.declared.facts.ValueRange.{ValueRange}
-use Rattle.review_changes.specs.declared.rows.PatchRow.{PatchRow}
-use Rattle.review_changes.specs.declared.rows.VoteKey.{VoteKey}
+use Rattle.review_judging.specs.{Holds.votes_on, declared.facts.ValueRange.ValueRange}
 use Rattle.review_changes.specs.Change.{last_paths, last_uploader}
-use Rattle.review_changes.specs.Facts.{unless_zero}
-use Rattle.review_changes.specs.Seen.{Votes, value_of, vote_cmp}
-use Rattle.review_changes.specs.Votes.{voted}
+use Rattle.review_changes.specs.{Facts.unless_zero, Seen.Votes, Seen.value_of, Seen.vote_cmp, Votes.voted}
+use Rattle.review_changes.specs.declared.rows.{PatchRow.PatchRow, VoteKey.VoteKey}
+use Rattle.review_parts.proofs.{InTurn.Tells, InTurn.at_sym, InTurn.none_after, VoteKeys.vote_key, VoteKeys.votes_tell}
 use Rattle.review_parts.specs.Tables.{or_else, put_in}
-use Rattle.review_parts.proofs.InTurn.{Tells, at_sym, none_after}
-use Rattle.review_parts.proofs.VoteKeys.{vote_key, votes_tell}
-use Rattle.review_statuses.specs.Made.{AreOrdered, AreVotesOf, VoteMap, is_voted, on_label, vote_at}
 use Rattle.review_statuses.proofs.Kept.{order_kept, row_kept}
+use Rattle.review_statuses.specs.Made.{AreOrdered, AreVotesOf, VoteMap, is_voted, on_label, vote_at}
 
 -- ---- votes by label and account
 

@@ -1,36 +1,25 @@
 -- Requirements stand in one way.
 use Rattle.std.proofs.Common.{◌≡◌, ℕ, ℤ, List, [], ◌∷◌, Option, Some, None, Bool, true, false, not, ◌&&◌, refl, sym, ap, ◌∙◌, map}
-use Rattle.std.specs.Prelude.{count_by, if◌then◌else◌}
-use Rattle.std.specs.BTreeMap.{BTreeMap, get}
-use Rattle.std.specs.Cmp.Lexicographic.{slice_cmp}
-use Rattle.std.specs.Ordering.{nat_cmp}
-use Rattle.std.specs.Option.{option_map_or}
-use Rattle.std.proofs.lemmas.Cmp.{nat_cmp_total}
-use Rattle.std.proofs.lemmas.Map.Lookups.{btree_map_from_get, exact_unsigned}
-use Rattle.review_names.specs.Groups.{has_account}
-use Rattle.review_terms.specs.Views.{view}
+use Rattle.std.proofs.lemmas.{Cmp.nat_cmp_total, Map.Lookups.btree_map_from_get, Map.Lookups.exact_unsigned}
+use Rattle.std.specs.{BTreeMap.BTreeMap, BTreeMap.get, Cmp.Lexicographic.slice_cmp, List.list_any, Option.option_map_or}
+use Rattle.std.specs.{Ordering.nat_cmp, Prelude.count_by, Prelude.if◌then◌else◌, Str.bytes_eq}
+use Rattle.review_names.specs.{Forms.components, Groups.has_account}
 use Rattle.review_table.specs.Rows.{row_in}
-use Rattle.review_terms.specs.declared.terms.LabelTerm.{LabelTerm}
-use Rattle.review_terms.specs.declared.terms.RequirementTerm.{RequirementTerm}
-use Rattle.review_terms.specs.declared.terms.RequirementTerm.TheVariants as requirement
+use Rattle.review_terms.specs.{Patterns.matches_whole, Views.view}
+use Rattle.review_terms.specs.declared.terms.{LabelTerm.LabelTerm, RequirementTerm.RequirementTerm}
 use Rattle.review_words.specs.declared.shown.ShownRequirement.{ShownRequirement}
 use Rattle.review_words.specs.declared.shown.Status.TheVariants.{NotApplicable, Overridden, Satisfied, Unsatisfied}
-use Rattle.review_judging.specs.declared.facts.ChangeFacts.{ChangeFacts}
 use Rattle.review_judging.specs.Holds.{holds, is_count, is_counted, label_holds, requirement_holds, votes_of, votes_on, meets}
-use Rattle.review_expr.specs.declared.expr.Expr.{Expr}
-use Rattle.review_expr.specs.declared.expr.Expr.TheVariants as expr
-use Rattle.review_expr.specs.declared.expr.Facts.TheVariants as facts
-use Rattle.review_expr.specs.Exprs.{holds_for}
+use Rattle.review_judging.specs.declared.facts.ChangeFacts.{ChangeFacts}
+use Rattle.review_expr.specs.{Exprs.holds_for, declared.expr.Expr.Expr}
 use Rattle.review_project.specs.View.{RequirementView}
 use Rattle.review_changes.specs.Change.{Change, Setting}
-use Rattle.review_changes.specs.Facts.{AreFacts, AreStanding, stands, vote_on}
-use Rattle.review_changes.specs.Listed.{AreListed}
+use Rattle.review_changes.specs.{Facts.AreFacts, Facts.AreStanding, Facts.stands, Facts.vote_on, Listed.AreListed}
 use Rattle.review_parts.proofs.Accounts.{accounts_tell}
 use Rattle.review_statuses.proofs.Counting.{voters_alike}
-use Rattle.review_terms.specs.Patterns.{matches_whole}
-use Rattle.review_names.specs.Forms.{components}
-use Rattle.std.specs.List.{list_any}
-use Rattle.std.specs.Str.{bytes_eq}
+use Rattle.review_terms.specs.declared.terms.RequirementTerm.TheVariants as requirement
+use Rattle.review_expr.specs.declared.expr.Expr.TheVariants as expr
+use Rattle.review_expr.specs.declared.expr.Facts.TheVariants as facts
 
 none_listed : (rows : List (ℕ × ℤ)) → ((a : ℕ) → row_in nat_cmp rows a ≡ None) → rows ≡ []
 none_listed [] none = refl

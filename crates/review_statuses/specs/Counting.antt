@@ -1,14 +1,11 @@
 -- Which accounts a `label:` term counts.
 use Rattle.std.specs.Prelude.{ℕ, ◌≡◌, Bool, true, not, ◌==◌, ◌&&◌, option_map, List, length}
 use Rattle.review_names.specs.Groups.{has_account}
-use Rattle.review_terms.specs.declared.terms.LabelTerm.{LabelTerm}
-use Rattle.review_terms.specs.declared.terms.Voters.{Voters}
-use Rattle.review_terms.specs.declared.terms.Voters.TheVariants as voters
-use Rattle.review_judging.specs.Holds.{is_count, label_holds, meets}
-use Rattle.review_judging.specs.declared.facts.ChangeFacts.{ChangeFacts}
+use Rattle.review_terms.specs.declared.terms.{LabelTerm.LabelTerm, Voters.Voters}
+use Rattle.review_judging.specs.{Holds.is_count, Holds.label_holds, Holds.meets, declared.facts.ChangeFacts.ChangeFacts}
 use Rattle.review_changes.specs.Change.{Change, Setting, current, label_in, range_of, uploader}
-use Rattle.review_changes.specs.Facts.{AreFacts}
-use Rattle.review_changes.specs.Listed.{AreThose}
+use Rattle.review_changes.specs.{Facts.AreFacts, Listed.AreThose}
+use Rattle.review_terms.specs.declared.terms.Voters.TheVariants as voters
 
 -- whether an account is among the voters that a term asks for
 abbrev pub is_asked_for : Setting → Change → Voters → ℕ → Bool

@@ -3,12 +3,10 @@ use Rattle.std.specs.Prelude.{◌≡◌}
 use Rattle.review_words.specs.declared.shown.Status.{Status}
 use Rattle.review_judging.specs.declared.facts.ChangeFacts.{ChangeFacts}
 use Rattle.review_expr.specs.declared.expr.Expr.{Expr}
-use Rattle.review_expr.specs.declared.expr.Facts.TheVariants as facts
 use Rattle.review_project.specs.View.{RequirementView}
-use Rattle.review_changes.specs.Change.{Change, Setting}
-use Rattle.review_changes.specs.Facts.{AreFacts}
-use Rattle.review_changes.specs.Status.{status_of}
+use Rattle.review_changes.specs.{Change.Change, Change.Setting, Facts.AreFacts, Status.status_of}
 use Rattle.review_parts.specs.Copies.{GroupTable, group_list}
+use Rattle.review_expr.specs.declared.expr.Facts.TheVariants as facts
 
 -- the facts with the groups of a table
 abbrev pub grouped : ChangeFacts → GroupTable → ChangeFacts

@@ -1,17 +1,10 @@
 -- Votes as the facts of a change have them.
-use Rattle.std.specs.Prelude.{ℕ, ℤ, Bool, List, Option}
-use Rattle.std.specs.BTreeMap.{BTreeMap, get}
-use Rattle.std.specs.Cmp.Lexicographic.{slice_cmp}
-use Rattle.std.specs.List.Sorted.{IsStrictlySortedBy}
-use Rattle.std.specs.Map.{keys_of}
-use Rattle.std.specs.Ordering.{nat_cmp}
+use Rattle.std.specs.{BTreeMap.BTreeMap, BTreeMap.get, Cmp.Lexicographic.slice_cmp, List.Sorted.IsStrictlySortedBy}
+use Rattle.std.specs.{Map.keys_of, Ordering.nat_cmp, Prelude.ℕ, Prelude.ℤ, Prelude.Bool, Prelude.List, Prelude.Option}
 use Rattle.review_table.specs.Rows.{row_in}
 use Rattle.review_judging.specs.Holds.{votes_on}
+use Rattle.review_changes.specs.{Facts.unless_zero, Listed.AreListed, Seen.Votes, Seen.vote_in, Votes.voted}
 use Rattle.review_changes.specs.declared.rows.VoteKey.{VoteKey}
-use Rattle.review_changes.specs.Facts.{unless_zero}
-use Rattle.review_changes.specs.Listed.{AreListed}
-use Rattle.review_changes.specs.Seen.{Votes, vote_in}
-use Rattle.review_changes.specs.Votes.{voted}
 
 -- votes by label and account
 abbrev pub VoteMap : Type 0

@@ -1,19 +1,13 @@
 //! The facts of a change.
+ghost use Rattle.std.specs.{BTreeMap.get, Cmp.Lexicographic.slice_cmp};
+ghost use Rattle.std.specs.List.{find, filter, Sorted.IsStrictlySortedBy};
+ghost use Rattle.std.specs.{Map.keys_of, Map.Iter.deref_pair, Option.option_or, Ordering.nat_cmp};
 ghost use Rattle.std.specs.Prelude.{◌≡◌, ◌==◌, ℕ, List, Some, None, [], true, false, map, option_map, if◌then◌else◌, IfOk, OnOk};
-ghost use Rattle.std.specs.BTreeMap.{get};
-ghost use Rattle.std.specs.Cmp.Lexicographic.{slice_cmp};
-ghost use Rattle.std.specs.List.{find, filter};
-ghost use Rattle.std.specs.List.Sorted.{IsStrictlySortedBy};
-ghost use Rattle.std.specs.Map.{keys_of};
-ghost use Rattle.std.specs.Map.Iter.{deref_pair};
-ghost use Rattle.std.specs.Option.{option_or};
-ghost use Rattle.std.specs.Ordering.{nat_cmp};
 ghost use Rattle.std.specs.Str.{bytes_eq};
 ghost use Rattle.review_names.specs.Groups.{GroupList};
-ghost use Rattle.review_changes.specs.Change.{last_paths, last_uploader, range_of};
-ghost use Rattle.review_changes.specs.Facts.{AreFacts};
-ghost use Rattle.review_changes.specs.Seen.{seen, vote_cmp};
 ghost use Rattle.review_table.specs.Rows.{row_in};
+ghost use Rattle.review_changes.specs.Change.{last_paths, last_uploader, range_of};
+ghost use Rattle.review_changes.specs.{Facts.AreFacts, Seen.seen, Seen.vote_cmp};
 ghost use Rattle.review_parts.specs.Tables.{is_vote, put_in};
 ghost use Rattle.review_statuses.specs.Made.{AreOrdered, AreVotesOf, is_voted, on_label, vote_at};
 

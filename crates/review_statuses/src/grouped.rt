@@ -1,8 +1,7 @@
 //! Whether a term of a submit requirement holds for a change, where tables tell who is in which group.
 ghost use Rattle.std.specs.Prelude.{◌≡◌, ◌&&◌, IfOk, count_by, Some};
+ghost use Rattle.review_terms.specs.declared.terms.{RequirementTerm.TheVariants.Label, Voters.TheVariants.Group};
 ghost use Rattle.review_judging.specs.Holds.{is_count, is_counted, label_holds, meets, range_of, requirement_holds, votes_of};
-ghost use Rattle.review_terms.specs.declared.terms.Voters.TheVariants.{Group};
-ghost use Rattle.review_terms.specs.declared.terms.RequirementTerm.TheVariants.{Label};
 ghost use Rattle.review_statuses.specs.Grouped.{grouped};
 
 use review_judging::requirement::meets;

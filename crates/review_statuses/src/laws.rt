@@ -1,8 +1,7 @@
 //! Laws of how requirements stand, as contracts of calls that do nothing.
 ghost use Rattle.std.specs.Prelude.{◌≡◌, List};
 ghost use Rattle.review_words.specs.declared.shown.ShownRequirement.{ShownRequirement};
-ghost use Rattle.review_changes.specs.Change.{Change, Setting};
-ghost use Rattle.review_changes.specs.Facts.{AreStanding};
+ghost use Rattle.review_changes.specs.{Change.Change, Change.Setting, Facts.AreStanding};
 ghost use Rattle.review_statuses.specs.Counting.{CountsEachOnce};
 
 /// A `label:` term counts accounts, each once: those whose vote on the label on the current patch set meets its comparison and who are

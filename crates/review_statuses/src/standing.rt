@@ -1,13 +1,11 @@
 //! How submit requirements stand.
-ghost use Rattle.std.specs.Prelude.{◌≡◌, map, IfOk, true, false, option_copied};
 ghost use Rattle.std.specs.Option.{option_map_or};
-ghost use Rattle.review_expr.specs.declared.expr.Facts.TheVariants as facts;
+ghost use Rattle.std.specs.Prelude.{◌≡◌, map, IfOk, true, false, option_copied};
 ghost use Rattle.review_expr.specs.Exprs.{AreTermsOf, holds_for};
-ghost use Rattle.review_changes.specs.Facts.{AreStanding, stands};
-ghost use Rattle.review_changes.specs.Seen.{seen};
-ghost use Rattle.review_changes.specs.Status.{status_of};
+ghost use Rattle.review_changes.specs.{Facts.AreStanding, Facts.stands, Seen.seen, Status.status_of};
 ghost use Rattle.review_parts.specs.Copies.{group_list};
 ghost use Rattle.review_statuses.specs.Grouped.{IsStatus, grouped};
+ghost use Rattle.review_expr.specs.declared.expr.Facts.TheVariants as facts;
 
 use crate::facts::facts_of;
 use crate::grouped::GroupedChange;

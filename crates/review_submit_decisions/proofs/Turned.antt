@@ -1,27 +1,21 @@
 -- What a submit of a chain makes of the rows.
 use Rattle.std.proofs.Common.{◌≡◌, ℕ, ◌+◌, ◌==◌, List, [], ◌∷◌, length, Option, Some, None, Bool, true, false, cond, refl, sym, ap, ◌∙◌, subst, eqb-true, arith}
-use Rattle.std.specs.Prelude.{option_map, unwrap_or}
-use Rattle.std.specs.List.{AllByRecursion}
-use Rattle.std.specs.Ordering.{nat_cmp}
+use Rattle.std.specs.{List.AllByRecursion, Ordering.nat_cmp, Prelude.option_map, Prelude.unwrap_or}
 use Rattle.review_table.specs.Rows.{after_change, change_of}
 use Rattle.review_words.specs.History.{Entry, entry_of, base_count, project_count, least_open}
 use Rattle.review_words.specs.declared.command.Command.TheVariants.{Submit}
-use Rattle.review_words.specs.declared.reply.Answer.TheVariants.{Submitted}
-use Rattle.review_words.specs.declared.reply.Reply.TheVariants.{Done}
+use Rattle.review_words.specs.declared.reply.{Answer.TheVariants.Submitted, Reply.TheVariants.Done}
 use Rattle.review_chain.specs.Places.{places_from}
-use Rattle.review_changes.specs.Change.{Change, joined_at}
-use Rattle.review_changes.specs.Parts.{Part, PartRow, part_row}
+use Rattle.review_changes.specs.{Change.Change, Change.joined_at, Parts.Part, Parts.PartRow, Parts.part_row}
+use Rattle.review_rows.proofs.Puts.{no_base, no_base_more, no_file, no_project}
 use Rattle.review_rows.specs.Answer.{IsAnswerBy}
 use Rattle.review_rows.specs.Changes.{Reading, change, joined, joining, joining_at, place_in}
 use Rattle.review_rows.specs.Known.{part_of}
 use Rattle.review_rows.specs.Rows.{Key, AccountKey, MemberKey, FileKey, BaseKey, PartKey, OddKey, APart, Count, Projects, BasesOf, ClosedEpochs, account_change, member_change, edited, after, count_after, part_change, member_cmp}
-use Rattle.review_rows.proofs.Puts.{no_base, no_base_more, no_file, no_project}
 use Rattle.review_rows.specs.View.{IsDecided, counted, fact}
-use Rattle.review_rows.specs.declared.rows.ChangeEdit.{ChangeEdit}
-use Rattle.review_rows.specs.declared.rows.Delta.{Delta}
-use Rattle.review_rows.specs.declared.rows.Rows.{Rows}
-use Rattle.review_submit_decisions.specs.Submits.{AreJoinEdits, EditsChanges, IsJoinEdit, change_at}
+use Rattle.review_rows.specs.declared.rows.{ChangeEdit.ChangeEdit, Delta.Delta, Rows.Rows}
 use Rattle.review_submit_decisions.proofs.Members.{IsMember}
+use Rattle.review_submit_decisions.specs.Submits.{AreJoinEdits, EditsChanges, IsJoinEdit, change_at}
 
 -- a change that joins at the place so far behind another, where it joins
 abbrev put_behind : ℕ → ℕ → Option ℕ → Option Change → Option Change

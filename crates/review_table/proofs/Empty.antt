@@ -1,23 +1,14 @@
 -- Which places have no row.
 use Rattle.std.proofs.Common.{◌≡◌, ℕ, ◌+◌, ◌<◌, suc, List, [], ◌∷◌, ◌++◌, Option, Some, None, IfSome, Bool, true, false, cond, ◌||◌, refl, ap, ap₂, sym, ◌∙◌, length, take, drop, get_or}
-use Rattle.std.specs.declared.cmp.Ordering.{Ordering}
-use Rattle.std.specs.declared.cmp.Ordering.TheVariants.{Equal}
-use Rattle.std.specs.Ordering.{is_eq, eq_by_cmp, ordering_reverse}
-use Rattle.std.specs.Prelude.{option_map}
-use Rattle.std.specs.Option.{IsSome, is_some}
-use Rattle.std.specs.Map.{keys_of}
-use Rattle.std.specs.List.{All, IsDistinct}
-use Rattle.std.specs.Cmp.{IsTotalOrder, eq_by_cmp_equiv, Equal-is}
-use Rattle.std.specs.BTreeMap.{is_at}
-use Rattle.std.proofs.lemmas.Cmp.{tied_itself, alike_right}
-use Rattle.std.proofs.lemmas.List.{take-append-drop, take_more}
-use Rattle.std.proofs.lemmas.List.Elements.{All-head, All-tail}
-use Rattle.std.proofs.lemmas.Map.{lookup-none}
-use Rattle.std.proofs.lemmas.Map.Keys.{IsDistinct-tail}
-use Rattle.std.proofs.lemmas.Map.Entries.{none_past_head}
-use Rattle.review_table.specs.declared.table.Change.{Change}
-use Rattle.review_table.specs.Rows.{flat, rows_of, changed, change_of, after_change, is_named, place_at, HasNoEmptyPlace}
+use Rattle.std.proofs.lemmas.{Cmp.tied_itself, Cmp.alike_right, List.take-append-drop, List.take_more}
+use Rattle.std.proofs.lemmas.{List.Elements.All-head, List.Elements.All-tail, Map.lookup-none}
+use Rattle.std.{proofs.lemmas.Map.Entries.none_past_head, proofs.lemmas.Map.Keys.IsDistinct-tail, specs.BTreeMap.is_at}
+use Rattle.std.specs.{Cmp.IsTotalOrder, Cmp.eq_by_cmp_equiv, Cmp.Equal-is, List.All, List.IsDistinct, Map.keys_of}
+use Rattle.std.specs.{Option.IsSome, Option.is_some, Ordering.is_eq, Ordering.eq_by_cmp, Ordering.ordering_reverse}
+use Rattle.std.specs.{Prelude.option_map, declared.cmp.Ordering.Ordering, declared.cmp.Ordering.TheVariants.Equal}
 use Rattle.review_table.proofs.Places.{changed_pushed}
+use Rattle.review_table.specs.Rows.{flat, rows_of, changed, change_of, after_change, is_named, place_at, HasNoEmptyPlace}
+use Rattle.review_table.specs.declared.table.Change.{Change}
 
 -- ---- equal keys have one place
 

@@ -1,17 +1,11 @@
 -- The last row between two keys.
 use Rattle.std.proofs.Common.{◌≡◌, List, [], ◌∷◌, ◌++◌, Option, Some, None, Bool, true, false, cond, refl, ap, sym, ◌∙◌, subst}
-use Rattle.std.specs.declared.cmp.Ordering.{Ordering}
-use Rattle.std.specs.declared.cmp.Ordering.TheVariants.{Less}
+use Rattle.std.{proofs.lemmas.List.Kept.IsStrictlySortedBy-filter, specs.BTreeMap.Range.range_contains}
+use Rattle.std.specs.{Cmp.IsTotalOrder, List.filter, List.Sorted.IsStrictlySortedBy, Map.keys_of}
 use Rattle.std.specs.Option.{IsSome, IfNone, IfSome}
-use Rattle.std.specs.Map.{keys_of}
-use Rattle.std.specs.List.{filter}
-use Rattle.std.specs.List.Sorted.{IsStrictlySortedBy}
-use Rattle.std.specs.Cmp.{IsTotalOrder}
-use Rattle.std.specs.BTreeMap.Range.{range_contains}
-use Rattle.std.specs.declared.ops.Bound.TheVariants.{Included}
-use Rattle.std.proofs.lemmas.List.Kept.{IsStrictlySortedBy-filter}
-use Rattle.review_table.specs.Rows.{row_in}
+use Rattle.std.specs.declared.{cmp.Ordering.Ordering, cmp.Ordering.TheVariants.Less, ops.Bound.TheVariants.Included}
 use Rattle.review_table.proofs.Places.{last_there, past_last, row_between}
+use Rattle.review_table.specs.Rows.{row_in}
 
 -- the rows whose keys lie between two
 abbrev pub between : {K X : Type 0} → (K → K → Ordering) → K → K → List (K × X) → List (K × X)

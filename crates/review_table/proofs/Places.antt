@@ -1,31 +1,23 @@
 -- Laws of places and rows.
 use Rattle.std.proofs.Common.{◌≡◌, ◌≤◌, map, subst, List, [], ◌∷◌, ◌++◌, Option, Some, None, Bool, true, false, cond, refl, ap, sym, ◌∙◌, append-nil, length, length-append, arith, ◌&&◌, not}
-use Rattle.std.specs.declared.cmp.Ordering.{Ordering}
-use Rattle.std.specs.declared.cmp.Ordering.TheVariants.{Less, Equal, Greater}
-use Rattle.std.specs.Ordering.{is_eq, match_ordering, eq_by_cmp}
-use Rattle.std.specs.Prelude.{◌↔◌}
-use Rattle.std.specs.Option.{IsSome, is_some}
-use Rattle.std.proofs.lemmas.List.Elements.{All-head, All-tail, filter-append}
-use Rattle.std.specs.Map.{lookup, keys_of, remove_entry}
-use Rattle.std.specs.List.{filter, All, AllByRecursion, IsDistinct, Contains}
-use Rattle.std.specs.List.Sorted.{IsStrictlySortedBy}
-use Rattle.std.specs.Cmp.{IsTotalOrder, eq_by_cmp_equiv, Equal-is}
-use Rattle.std.specs.Ordering.{ordering_then, ordering_reverse, is_le, is_lt}
-use Rattle.std.specs.BTreeMap.Range.{range_contains}
-use Rattle.std.specs.declared.ops.Bound.TheVariants.{Included}
 use Rattle.std.proofs.lemmas.Cmp.{tied_itself, alike_right}
-use Rattle.std.proofs.lemmas.Map.Lookups.{CmpEqualImpliesEq}
-use Rattle.std.proofs.lemmas.Map.Views.{tells_apart, Contains-from_lookup, lookup-from_Contains}
+use Rattle.std.proofs.lemmas.List.Elements.{All-head, All-tail, filter-append}
 use Rattle.std.proofs.lemmas.Map.{NonePasses, lookup-none, none_passes_from_lookup}
-use Rattle.std.proofs.lemmas.Map.Keys.{IsDistinct-head, IsDistinct-tail, IsDistinct-cons, IsDistinct-from_sorted}
 use Rattle.std.proofs.lemmas.Map.Entries.{length-keys_of, none_past_head, lookup-filter-keys}
-use Rattle.std.specs.BTreeMap.{BTreeMap, btree_map_len, is_at, insert_entry, IsFromIterResult}
-use Rattle.std.specs.Set.{distinct_count}
-use Rattle.std.specs.Option.{option_map}
+use Rattle.std.proofs.lemmas.Map.Keys.{IsDistinct-head, IsDistinct-tail, IsDistinct-cons, IsDistinct-from_sorted}
+use Rattle.std.proofs.lemmas.Map.Lookups.{CmpEqualImpliesEq}
 use Rattle.std.proofs.lemmas.Map.Made.{distinct_count-le, distinct_count-from_IsDistinct, IsDistinct-from_count, update_all_none, lookup-map_values, keys_of-map_values}
-use Rattle.std.proofs.lemmas.Map.Views.{btree_map_len-from_list}
-use Rattle.review_table.specs.declared.table.Change.{Change}
+use Rattle.std.proofs.lemmas.Map.Views.{tells_apart, Contains-from_lookup, lookup-from_Contains, btree_map_len-from_list}
+use Rattle.std.specs.BTreeMap.{BTreeMap, btree_map_len, is_at, insert_entry, IsFromIterResult, Range.range_contains}
+use Rattle.std.specs.Cmp.{IsTotalOrder, eq_by_cmp_equiv, Equal-is}
+use Rattle.std.specs.List.{filter, All, AllByRecursion, IsDistinct, Contains, Sorted.IsStrictlySortedBy}
+use Rattle.std.specs.{Map.lookup, Map.keys_of, Map.remove_entry, Option.IsSome, Option.is_some, Option.option_map}
+use Rattle.std.specs.Ordering.{is_eq, match_ordering, eq_by_cmp, ordering_then, ordering_reverse, is_le, is_lt}
+use Rattle.std.specs.{Prelude.◌↔◌, Set.distinct_count, declared.cmp.Ordering.Ordering}
+use Rattle.std.specs.declared.cmp.Ordering.TheVariants.{Less, Equal, Greater}
+use Rattle.std.specs.declared.ops.Bound.TheVariants.{Included}
 use Rattle.review_table.specs.Rows.{place_of, flat, row_at, row_in, with_row, rows_of, changed, change_of, after_change, has_place, placed, HavePlaces}
+use Rattle.review_table.specs.declared.table.Change.{Change}
 
 inserted : {K X : Type 0} (o : Ordering) (k : K) (e : K × Option X) (t rest : List (K × Option X)) (l : Option (Option X)) → cond (is_eq o) (Some e.1) l ≡ None
     → (l ≡ None → rows_of rest ≡ rows_of t) → rows_of (match_ordering o ((k, None) ∷ e ∷ t) ((e.0, None) ∷ t) (e ∷ rest)) ≡ rows_of (e ∷ t)

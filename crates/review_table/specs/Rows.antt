@@ -1,9 +1,7 @@
 -- Places by key, each with a row or none; the rows are what callers see.
+use Rattle.std.specs.{BTreeMap.is_at, List.All, List.filter, Map.lookup}
 use Rattle.std.specs.Prelude.{◌≡◌, List, [], ◌∷◌, Option, Some, None, Bool, true, is_some, if◌then◌else◌}
 use Rattle.std.specs.declared.cmp.Ordering.{Ordering}
-use Rattle.std.specs.Map.{lookup}
-use Rattle.std.specs.BTreeMap.{is_at}
-use Rattle.std.specs.List.{All, filter}
 use Rattle.review_table.specs.declared.table.Change.{Change}
 
 -- a row that may be missing twice over

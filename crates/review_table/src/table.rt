@@ -1,14 +1,9 @@
 //! A table in memory: rows by their keys.
+ghost use Rattle.std.specs.BTreeMap.{is_at, IsFromIterResult, Range.IsLeBy, Range.range_contains};
+ghost use Rattle.std.specs.List.{All, IsDistinct, filter, Sorted.IsStrictlySortedBy};
+ghost use Rattle.std.specs.{Map.keys_of, Map.Iter.deref_pair, Ordering.eq_by_cmp};
 ghost use Rattle.std.specs.Prelude.{◌≡◌, ◌∷◌, ◌++◌, ◌&&◌, List, Option, Some, None, [], IfOk, IfErr, IfNone, IfSome, IsNone, OnOk, OnErr, ◌↔◌, map, length, option_copied, option_map, if◌then◌else◌, Result, Ok, Err, IsSome, true, false};
-ghost use Rattle.std.specs.Ordering.{eq_by_cmp};
-ghost use Rattle.std.specs.List.{All, IsDistinct, filter};
-ghost use Rattle.std.specs.List.Sorted.{IsStrictlySortedBy};
-ghost use Rattle.std.specs.Map.{keys_of};
-ghost use Rattle.std.specs.Map.Iter.{deref_pair};
-ghost use Rattle.std.specs.BTreeMap.{is_at, IsFromIterResult};
-ghost use Rattle.std.specs.BTreeMap.Range.{IsLeBy, range_contains};
-ghost use Rattle.std.specs.declared.ops.Bound.TheVariants.{Included};
-ghost use Rattle.std.specs.declared.cmp.Ordering.TheVariants.{Less};
+ghost use Rattle.std.specs.declared.{cmp.Ordering.TheVariants.Less, ops.Bound.TheVariants.Included};
 ghost use Rattle.review_table.specs.Rows.{place_of, row_at, row_in, rows_of, HasEmptyOnly, HasNoEmptyPlace, HasPlace, HavePlaces, IsEmptyPlace, changed, has_place, is_named, place_at, placed};
 ghost use Rattle.review_table.specs.declared.table.BadRows.TheVariants.{Double};
 

@@ -1,14 +1,11 @@
 -- What changes leave at each key.
 use Rattle.std.proofs.Common.{◌≡◌, ◌≢◌, ◌∙◌, List, [], ◌∷◌, true, Ordering, Some, option_map, sym, ap, subst, inl, inr}
-use Rattle.std.specs.BTreeMap.{is_at}
-use Rattle.std.proofs.lemmas.Bool.{cases_Bool, both_ways}
+use Rattle.std.{proofs.lemmas.Bool.cases_Bool, proofs.lemmas.Bool.both_ways, specs.BTreeMap.is_at}
 use Rattle.sqlite_trees.specs.Tree.{Trees}
-use Rattle.review_table.specs.declared.table.Change.{Change}
-use Rattle.review_table.specs.Rows.{change_of, after_change}
-use Rattle.review_statements.specs.Content.{SparesOthers}
-use Rattle.review_tables.specs.Fronts.{IsExact, SetsParts}
-use Rattle.review_statements.specs.Search.{Search, row_at, SetsRows}
+use Rattle.review_table.specs.{Rows.change_of, Rows.after_change, declared.table.Change.Change}
+use Rattle.review_statements.specs.{Content.SparesOthers, Search.Search, Search.row_at, Search.SetsRows}
 use Rattle.review_tables.proofs.Keys.{spares_then}
+use Rattle.review_tables.specs.Fronts.{IsExact, SetsParts}
 
 module _ {A X : Type 0} (s : Search A X) where
   module _ (cmp : A → A → Ordering) (exact : IsExact cmp) where

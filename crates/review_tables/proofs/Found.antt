@@ -1,22 +1,17 @@
 -- What was found, as it reads.
 use Rattle.std.proofs.Common.{◌≡◌, ◌∙◌, ◌≤◌, List, [], ◌∷◌, map, length, not, Bool, true, false, Option, Some, None, Ok, Err, Result, IfOk, refl, sym, ap, subst, arith, slice_get, is_some, IsTrue, inl, inr}
-use Rattle.std.specs.List.{list_any, AllByRecursion}
 use Rattle.std.proofs.lemmas.List.Elements.{recursion_from_All, All-from_recursion}
-use Rattle.sqlite_rules.specs.Lists.{Has}
-use Rattle.std.specs.List.Sorted.{IsPermutation}
 use Rattle.std.proofs.lemmas.List.Sorted.{length_permutation, IsPermutation-map, All-permutation}
-use Rattle.sqlite_value.specs.Order.{Row}
-use Rattle.sqlite_trees.specs.Tree.{Trees}
+use Rattle.std.specs.List.{list_any, AllByRecursion, Sorted.IsPermutation}
+use Rattle.sqlite.proofs.{Callers.one_permutation, StateLemmas.survives_then}
+use Rattle.sqlite.specs.{Effect.Database, State.State, State.HasCleanDisk, declared.error.Error.Error}
 use Rattle.sqlite_keyed.proofs.ListLemmas.{IsPermutation-filter, none_counted, map-map}
-use Rattle.sqlite.specs.Effect.{Database}
-use Rattle.sqlite.specs.State.{State, HasCleanDisk}
-use Rattle.sqlite.proofs.StateLemmas.{survives_then}
-use Rattle.review_tables.proofs.Sequences.{keeps_then}
-use Rattle.sqlite.specs.declared.error.Error.{Error}
-use Rattle.sqlite.proofs.Callers.{one_permutation}
-use Rattle.review_statements.specs.Ran.{Looks}
+use Rattle.sqlite_rules.specs.Lists.{Has}
+use Rattle.sqlite_trees.specs.Tree.{Trees}
+use Rattle.sqlite_value.specs.Order.{Row}
+use Rattle.review_statements.specs.{Greatest.HasOne, Greatest.first_as, Ran.Looks}
 use Rattle.review_statements.specs.Search.{Search, shown, reads, only, row_at, rows_at, Finds, WereRead, AreFound}
-use Rattle.review_statements.specs.Greatest.{HasOne, first_as}
+use Rattle.review_tables.proofs.Sequences.{keeps_then}
 
 -- one row of a table is shown as one row
 only_shown : {X : Type 0} (f : Row → Row) (read : Row → Option X) (xs ys : List Row) → IsPermutation (map f xs) ys → only read ys ≡ only (λ r. read (f r)) xs

@@ -1,32 +1,22 @@
 -- Rowids that were read, and what they say of the rows of a table.
 use Rattle.std.proofs.Common.{◌≡◌, ◌∙◌, ◌&&◌, ℕ, zero, suc, ℤ, ◌+◌, ◌≤◌, List, [], ◌∷◌, ◌++◌, take, drop, map, length, Bool, true, false, cond, nat_eq, eqb-true, eq-eqb, Some, None, refl, sym, ap, subst, IsTrue, arith, inl, inr}
-use Rattle.std.specs.Bool.{Decides}
-use Rattle.std.specs.List.{AllByRecursion, IsDistinct, dedup, dedup_from}
-use Rattle.std.specs.List.Retain.{IsFiltered, DiffersFromLast}
-use Rattle.std.specs.List.Sorted.{IsPermutation, IsSorted}
-use Rattle.std.specs.Ordering.{int_cmp, int_eq, is_eq}
-use Rattle.std.proofs.lemmas.Bool.{or_parts, cases_Bool}
-use Rattle.std.proofs.lemmas.Bool.Decides.{Decides-and, Decides-like}
+use Rattle.std.proofs.lemmas.Bool.{or_parts, cases_Bool, Decides.Decides-and, Decides.Decides-like}
 use Rattle.std.proofs.lemmas.Cmp.{int_cmp_total, int_eq_equiv}
-use Rattle.std.proofs.lemmas.List.Filters.{dedup_is}
-use Rattle.std.proofs.lemmas.List.Kept.{IsStrictlySortedBy-dedup}
+use Rattle.std.proofs.lemmas.List.{Filters.dedup_is, Kept.IsStrictlySortedBy-dedup}
 use Rattle.std.proofs.lemmas.List.Sorted.{IsPermutation-sym, IsPermutation-map, length_permutation}
 use Rattle.std.proofs.lemmas.Map.Keys.{IsDistinct-from_sorted, IsDistinct-IsPermutation}
-use Rattle.sqlite_value.specs.declared.value.Value.{Value}
-use Rattle.sqlite_value.specs.declared.value.Value.TheVariants.{Int}
-use Rattle.sqlite_value.specs.Order.{Row, column}
-use Rattle.sqlite_value.proofs.OrderLemmas.{value_cmp-Int}
-use Rattle.sqlite_trees.specs.Tree.{Trees, rowid}
-use Rattle.sqlite_trees.specs.View.{is_int}
-use Rattle.sqlite_trees.proofs.ListLemmas.{all-permutation}
-use Rattle.sqlite_rules.specs.Edit.{is_taken}
+use Rattle.std.specs.{Bool.Decides, List.AllByRecursion, List.IsDistinct, List.dedup, List.dedup_from}
+use Rattle.std.specs.List.{Retain.IsFiltered, Retain.DiffersFromLast, Sorted.IsPermutation, Sorted.IsSorted}
+use Rattle.std.specs.Ordering.{int_cmp, int_eq, is_eq}
 use Rattle.sqlite_keyed.proofs.ListLemmas.{map-map}
-use Rattle.review_statements.specs.Content.{AreApart}
-use Rattle.review_statements.specs.Desk.{desk_tables, table_at}
+use Rattle.sqlite_rules.specs.Edit.{is_taken}
 use Rattle.sqlite_schema.specs.declared.schema.Table.{Table}
-use Rattle.review_tables.specs.Rowids.{firsts, is_same, AreOwn, AreIds}
-use Rattle.review_statements.specs.Search.{FindsIds}
+use Rattle.sqlite_trees.{proofs.ListLemmas.all-permutation, specs.Tree.Trees, specs.Tree.rowid, specs.View.is_int}
+use Rattle.sqlite_value.{proofs.OrderLemmas.value_cmp-Int, specs.Order.Row, specs.Order.column}
+use Rattle.sqlite_value.specs.declared.value.Value.{Value, TheVariants.Int}
 use Rattle.review_statements.proofs.Lists.{eq_back}
+use Rattle.review_statements.specs.{Content.AreApart, Desk.desk_tables, Desk.table_at, Search.FindsIds}
+use Rattle.review_tables.specs.Rowids.{firsts, is_same, AreOwn, AreIds}
 
 int_back : (m n : ℤ) → int_eq m n ≡ int_eq n m
 int_back m n = int_eq_equiv.symm m n

@@ -1,16 +1,12 @@
 -- Rows at keys.
 use Rattle.std.proofs.Common.{◌≡◌, ◌≢◌, ◌∙◌, ◌+◌, ℕ, ℤ, pos, List, [], ◌∷◌, filter, length, Bool, true, false, not, Ordering, Less, Equal, Greater, Some, None, refl, sym, ap, inl, inr, arith}
+use Rattle.std.proofs.lemmas.{Bool.cases_Bool, Bool.both_ways, Cmp.tied_itself, Map.Lookups.exact_bytes}
 use Rattle.std.specs.Ordering.{is_eq}
-use Rattle.std.proofs.lemmas.Bool.{cases_Bool, both_ways}
-use Rattle.std.proofs.lemmas.Cmp.{tied_itself}
-use Rattle.std.proofs.lemmas.Map.Lookups.{exact_bytes}
-use Rattle.sqlite_value.specs.declared.value.Value.{Value}
-use Rattle.sqlite_value.specs.declared.value.Value.TheVariants.{Null, Int, Real, Text, Blob}
-use Rattle.sqlite_value.specs.Order.{Row, value_cmp}
-use Rattle.sqlite_value.proofs.OrderLemmas.{value_cmp_total, value_cmp-Int, value_cmp-Text}
+use Rattle.sqlite_keyed.proofs.{KeyedLemmas.same_int as whole, ListLemmas.filter-filter}
 use Rattle.sqlite_trees.specs.Tree.{Trees}
-use Rattle.sqlite_keyed.proofs.ListLemmas.{filter-filter}
-use Rattle.sqlite_keyed.proofs.KeyedLemmas.{same_int as whole}
+use Rattle.sqlite_value.proofs.OrderLemmas.{value_cmp_total, value_cmp-Int, value_cmp-Text}
+use Rattle.sqlite_value.specs.{Order.Row, Order.value_cmp, declared.value.Value.Value}
+use Rattle.sqlite_value.specs.declared.value.Value.TheVariants.{Null, Int, Real, Text, Blob}
 use Rattle.review_statements.specs.Content.{has_key, is_value, Adds, Removes, Sets, SparesOthers, Then}
 use Rattle.review_statements.specs.Search.{At, Search, reads, only, Form, IsLawful, Puts, SetsRow}
 

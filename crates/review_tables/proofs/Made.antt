@@ -1,46 +1,29 @@
 -- What a fixed CREATE TABLE does.
-use Rattle.std.proofs.Common.{◌≡◌, ◌<◌, ℕ, zero, suc, List, [], false, None, Ok, refl, sym, ap, subst, subst₂, ◌∙◌, map, take, length, slice_index_or, append-nil, arith}
-use Rattle.std.proofs.lemmas.List.{append_assoc}
-use Rattle.std.proofs.Common.{◌∷◌, ◌++◌, true, inl, inr, eqb, eqb-true}
-use Rattle.std.proofs.lemmas.Bool.{or_cases, and_parts}
-use Rattle.sqlite_trees.specs.Tree.{Trees}
-use Rattle.review_statements.specs.Content.{AreApart}
-use Rattle.review_statements.specs.Desk.{desk_schema}
-use Rattle.review_statements.specs.Desk.{schema_of, schema_0, tables_1, tables_2}
-use Rattle.review_statements.specs.declared.texts.TheConstants.{CREATE}
-use Rattle.review_statements.proofs.TextsOfTables.{◌also◌}
-use Rattle.sqlite_schema.specs.declared.schema.Table.{Table}
-use Rattle.sqlite_schema.specs.declared.schema.Schema.{Schema}
-use Rattle.sqlite_schema.specs.declared.command.Command.TheVariants.{CreateTable}
-use Rattle.sqlite_resolve.specs.Compile.{table_defined_by}
-use Rattle.sqlite_catalog.specs.Change.{created, next_tree, KeepsRows}
-use Rattle.sqlite.specs.Effect.{Database, IsDatabase}
-use Rattle.sqlite.specs.Does.{Tally, lacks_sequence}
-use Rattle.sqlite.specs.Listing.{understood}
-use Rattle.sqlite.specs.State.{State, Executes, Writes}
-use Rattle.sqlite.proofs.Callers.{IsPlain, command_of, statement_of, runs_as}
-use Rattle.sqlite_tied.specs.Compute.{everything}
-use Rattle.review_tables.specs.Made.{MakesText, IsBlank, IsMade, MakesBy, Grows}
-use Rattle.std.proofs.Common.{Bool}
-use Rattle.std.specs.Bool.{Decides}
-use Rattle.sqlite_trees.specs.declared.memory.MemStore.{MemStore}
-use Rattle.sqlite.specs.Held.{Held, state}
+use Rattle.std.proofs.Common.{◌≡◌, ◌<◌, ℕ, zero, suc, List, [], false, None, Ok, refl, sym, ap, subst, subst₂, ◌∙◌, map, take, length, slice_index_or, append-nil, arith, ◌∷◌, ◌++◌, true, inl, inr, eqb, eqb-true, Bool}
+use Rattle.std.proofs.lemmas.{Bool.or_cases, Bool.and_parts, List.append_assoc}
+use Rattle.std.specs.{Bool.Decides, List.AllByRecursion, List.list_all, List.list_any}
+use Rattle.sqlite.proofs.Callers.{IsPlain, command_of, statement_of, runs_as, memory_is_clean}
+use Rattle.sqlite.specs.{Does.Tally, Does.lacks_sequence, Effect.Database, Effect.IsDatabase, Held.Held, Held.state}
+use Rattle.sqlite.specs.{Listing.understood, State.State, State.Executes, State.Writes}
 use Rattle.sqlite.specs.Steps.{over_memory, IsEmpty}
-use Rattle.sqlite.proofs.Callers.{memory_is_clean}
-use Rattle.review_statements.specs.Desk.{simple}
-use Rattle.review_tables.specs.Plain.{IsPlainColumn, IsPlainForm, IsPlainSchema}
-use Rattle.review_statements.specs.Ran.{IsReady, Transacts}
-use Rattle.std.specs.List.{AllByRecursion, list_all, list_any}
+use Rattle.sqlite_catalog.specs.Change.{created, next_tree, KeepsRows}
+use Rattle.sqlite_resolve.specs.Compile.{table_defined_by}
+use Rattle.sqlite_schema.specs.declared.command.Command.TheVariants.{CreateTable}
+use Rattle.sqlite_schema.specs.declared.schema.{Column.Column, Schema.Schema, Table.Table}
+use Rattle.sqlite_sql.specs.Ops.{is_null}
+use Rattle.sqlite_tied.specs.Compute.{everything}
+use Rattle.sqlite_trees.specs.{Tree.Trees, declared.memory.MemStore.MemStore}
 use Rattle.sqlite_value.specs.declared.value.Value.{Value}
 use Rattle.sqlite_value.specs.declared.value.Value.TheVariants.{Null, Int, Real, Text, Blob}
-use Rattle.sqlite_sql.specs.Ops.{is_null}
-use Rattle.sqlite_schema.specs.declared.schema.Column.{Column}
-use Rattle.review_statements.proofs.Changes.{IsSimple, are_simple}
-use Rattle.review_tables.specs.declared.versions.TablesVersion.{TablesVersion}
-use Rattle.review_tables.specs.declared.versions.TablesVersion.TheVariants.{First, Second, Third}
-use Rattle.review_tables.specs.Versions.{schema_at}
-use Rattle.review_statements.proofs.Statements.{went, same_value}
+use Rattle.review_statements.proofs.{Changes.IsSimple, Changes.are_simple, Statements.went, Statements.same_value}
+use Rattle.review_statements.{proofs.TextsOfTables.◌also◌, specs.Content.AreApart}
+use Rattle.review_statements.specs.Desk.{desk_schema, schema_of, schema_0, tables_1, tables_2, simple}
+use Rattle.review_statements.specs.{Ran.IsReady, Ran.Transacts, declared.texts.TheConstants.CREATE}
 use Rattle.review_tables.proofs.Sequences.{Next}
+use Rattle.review_tables.specs.Made.{MakesText, IsBlank, IsMade, MakesBy, Grows}
+use Rattle.review_tables.specs.Plain.{IsPlainColumn, IsPlainForm, IsPlainSchema}
+use Rattle.review_tables.specs.{Versions.schema_at, declared.versions.TablesVersion.TablesVersion}
+use Rattle.review_tables.specs.declared.versions.TablesVersion.TheVariants.{First, Second, Third}
 
 -- a table is made, and the others keep their rows
 pub record Makes (schema : Schema) (table : Table) (old new : State) : Type 0 where

@@ -1,21 +1,19 @@
 -- What is found of an owner's rows, as it reads.
-use Rattle.std.proofs.lemmas.List.{length-map, length-append, map-append, append-nil, take_more, take-append-drop}
 use Rattle.std.proofs.Common.{◌≤◌, ◌<◌, ◌+◌, ◌||◌, ℕ, zero, suc, not, is_some, drop, get_or, take, ◌≡◌, ◌∙◌, List, [], ◌∷◌, ◌++◌, Bool, true, false, Ordering, Option, Some, None, option_map, option_to_list, cond, map, filter, length, refl, sym, ap, subst, inl, inr, arith}
-use Rattle.std.specs.BTreeMap.{is_at}
-use Rattle.std.specs.List.{AllByRecursion, list_any}
-use Rattle.std.specs.List.Sorted.{IsPermutation}
 use Rattle.std.proofs.lemmas.Bool.{cases_Bool, both_ways, or_right}
-use Rattle.review_tables.proofs.Found.{all_found}
-use Rattle.std.proofs.lemmas.List.Sorted.{length_permutation, IsPermutation-map, All-permutation, IsPermutation-sym}
+use Rattle.std.proofs.lemmas.List.{length-map, length-append, map-append, append-nil, take_more, take-append-drop}
 use Rattle.std.proofs.lemmas.List.Elements.{filter-append, recursion_from_All, All-from_recursion}
-use Rattle.sqlite_value.specs.Order.{Row}
-use Rattle.sqlite_trees.specs.Tree.{Trees}
-use Rattle.sqlite_keyed.proofs.ListLemmas.{IsPermutation-filter, filter-map, filter-filter, map-map, all_unmap}
+use Rattle.std.proofs.lemmas.List.Sorted.{length_permutation, IsPermutation-map, All-permutation, IsPermutation-sym}
+use Rattle.std.specs.{BTreeMap.is_at, List.AllByRecursion, List.list_any, List.Sorted.IsPermutation}
 use Rattle.sqlite.proofs.Callers.{one_permutation}
+use Rattle.sqlite_keyed.proofs.ListLemmas.{IsPermutation-filter, filter-map, filter-filter, map-map, all_unmap}
+use Rattle.sqlite_trees.specs.Tree.{Trees}
+use Rattle.sqlite_value.specs.Order.{Row}
 use Rattle.review_table.specs.Rows.{row_in}
 use Rattle.review_statements.specs.Content.{has_key}
-use Rattle.review_tables.specs.Fronts.{IsFront, IsExact, WereApart, WereSorted, HasTwins, AreParts, HaveRows, is_of, at_key}
 use Rattle.review_statements.specs.Search.{Search, HasOdd, shown, reads, row_at, only, rows_at, Finds}
+use Rattle.review_tables.proofs.Found.{all_found}
+use Rattle.review_tables.specs.Fronts.{IsFront, IsExact, WereApart, WereSorted, HasTwins, AreParts, HaveRows, is_of, at_key}
 
 -- it is there
 abbrev IsThere : {X : Type 0} → Option X → Type 0

@@ -1,20 +1,13 @@
 -- Statements one after the other, and the transaction around them.
-use Rattle.std.proofs.Common.{◌≡◌, ◌∙◌, ◌⊎◌, inl, inr, ℕ, List, true, false, refl, sym, ap, subst, IsTrue, Ok, Err, Result, OnOk, OnErr, IfErr, arith}
-use Rattle.std.proofs.Common.{[]}
-use Rattle.sqlite.specs.Effect.{Database}
-use Rattle.sqlite_value.specs.Order.{Row}
-use Rattle.sqlite_trees.specs.Tree.{Trees}
-use Rattle.sqlite.specs.declared.error.Error.{Error}
-use Rattle.sqlite.specs.Steps.{FailsToCommit}
-use Rattle.std.proofs.Common.{Option, Some, None, IfOk}
-use Rattle.sqlite_schema.specs.declared.command.Returning.{Returning}
-use Rattle.sqlite.specs.Clock.{timed}
-use Rattle.sqlite.specs.Listing.{understood}
-use Rattle.sqlite.proofs.Callers.{IsPlain}
-use Rattle.review_statements.specs.Desk.{desk_schema}
+use Rattle.std.proofs.Common.{◌≡◌, ◌∙◌, ◌⊎◌, inl, inr, ℕ, List, true, false, refl, sym, ap, subst, IsTrue, Ok, Err, Result, OnOk, OnErr, IfErr, arith, [], Option, Some, None, IfOk}
+use Rattle.sqlite.proofs.{Callers.IsPlain, StateLemmas.survives_then}
+use Rattle.sqlite.specs.{Clock.timed, Effect.Database, Listing.understood}
 use Rattle.sqlite.specs.State.{FailsToQuery, FailsToShow, Shown, ShowsRows, IsNotRun, IsTooLate, State, HasCleanDisk, Survives, KeepsCommit, IsUnchanged, IsRolledBack, Executes, ExecutesInside, Shows, KeepsCounts}
-use Rattle.sqlite.proofs.StateLemmas.{survives_then}
-use Rattle.review_statements.specs.Content.{Then}
+use Rattle.sqlite.specs.{Steps.FailsToCommit, declared.error.Error.Error}
+use Rattle.sqlite_schema.specs.declared.command.Returning.{Returning}
+use Rattle.sqlite_trees.specs.Tree.{Trees}
+use Rattle.sqlite_value.specs.Order.{Row}
+use Rattle.review_statements.specs.{Content.Then, Desk.desk_schema}
 use Rattle.review_statements.specs.Ran.{IsReady, IsDeskIfOpen, Within, OnDesk, Inside, Transacts, Looks, Serves}
 
 kept_unchanged : (old new : State) → IsUnchanged old new ⊎ IsRolledBack old new → KeepsCommit old new

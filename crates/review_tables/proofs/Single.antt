@@ -1,24 +1,17 @@
 -- No two rows of a table have one UNIQUE key.
 use Rattle.std.proofs.Common.{◌≡◌, ◌∙◌, ◌≤◌, inl, inr, ℤ, List, [], ◌∷◌, filter, length, Bool, true, false, not, Ordering, Less, Equal, Greater, refl, sym, ap, subst, IsTrue, arith}
-use Rattle.std.specs.List.{list_any}
-use Rattle.std.specs.Ordering.{is_eq, is_ne}
 use Rattle.std.proofs.lemmas.Bool.{cases_Bool, or_parts, both_ways}
-use Rattle.sqlite_value.specs.declared.value.Value.{Value}
-use Rattle.sqlite_value.specs.declared.value.Value.TheVariants.{Null, Int, Real, Text, Blob}
-use Rattle.sqlite_value.specs.declared.keys.Collation.TheVariants.{Binary}
-use Rattle.sqlite_value.specs.Order.{Row, value_cmp}
-use Rattle.sqlite_value.proofs.OrderLemmas.{value_cmp-Null}
-use Rattle.sqlite_trees.specs.Tree.{rowid}
-use Rattle.sqlite_trees.specs.View.{is_int}
-use Rattle.sqlite_sql.specs.Ops.{binary, is_null}
+use Rattle.std.specs.{List.list_any, Ordering.is_eq, Ordering.is_ne}
+use Rattle.sqlite_rules.{proofs.TableLemmas.int_is, specs.Edit.is_taken, specs.Edit.id_in, specs.Lists.Has}
 use Rattle.sqlite_schema.specs.Rules.{equal, differ}
-use Rattle.sqlite_rules.specs.Lists.{Has}
-use Rattle.sqlite_rules.specs.Edit.{is_taken, id_in}
-use Rattle.sqlite_rules.proofs.TableLemmas.{int_is}
+use Rattle.sqlite_sql.specs.Ops.{binary, is_null}
+use Rattle.sqlite_trees.specs.{Tree.rowid, View.is_int}
+use Rattle.sqlite_value.{proofs.OrderLemmas.value_cmp-Null, specs.Order.Row, specs.Order.value_cmp}
+use Rattle.sqlite_value.specs.declared.{keys.Collation.TheVariants.Binary, value.Value.Value}
+use Rattle.sqlite_value.specs.declared.value.Value.TheVariants.{Null, Int, Real, Text, Blob}
+use Rattle.review_statements.proofs.{Lists.eq_back, Meaning.equals, Meaning.told_true}
 use Rattle.review_statements.specs.Content.{AreApart}
 use Rattle.review_tables.proofs.Keys.{same_value}
-use Rattle.review_statements.proofs.Lists.{eq_back}
-use Rattle.review_statements.proofs.Meaning.{equals, told_true}
 
 there : (v w : Value) → is_null w ≡ false → is_eq (value_cmp v w) ≡ true → is_null v ≡ false
 there Null w some is = absurd (let e = rw (value_cmp-Null-apart w some) at is in cc)

@@ -1,11 +1,10 @@
 -- Rows that are looked up by the front of their keys: those of an owner.
+use Rattle.std.specs.BTreeMap.{is_at}
 use Rattle.std.specs.Prelude.{◌≡◌, ◌<◌, ◌⊎◌, Bool, true, false, List, [], ◌∷◌, map, filter, length, Option, Some, None, option_map, option_to_list}
 use Rattle.std.specs.declared.cmp.Ordering.{Ordering}
-use Rattle.std.specs.BTreeMap.{is_at}
-use Rattle.sqlite_value.specs.Order.{Row as Raw}
 use Rattle.sqlite_trees.specs.Tree.{Trees}
-use Rattle.review_table.specs.declared.table.Change.{Change}
-use Rattle.review_table.specs.Rows.{row_in}
+use Rattle.sqlite_value.specs.Order.{Row as Raw}
+use Rattle.review_table.specs.{Rows.row_in, declared.table.Change.Change}
 use Rattle.review_statements.specs.Content.{has_key}
 use Rattle.review_statements.specs.Search.{Search, HasOdd, reads, row_at, rows_at, SetsRow}
 

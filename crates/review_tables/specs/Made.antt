@@ -1,16 +1,11 @@
 -- Tables that are made one after the other.
-use Rattle.std.specs.Prelude.{ℕ, ◌≡◌, false, Ok, List, []}
-use Rattle.std.specs.List.{AllByRecursion}
-use Rattle.sqlite_schema.specs.declared.schema.Table.{Table}
-use Rattle.sqlite_schema.specs.declared.schema.Schema.{Schema}
-use Rattle.sqlite_schema.specs.declared.command.Command.TheVariants.{CreateTable}
-use Rattle.sqlite_resolve.specs.Compile.{table_defined_by}
-use Rattle.sqlite_catalog.specs.Change.{created, next_tree, KeepsRows}
-use Rattle.sqlite.specs.Effect.{Database, IsDatabase}
-use Rattle.sqlite.specs.Does.{lacks_sequence}
-use Rattle.sqlite.specs.Given.{IsPlain}
-use Rattle.sqlite.specs.Listing.{understood}
+use Rattle.std.specs.{List.AllByRecursion, Prelude.ℕ, Prelude.◌≡◌, Prelude.false, Prelude.Ok, Prelude.List, Prelude.[]}
 use Rattle.sqlite.proofs.Callers.{command_of, statement_of}
+use Rattle.sqlite.specs.{Does.lacks_sequence, Effect.Database, Effect.IsDatabase, Given.IsPlain, Listing.understood}
+use Rattle.sqlite_catalog.specs.Change.{created, next_tree, KeepsRows}
+use Rattle.sqlite_resolve.specs.Compile.{table_defined_by}
+use Rattle.sqlite_schema.specs.declared.command.Command.TheVariants.{CreateTable}
+use Rattle.sqlite_schema.specs.declared.schema.{Schema.Schema, Table.Table}
 
 -- a text makes this table, and this schema of that one
 pub record MakesText (sql : List ℕ) (schema : Schema) (table : Table) (after : Schema) : Type 0 where

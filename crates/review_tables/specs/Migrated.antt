@@ -1,12 +1,10 @@
 -- From the tables of one version to those of the next.
-use Rattle.std.specs.Prelude.{ℕ, ◌≡◌, ◌≢◌, false, List, []}
-use Rattle.std.specs.List.{AllByRecursion}
+use Rattle.std.specs.{List.AllByRecursion, Prelude.ℕ, Prelude.◌≡◌, Prelude.◌≢◌, Prelude.false, Prelude.List, Prelude.[]}
 use Rattle.sqlite.specs.Effect.{Database, IsDatabase}
 use Rattle.sqlite_trees.specs.Tree.{Trees}
-use Rattle.review_statements.specs.Content.{AreApart}
-use Rattle.review_statements.specs.Desk.{desk_schema, desk_tables, epochs, schema_of}
-use Rattle.review_statements.specs.Moved.{AreMoved, Drops, Fills, Move, with_both}
 use Rattle.review_statements.proofs.TextsOfMoves.{DropsText, FillsText}
+use Rattle.review_statements.specs.{Content.AreApart, Desk.desk_schema, Desk.desk_tables, Desk.epochs, Desk.schema_of}
+use Rattle.review_statements.specs.Moved.{AreMoved, Drops, Fills, Move, with_both}
 use Rattle.review_tables.specs.Versions.{is_new, moves_since, schema_at, tables_since, version_of}
 use Rattle.review_tables.specs.declared.versions.EarlierVersion.{EarlierVersion}
 

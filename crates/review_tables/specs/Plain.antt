@@ -1,10 +1,7 @@
 -- Schemas with nothing but columns, keys and uniqueness.
-use Rattle.std.specs.Prelude.{◌≡◌, []}
-use Rattle.std.specs.List.{AllByRecursion}
+use Rattle.std.specs.{List.AllByRecursion, Prelude.◌≡◌, Prelude.[]}
+use Rattle.sqlite_schema.specs.declared.schema.{Column.Column, Schema.Schema, Table.Table}
 use Rattle.sqlite_value.specs.declared.value.Value.TheVariants.{Null}
-use Rattle.sqlite_schema.specs.declared.schema.Column.{Column}
-use Rattle.sqlite_schema.specs.declared.schema.Table.{Table}
-use Rattle.sqlite_schema.specs.declared.schema.Schema.{Schema}
 
 -- a column with no default
 abbrev pub IsPlainColumn : Column → Type 0

@@ -1,11 +1,9 @@
 -- Rowids as they are read.
+use Rattle.std.specs.{List.AllByRecursion, List.IsDistinct, List.list_any, Ordering.is_eq}
 use Rattle.std.specs.Prelude.{ℤ, ◌≡◌, Bool, true, false, not, List, map, Option, Some, None, IsTrue}
-use Rattle.std.specs.List.{AllByRecursion, IsDistinct, list_any}
-use Rattle.std.specs.Ordering.{is_eq}
-use Rattle.sqlite_value.specs.declared.value.Value.{Value}
-use Rattle.sqlite_value.specs.declared.value.Value.TheVariants.{Int}
-use Rattle.sqlite_value.specs.Order.{Row, column, value_cmp}
 use Rattle.sqlite_trees.specs.View.{is_int}
+use Rattle.sqlite_value.specs.Order.{Row, column, value_cmp}
+use Rattle.sqlite_value.specs.declared.value.Value.{Value, TheVariants.Int}
 
 -- the values of the first column
 abbrev pub firsts : List Row → List Value

@@ -1,14 +1,11 @@
 -- The versions of the tables.
-use Rattle.std.specs.Prelude.{ℕ, ◌==◌, Bool, List, [], ◌∷◌}
-use Rattle.std.specs.List.{list_any}
-use Rattle.sqlite_schema.specs.declared.schema.Schema.{Schema}
-use Rattle.sqlite_schema.specs.declared.schema.Table.{Table}
+use Rattle.std.specs.{List.list_any, Prelude.ℕ, Prelude.◌==◌, Prelude.Bool, Prelude.List, Prelude.[], Prelude.◌∷◌}
+use Rattle.sqlite_schema.specs.declared.schema.{Schema.Schema, Table.Table}
 use Rattle.review_statements.specs.Desk.{answers_3, desk_schema, epochs, projects_2, schema_1, schema_2}
 use Rattle.review_statements.specs.Moved.{Move, answers_move, projects_move}
-use Rattle.review_tables.specs.declared.versions.EarlierVersion.{EarlierVersion}
-use Rattle.review_tables.specs.declared.versions.EarlierVersion.TheVariants as earlier
-use Rattle.review_tables.specs.declared.versions.TablesVersion.{TablesVersion}
+use Rattle.review_tables.specs.declared.versions.{EarlierVersion.EarlierVersion, TablesVersion.TablesVersion}
 use Rattle.review_tables.specs.declared.versions.TablesVersion.TheVariants.{First, Second, Third}
+use Rattle.review_tables.specs.declared.versions.EarlierVersion.TheVariants as earlier
 
 -- the schema of the tables of a version
 abbrev pub schema_at : TablesVersion → Schema

@@ -1,8 +1,7 @@
 //! What a table has at a key is changed, whatever the table.
 ghost use Rattle.std.specs.Prelude.{◌≡◌, Some};
 ghost use Rattle.sqlite.specs.Held.{state};
-ghost use Rattle.review_statements.specs.Ran.{Inside, Opens};
-ghost use Rattle.review_statements.specs.Search.{SetsRow, SetsRows};
+ghost use Rattle.review_statements.specs.{Ran.Inside, Ran.Opens, Search.SetsRow, Search.SetsRows};
 
 use crate::table::{Table, insert, remove};
 use review_table::Change;

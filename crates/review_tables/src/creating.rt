@@ -1,11 +1,8 @@
 //! The tables of a version are made, and known again.
-ghost use Rattle.std.specs.Prelude.{◌≡◌, false, IfOk};
-ghost use Rattle.std.specs.Bool.{Decides};
+ghost use Rattle.std.specs.{Bool.Decides, Prelude.◌≡◌, Prelude.false, Prelude.IfOk};
 ghost use Rattle.sqlite.specs.Held.{state};
-ghost use Rattle.review_statements.specs.Desk.{schema_0};
-ghost use Rattle.review_statements.specs.Ran.{Within, Opens, Transacts};
-ghost use Rattle.review_tables.specs.Made.{Grows};
-ghost use Rattle.review_tables.specs.Versions.{schema_at};
+ghost use Rattle.review_statements.specs.{Desk.schema_0, Ran.Within, Ran.Opens, Ran.Transacts};
+ghost use Rattle.review_tables.specs.{Made.Grows, Versions.schema_at};
 
 use crate::making::make_first_tables;
 use crate::migrating::{migrate_tables, move_projects};

@@ -2,9 +2,8 @@
 ghost use Rattle.std.specs.Prelude.{◌≡◌, option_map, IfOk};
 ghost use Rattle.sqlite.specs.Held.{state};
 ghost use Rattle.review_table.specs.Rows.{rows_of};
+ghost use Rattle.review_statements.specs.{Ran.Inside, Ran.Looks, Ran.Opens, Search.SetsRow};
 ghost use Rattle.review_tables.specs.Fronts.{AreParts, WereSorted, SetsParts};
-ghost use Rattle.review_statements.specs.Ran.{Inside, Looks, Opens};
-ghost use Rattle.review_statements.specs.Search.{SetsRow};
 
 use crate::changes::change;
 use crate::table::{Lookup, Table, select};

@@ -2,8 +2,7 @@
 ghost use Rattle.std.specs.Prelude.{◌≡◌, IfOk};
 ghost use Rattle.sqlite.specs.Held.{state};
 ghost use Rattle.review_statements.specs.Greatest.{first_as, FindsGreatest, HasGreatest};
-ghost use Rattle.review_statements.specs.Ran.{Looks};
-ghost use Rattle.review_statements.specs.Texts.{values_of};
+ghost use Rattle.review_statements.specs.{Ran.Looks, Texts.values_of};
 
 use crate::bound::Bound;
 use sqlite::{Alter, Error, Row, Transaction};
@@ -12,8 +11,7 @@ use std::alloc::{AllocError, Global};
 /// A look-up of the row with the greatest value of a column.
 pub trait Greatest {
     ghost use Rattle.std.specs.Prelude.{ℕ, List};
-    ghost use Rattle.review_statements.specs.Search.{Search};
-    ghost use Rattle.review_statements.specs.Texts.{Asks, last_where};
+    ghost use Rattle.review_statements.specs.{Search.Search, Texts.Asks, Texts.last_where};
 
     /// The values that are asked for.
     type Key;

@@ -2,9 +2,8 @@
 ghost use Rattle.std.specs.Prelude.{◌≡◌, ◌<◌, ℕ, List, map, slice_index_or};
 ghost use Rattle.sqlite.specs.Held.{state};
 ghost use Rattle.review_statements.specs.Desk.{schema_0, schema_1};
-ghost use Rattle.review_statements.specs.declared.texts.TheConstants.{CREATE};
+ghost use Rattle.review_statements.specs.{Ran.Within, Ran.Opens, declared.texts.TheConstants.CREATE};
 ghost use Rattle.review_tables.specs.Made.{MakesBy, Grows};
-ghost use Rattle.review_statements.specs.Ran.{Within, Opens};
 
 use review_statements::texts;
 use sqlite::{Alter, Error, Transaction};

@@ -1,8 +1,7 @@
 //! Tables of an earlier version become those of the latest, a version after the other.
 ghost use Rattle.std.specs.Prelude.{◌≡◌};
 ghost use Rattle.sqlite.specs.Held.{state};
-ghost use Rattle.review_statements.specs.Moved.{answers_move, projects_move};
-ghost use Rattle.review_statements.specs.Ran.{Within, Opens};
+ghost use Rattle.review_statements.specs.{Moved.answers_move, Moved.projects_move, Ran.Within, Ran.Opens};
 ghost use Rattle.review_tables.specs.Migrated.{DropsBy, FillsBy, Migrates, Moves};
 ghost use Rattle.review_tables.specs.declared.versions.EarlierVersion.TheVariants as earlier;
 

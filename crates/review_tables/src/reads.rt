@@ -1,8 +1,7 @@
 //! What a look-up finds is read, whatever the table.
 ghost use Rattle.std.specs.Prelude.{◌≡◌, option_map, IfOk};
 ghost use Rattle.sqlite.specs.Held.{state};
-ghost use Rattle.review_statements.specs.Greatest.{first_as, HasOne};
-ghost use Rattle.review_statements.specs.Ran.{Looks};
+ghost use Rattle.review_statements.specs.{Greatest.first_as, Greatest.HasOne, Ran.Looks};
 ghost use Rattle.review_statements.specs.Search.{only, row_at, WereRead, AreFound};
 
 use crate::table::{Lookup, select};

@@ -1,14 +1,9 @@
 //! Whether the rows of a table have rowids of their own. On it rests that a row that is taken away takes no other with it.
+ghost use Rattle.std.specs.{Bool.Decides, List.AllByRecursion, List.IsDistinct, Ordering.int_eq};
 ghost use Rattle.std.specs.Prelude.{◌≡◌, ◌<◌, ℕ, List, map, option_map, slice_index_or, IfOk};
-ghost use Rattle.std.specs.Bool.{Decides};
-ghost use Rattle.std.specs.List.{AllByRecursion, IsDistinct};
-ghost use Rattle.std.specs.Ordering.{int_eq};
 ghost use Rattle.sqlite.specs.Held.{state};
-ghost use Rattle.review_statements.specs.Content.{AreApart};
-ghost use Rattle.review_statements.specs.Desk.{desk_schema, table_at};
-ghost use Rattle.review_statements.specs.Search.{FindsIds};
-ghost use Rattle.review_statements.specs.declared.texts.TheConstants.{ROW_IDS};
-ghost use Rattle.review_statements.specs.Ran.{Looks};
+ghost use Rattle.review_statements.specs.{Content.AreApart, Desk.desk_schema, Desk.table_at, Ran.Looks};
+ghost use Rattle.review_statements.specs.{Search.FindsIds, declared.texts.TheConstants.ROW_IDS};
 ghost use Rattle.review_tables.specs.Rowids.{AreIds, AreOwn, IsIdOf, firsts};
 
 use review_statements::texts;

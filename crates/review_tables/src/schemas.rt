@@ -1,7 +1,5 @@
 //! Whether a schema is that of a desk.
-ghost use Rattle.std.specs.Prelude.{◌≡◌, ⊤};
-ghost use Rattle.std.specs.Bool.{Decides};
-ghost use Rattle.std.specs.List.{AllByRecursion};
+ghost use Rattle.std.specs.{Bool.Decides, List.AllByRecursion, Prelude.◌≡◌, Prelude.⊤};
 ghost use Rattle.review_tables.specs.Plain.{IsPlainColumn, IsPlainTable, IsSameForm, IsPlainForm, IsPlainSchema};
 
 use sqlite::types::{Bytes, Value};

@@ -1,9 +1,7 @@
 //! Tables: the texts that look rows up, put them in and take them away, and how rows read and are stored.
 ghost use Rattle.std.specs.Prelude.{◌≡◌, true, IfOk, OnOk};
 ghost use Rattle.sqlite.specs.Held.{state};
-ghost use Rattle.review_statements.specs.Content.{Removes};
-ghost use Rattle.review_statements.specs.Ran.{Inside, Looks, Opens};
-ghost use Rattle.review_statements.specs.Search.{Finds, Puts};
+ghost use Rattle.review_statements.specs.{Content.Removes, Ran.Inside, Ran.Looks, Ran.Opens, Search.Finds, Search.Puts};
 ghost use Rattle.review_statements.specs.Texts.{values_of};
 
 use crate::bound::Bound;
@@ -13,8 +11,7 @@ use std::alloc::{AllocError, Global};
 /// A look-up of rows by the values of some columns.
 pub trait Lookup {
     ghost use Rattle.std.specs.Prelude.{ℕ, List};
-    ghost use Rattle.review_statements.specs.Search.{Search};
-    ghost use Rattle.review_statements.specs.Texts.{Asks, rows_where};
+    ghost use Rattle.review_statements.specs.{Search.Search, Texts.Asks, Texts.rows_where};
 
     /// The values that are asked for.
     type Key;

@@ -1,19 +1,11 @@
 -- Two readings of one text find alike.
 use Rattle.std.proofs.Common.{◌≡◌, ℕ, ◌≤◌, ◌<◌, List, length, All, Option, None, Some, IsSomeAnd, is_some, sym, ap, ◌∙◌}
 use Rattle.std.specs.Str.{chars}
-use Rattle.regex_hir.specs.Re.{Re}
-use Rattle.regex_hir.specs.declared.hir.Hir.{Hir}
-use Rattle.regex_hir.specs.Meaning.{meaning}
-use Rattle.regex_hir.specs.Find.{find_str}
-use Rattle.regex_syntax.specs.Grammar.{Names, read, group_count}
-use Rattle.regex_syntax.specs.Brackets.{Nested}
-use Rattle.regex_syntax.specs.Captures.{SameCaptures}
+use Rattle.regex.specs.{Names.names_of, Strings.regex_pattern, declared.string.regex.Regex.Regex}
+use Rattle.regex_hir.specs.{Find.find_str, Meaning.meaning, Re.Re, declared.hir.Hir.Hir}
+use Rattle.regex_syntax.proofs.{CapturesLemmas.spans, CapturesLemmas.find_str_alike, Written.is_some-option_map}
+use Rattle.regex_syntax.specs.{Brackets.Nested, Captures.SameCaptures, Grammar.Names, Grammar.read, Grammar.group_count}
 use Rattle.regex_syntax.specs.Verdict.{Reads, default_config}
-use Rattle.regex_syntax.proofs.CapturesLemmas.{spans, find_str_alike}
-use Rattle.regex_syntax.proofs.Written.{is_some-option_map}
-use Rattle.regex.specs.declared.string.regex.Regex.{Regex}
-use Rattle.regex.specs.Strings.{regex_pattern}
-use Rattle.regex.specs.Names.{names_of}
 use Rattle.review_terms.specs.Patterns.{found_by, has_match, IsReadFrom, IsHeld, anchored, matches_whole}
 
 abbrev IsReading : ℕ → Re → Names → Nested Re × Names → Type 0

@@ -1,7 +1,6 @@
 -- Scanning gives exactly the lexemes of which the text is made.
 use Rattle.std.proofs.Common.{◌≡◌, ℕ, ◌+◌, Bool, true, false, not, ◌&&◌, ◌||◌, ◌==◌, List, [], ◌∷◌, ◌++◌, length, Option, Some, None, IfSome, IsTrue, refl, sym, ap, ap₂, ◌∙◌, subst, arith, append_assoc}
-use Rattle.std.proofs.lemmas.List.{append-nil}
-use Rattle.std.proofs.lemmas.Bool.Decides.{nat_tests}
+use Rattle.std.proofs.lemmas.{Bool.Decides.nat_tests, List.append-nil}
 use Rattle.review_terms.specs.Lexemes.{Lexeme, Word, Open, Close, is_blank, is_end, runs, all_blank, ends, IsCut}
 use Rattle.review_terms.specs.Scan.{Mode, Between, Within, begins, begins_by, step_by, step, finish, put, scan}
 

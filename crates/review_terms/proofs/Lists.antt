@@ -1,7 +1,6 @@
 -- A test of some element, from one place on.
 use Rattle.std.proofs.Common.{◌≡◌, ℕ, ◌+◌, ◌<◌, Bool, true, false, ◌||◌, List, ◌∷◌, length, get_or, drop, sym, ap, ap₂, ◌∙◌, add-one}
-use Rattle.std.proofs.Math.Seq.{drop-cons}
-use Rattle.std.specs.List.{list_any}
+use Rattle.std.{proofs.Math.Seq.drop-cons, specs.List.list_any}
 
 front : {X : Type 0} → (xs : List X) (i : ℕ) (d x : X) → i < length xs → get_or xs i d ≡ x → drop i xs ≡ x ∷ drop (i + 1) xs
 front xs i d x lt is = drop-cons xs i d lt ∙ ap₂ (λ y n. y ∷ drop n xs) is (sym (add-one i))

@@ -1,14 +1,11 @@
 -- One byte more of an open word.
-use Rattle.std.proofs.Common.{◌≡◌, ℕ, zero, suc, ◌+◌, ◌-◌, ◌≤◌, ◌<◌, List, [], ◌∷◌, ◌++◌, length, take, drop, get_or, length-drop, get_or-drop, refl, sym, ap, ap₂, ◌∙◌, arith, slice_range}
-use Rattle.std.proofs.Common.{Option, Some, None, IfSome, subst, add-one, Bool, true, false, not, ◌==◌, ◌≢◌, ne_eqb}
-use Rattle.std.proofs.Math.Seq.{take-suc, drop-cons}
-use Rattle.std.proofs.lemmas.List.{append-nil}
+use Rattle.std.proofs.Common.{◌≡◌, ℕ, zero, suc, ◌+◌, ◌-◌, ◌≤◌, ◌<◌, List, [], ◌∷◌, ◌++◌, length, take, drop, get_or, length-drop, get_or-drop, refl, sym, ap, ap₂, ◌∙◌, arith, slice_range, Option, Some, None, IfSome, subst, add-one, Bool, true, false, not, ◌==◌, ◌≢◌, ne_eqb}
+use Rattle.std.proofs.{Math.Seq.take-suc, Math.Seq.drop-cons, lemmas.List.append-nil, lemmas.Option.same_Some}
+use Rattle.review_terms.proofs.Exact.{scan_sound, scan_again, put_put}
 use Rattle.review_terms.specs.Lexemes.{Lexeme, Word, Close, IsCut, is_blank, is_end, balanced}
 use Rattle.review_terms.specs.Scan.{Mode, Between, Within, step, step_by, finish, put, scan}
 use Rattle.review_terms.specs.Scanned.{advanced, mode_of, starts_by, lexemes, lexeme}
-use Rattle.std.proofs.lemmas.Option.{same_Some}
 use Rattle.review_terms.specs.declared.lexemes.Piece.{Piece}
-use Rattle.review_terms.proofs.Exact.{scan_sound, scan_again, put_put}
 
 pub slice_more : (text : List ℕ) (start at : ℕ) → at < length text → start ≤ at →
     slice_range text start (at + 1) ≡ slice_range text start at ++ get_or text at 0 ∷ []

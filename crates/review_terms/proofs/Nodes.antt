@@ -1,11 +1,11 @@
 -- The equations of `view` at a list.
 use Rattle.std.proofs.Common.{◌≡◌, ◌≢◌, Bool, true, false, map, length, Vec, Global, sym, ap, ◌∙◌}
 use Rattle.std.proofs.lemmas.List.{length-map}
-use Rattle.review_terms.specs.declared.tree.Node.{Node, Node-F, fold-roll-Node}
-use Rattle.review_terms.specs.declared.tree.Node.TheVariants.{And, Or, rolls-And, rolls-Or}
+use Rattle.review_terms.proofs.Steps.{listed_many}
 use Rattle.review_terms.specs.Grammar.{Tree, All, Any, trees, listed}
 use Rattle.review_terms.specs.Views.{node, view}
-use Rattle.review_terms.proofs.Steps.{listed_many}
+use Rattle.review_terms.specs.declared.tree.Node.{Node, Node-F, fold-roll-Node}
+use Rattle.review_terms.specs.declared.tree.Node.TheVariants.{And, Or, rolls-And, rolls-Or}
 
 pub view-And : {A : Type 0} → (es : Vec (Node A) Global) → view (And es) ≡ All (trees (map view es.items))
 view-And {A = A} es = ap view (sym (rolls-And es)) ∙ fold-roll-Node A (Tree A) node (Node-F.And es)

@@ -1,17 +1,11 @@
 -- What is read, and what is refused.
 use Rattle.std.proofs.Common.{◌≡◌, inl, inr, ◌&&◌, ℕ, ◌<◌, ◌≤◌, List, Bool, true, false, Option, Some, None, IfSome, IsSomeAnd, refl, ap, ◌∙◌, arith}
-use Rattle.std.proofs.lemmas.Bool.Decides.{nat_tests}
-use Rattle.std.specs.Prelude.{nat_le}
-use Rattle.std.specs.Str.{chars}
+use Rattle.std.{proofs.lemmas.Bool.Decides.nat_tests, specs.Prelude.nat_le, specs.Str.chars}
+use Rattle.regex.specs.{Failures.IsPattern, Names.names_of, declared.string.regex.Regex.Regex}
 use Rattle.regex_hir.specs.Re.{Re}
-use Rattle.regex_syntax.specs.Brackets.{Nested}
-use Rattle.regex_syntax.specs.Grammar.{Names, read}
+use Rattle.regex_syntax.specs.{Brackets.Nested, Grammar.Names, Grammar.read}
 use Rattle.regex_syntax.specs.Verdict.{Reads, Refuses, default_config}
-use Rattle.regex_syntax.specs.declared.error.ErrorKind.{ErrorKind}
-use Rattle.regex_syntax.specs.declared.error.ErrorKind.TheVariants.{OutOfMemory}
-use Rattle.regex.specs.Failures.{IsPattern}
-use Rattle.regex.specs.Names.{names_of}
-use Rattle.regex.specs.declared.string.regex.Regex.{Regex}
+use Rattle.regex_syntax.specs.declared.error.ErrorKind.{ErrorKind, TheVariants.OutOfMemory}
 use Rattle.review_terms.specs.Patterns.{anchored, is_within, is_read, is_pattern, NestsTooDeep, IsDeepPattern, IsEnginePattern, IsReadFrom, IsRefusedBy, IsLawful}
 use Rattle.review_terms.specs.declared.pattern.PatternFault.{PatternFault}
 use Rattle.review_terms.specs.declared.pattern.PatternFault.TheVariants.{Syntax, Engine, Memory}

@@ -1,10 +1,10 @@
 -- What the whole of the tokens gives.
 use Rattle.std.proofs.Common.{◌≡◌, ◌≢◌, ℕ, ◌+◌, ◌*◌, ◌≤◌, true, false, List, [], ◌∷◌, ◌++◌, length, Some, None, option_map, refl, sym, ap, ◌∙◌, subst, arith, length-append}
 use Rattle.std.proofs.lemmas.Option.{same_Some}
+use Rattle.review_terms.proofs.Grammatical.{calls, all_calls, members_again, members_found, Spells}
 use Rattle.review_terms.specs.Grammar.{Tok, Unary, Members, Leaf, Group, Not, One, Next, between, spelled, all_spelled, all_depth, tree, mixed}
 use Rattle.review_terms.specs.Reading.{Read, members}
 use Rattle.review_terms.specs.Views.{Summary, Sums, capped, no_sums, seen_all, whole, with_members}
-use Rattle.review_terms.proofs.Grammatical.{calls, all_calls, members_again, members_found, Spells}
 
 append_none : {A : Type 0} → (xs : List (Tok A)) → xs ++ [] ≡ xs
 append_none [] = refl

@@ -1,11 +1,10 @@
 -- When a text is a pattern, and when it matches a whole text.
 use Rattle.std.specs.Prelude.{◌≡◌, ◌⊎◌, ◌<◌, ◌&&◌, ℕ, nat_le, List, ◌++◌, codes, Bool, true, false, Option, Some, None, is_some, IsSomeAnd, chars}
-use Rattle.regex_hir.specs.Re.{Re}
-use Rattle.regex_syntax.specs.Brackets.{Nested}
-use Rattle.regex_syntax.specs.Grammar.{Names, read}
 use Rattle.regex.specs.Patterns.{default_config, find_str}
 use Rattle.regex.specs.Strings.{regex_source, regex_config, IsReadFromSource}
 use Rattle.regex.specs.declared.string.regex.Regex.{Regex}
+use Rattle.regex_hir.specs.Re.{Re}
+use Rattle.regex_syntax.specs.{Brackets.Nested, Grammar.Names, Grammar.read}
 use Rattle.review_terms.specs.declared.pattern.PatternFault.{PatternFault}
 use Rattle.review_terms.specs.declared.pattern.PatternFault.TheVariants.{Syntax, Engine, Memory}
 

@@ -1,12 +1,10 @@
 -- How the values of the scanner stand to those of the definition.
 use Rattle.std.specs.Prelude.{◌≡◌, ◌≤◌, ◌<◌, ◌++◌, ℕ, Bool, false, List, length, map, Option, Some, None, slice_range, IsTrue}
-use Rattle.review_terms.specs.declared.lexemes.Piece.{Piece}
-use Rattle.review_terms.specs.declared.lexemes.Piece.TheVariants as piece
-use Rattle.review_terms.specs.declared.lexemes.CutFault.{CutFault}
-use Rattle.review_terms.specs.declared.lexemes.CutFault.TheVariants as fault
-use Rattle.review_terms.specs.declared.lexemes.Scanner.{Scanner}
 use Rattle.review_terms.specs.Lexemes.{Lexeme, Word, Open, Close, IsCut, all_blank, balanced}
 use Rattle.review_terms.specs.Scan.{Mode, Between, Within, begins, step}
+use Rattle.review_terms.specs.declared.lexemes.{CutFault.CutFault, Piece.Piece, Scanner.Scanner}
+use Rattle.review_terms.specs.declared.lexemes.Piece.TheVariants as piece
+use Rattle.review_terms.specs.declared.lexemes.CutFault.TheVariants as fault
 
 -- a piece of this text
 abbrev pub lexeme : List ℕ → Piece → Lexeme

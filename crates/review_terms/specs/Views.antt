@@ -1,22 +1,15 @@
 -- How the values of the parser stand to those of the grammar.
 use Rattle.std.specs.Prelude.{◌≡◌, ℕ, ◌+◌, min, max, Bool, false, ◌&&◌, ◌||◌, List, [], ◌∷◌, ◌++◌, map, Option, Some, None, Result, Ok, Err}
-use Rattle.review_terms.specs.declared.tree.Node.{Node}
-use Rattle.review_terms.specs.declared.tree.Node.TheOpen.{Node-F}
-use Rattle.review_terms.specs.declared.tree.Node.TheFolds.{fold-Node}
-use Rattle.review_terms.specs.declared.token.Token.{Token}
-use Rattle.review_terms.specs.declared.token.Token.TheVariants as token
-use Rattle.review_terms.specs.declared.parser.Joint.{Joint}
-use Rattle.review_terms.specs.declared.parser.Joint.TheVariants as joint
-use Rattle.review_terms.specs.declared.parser.Prefix.{Prefix}
-use Rattle.review_terms.specs.declared.parser.Prefix.TheVariants as prefix
-use Rattle.review_terms.specs.declared.parser.Part.{Part}
-use Rattle.review_terms.specs.declared.parser.Run.{Run}
-use Rattle.review_terms.specs.declared.parser.Refusal.{Refusal}
-use Rattle.review_terms.specs.declared.parser.Refusal.TheVariants as refusal
-use Rattle.review_terms.specs.declared.parser.ShapeFault.{ShapeFault}
-use Rattle.review_terms.specs.declared.parser.ShapeFault.TheVariants as fault
 use Rattle.review_terms.specs.Grammar.{Tok, Word, Open, Close, Minus, NotWord, AndWord, OrWord, Tree, Term, Neg, All, Any, trees, Join, Blank, And, Or, Unary, Members, tree_of, trees_of, depth, all_depth, is_mixed, any_mixed, has_and, has_or, is_and, is_or, HasFault, BadTerm, TooDeep, Mixed, listed}
 use Rattle.review_terms.specs.Reading.{Sign, NoSign, NotSign, MinusSign}
+use Rattle.review_terms.specs.declared.parser.{Joint.Joint, Part.Part, Prefix.Prefix, Refusal.Refusal, Run.Run}
+use Rattle.review_terms.specs.declared.{parser.ShapeFault.ShapeFault, token.Token.Token}
+use Rattle.review_terms.specs.declared.tree.Node.{Node, TheFolds.fold-Node, TheOpen.Node-F}
+use Rattle.review_terms.specs.declared.token.Token.TheVariants as token
+use Rattle.review_terms.specs.declared.parser.Joint.TheVariants as joint
+use Rattle.review_terms.specs.declared.parser.Prefix.TheVariants as prefix
+use Rattle.review_terms.specs.declared.parser.Refusal.TheVariants as refusal
+use Rattle.review_terms.specs.declared.parser.ShapeFault.TheVariants as fault
 
 -- a token
 abbrev pub tok : {A : Type 0} → Token A → Tok A

@@ -1,6 +1,6 @@
 //! Cutting a text into words and parentheses.
-ghost use Rattle.std.specs.Prelude.{◌≡◌, ◌≤◌, ◌<◌, ◌+◌, ◌++◌, ℕ, List, None, length, slice_index, IfOk, IfErr, IsTrue};
 ghost use Rattle.std.specs.List.{All};
+ghost use Rattle.std.specs.Prelude.{◌≡◌, ◌≤◌, ◌<◌, ◌+◌, ◌++◌, ℕ, List, None, length, slice_index, IfOk, IfErr, IsTrue};
 ghost use Rattle.review_terms.specs.Lexemes.{IsCut, balanced, all_blank, is_blank};
 ghost use Rattle.review_terms.specs.Scanned.{lexemes, IsUncut, IsWithin, IsUnscanned, IsBehind, scanner_at, begun, advanced};
 

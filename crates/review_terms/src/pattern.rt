@@ -1,8 +1,7 @@
 //! Patterns that a whole text has to match.
-ghost use Rattle.std.specs.Prelude.{◌≡◌, ◌<◌, IfOk, IfErr, is_some, true};
 ghost use Rattle.std.specs.List.{All, list_any};
-ghost use Rattle.regex.specs.Patterns.{find_str};
-ghost use Rattle.regex.specs.Strings.{matcher_pattern};
+ghost use Rattle.std.specs.Prelude.{◌≡◌, ◌<◌, IfOk, IfErr, is_some, true};
+ghost use Rattle.regex.specs.{Patterns.find_str, Strings.matcher_pattern};
 ghost use Rattle.review_terms.specs.Patterns.{is_pattern, is_read, matches_whole, IsLawful, IsReadFrom, IsRefusedBy};
 
 use regex::{Error, Matcher, Regex};

@@ -1,31 +1,24 @@
 -- A stored reply is what its fields are read as.
 use Rattle.std.proofs.Common.{◌≡◌, ℕ, ◌<◌, ◌≤◌, ◌+◌, List, [], ◌∷◌, length, refl, sym, ap, ◌∙◌, subst, arith, cond, Option, Some, None, Bool, true, false}
+use Rattle.std.proofs.lemmas.{Bool.Decides.nat_tests, Int.Digits.length-digits_of-le, List.length-map}
+use Rattle.std.specs.{Int.Digits.digits_of, List.AllByRecursion}
 use Rattle.std.specs.Prelude.{option_map, nat_le, ◌&&◌, if◌then◌else◌, codes, map, Result, Ok, Err, IfOk}
-use Rattle.std.proofs.lemmas.Bool.Decides.{nat_tests}
-use Rattle.std.specs.Int.Digits.{digits_of}
-use Rattle.std.proofs.lemmas.Int.Digits.{length-digits_of-le}
-use Rattle.std.proofs.lemmas.List.{length-map}
-use Rattle.std.specs.List.{AllByRecursion}
+use Rattle.review_names.proofs.{Accounts.account_back, Numerals.number_back}
 use Rattle.review_names.specs.Forms.{is_label, is_within, most_changes, most_comments, most_patches}
-use Rattle.review_words.specs.Faults.{code_number, file_fault_number}
-use Rattle.review_words.specs.Refusals.{refusal_number}
-use Rattle.review_names.specs.Numerals.{shown_digits, numeral}
+use Rattle.review_names.specs.Numerals.{shown_digits, numeral, ◌>>=◌, number_of}
+use Rattle.review_words.specs.{Faults.code_number, Faults.file_fault_number, Refusals.refusal_number}
 use Rattle.review_words.specs.Texts.{expr_fields, fault_fields, most_joined, refusal_fields, reply_fields, IsPlaced, IsRefusalOf, IsStored}
-use Rattle.review_texts.specs.declared.reading.BadReply.{BadReply}
-use Rattle.review_fields.specs.Cutting.{AreShort}
-use Rattle.review_names.specs.Numerals.{◌>>=◌, number_of}
-use Rattle.review_texts.specs.Reading.{expr_fault_of, file_fault_of, label_of, list_of, new_change_of, new_patch_of, number_within, numbers_in, plain_answer_of, refusal_of, reply_of, unsatisfied_of, Gives}
-use Rattle.review_words.specs.declared.reply.Reply.{Reply}
-use Rattle.review_words.specs.declared.reply.Reply.TheVariants.{Done, Refused, IdentityReused, EpochClosed, NotTaken}
+use Rattle.review_words.specs.declared.faults.{ExprCode.ExprCode, FileFault.FileFault}
 use Rattle.review_words.specs.declared.reply.Answer.TheVariants.{Account, Nothing, Change, Patch, Reviewed, Submitted, Branch, Shown, Requirements, Threads, Attention}
 use Rattle.review_words.specs.declared.reply.Refusal.{Refusal}
 use Rattle.review_words.specs.declared.reply.Refusal.TheVariants.{UnknownCaller, NotAdmin, NoProject, NoBranch, NoChange, NoPatchSet, NoAccount, NoComment, NotAllowed, Closed, SameState, WorkInProgress, StalePatchSet, NoLabel, ValueOut, VoteRestricted, CommitKnown, UnknownParent, ChainOutdated, ChainAbandoned, ChainWip, ChainTooLong, RequirementUnsatisfied, NotEligible, NameTaken, BadFile, LabelNarrowed, Limit, NoParent, ParentFixed, ParentDepth, EpochAhead}
-use Rattle.review_words.specs.declared.faults.ExprCode.{ExprCode}
+use Rattle.review_words.specs.declared.reply.Reply.{Reply}
+use Rattle.review_words.specs.declared.reply.Reply.TheVariants.{Done, Refused, IdentityReused, EpochClosed, NotTaken}
+use Rattle.review_fields.specs.Cutting.{AreShort}
+use Rattle.review_texts.specs.Reading.{expr_fault_of, file_fault_of, label_of, list_of, new_change_of, new_patch_of, number_within, numbers_in, plain_answer_of, refusal_of, reply_of, unsatisfied_of, Gives}
+use Rattle.review_texts.specs.declared.reading.BadReply.{BadReply}
 use Rattle.review_words.specs.declared.faults.ExprCode.TheVariants as code
-use Rattle.review_words.specs.declared.faults.FileFault.{FileFault}
 use Rattle.review_words.specs.declared.faults.FileFault.TheVariants as file
-use Rattle.review_names.proofs.Numerals.{number_back}
-use Rattle.review_names.proofs.Accounts.{account_back}
 
 -- the fields of a fault, as they stand in a reply
 abbrev bad_file : List (List ℕ) → List (List ℕ)

@@ -1,8 +1,7 @@
 -- Whether a thread is unresolved, from the last comment on.
 use Rattle.std.proofs.Common.{◌≡◌, List, [], ◌∷◌, ◌++◌, Bool, true, false, not, ◌&&◌, ◌||◌, ◌==◌, refl, ap, ◌∙◌}
 use Rattle.std.specs.List.{list_any}
-use Rattle.review_changes.specs.declared.rows.Post.{Post}
-use Rattle.review_changes.specs.Change.{has_unresolved}
+use Rattle.review_changes.specs.{Change.has_unresolved, declared.rows.Post.Post}
 
 or_true : (b : Bool) → (b || true) ≡ true
 or_true true = refl

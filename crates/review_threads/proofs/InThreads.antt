@@ -1,18 +1,13 @@
 -- Putting comments into threads one after the other gives the threads.
-use Rattle.std.proofs.Common.{◌≡◌, ℕ, zero, suc, ◌+◌, ◌≤◌, List, [], ◌∷◌, ◌++◌, length, map, Option, Some, None, Bool, true, false, cond, ◌||◌, ◌==◌, refl, sym, ap, ◌∙◌, subst, eq-eqb, arith, unwrap_or}
-use Rattle.std.specs.Prelude.{option_map, slice_get}
-use Rattle.std.proofs.Common.{◌<◌, get_or, set}
-use Rattle.std.specs.List.{AllByRecursion, filter, list_any}
-use Rattle.std.specs.Option.{option_map_or}
+use Rattle.std.proofs.Common.{◌≡◌, ℕ, zero, suc, ◌+◌, ◌≤◌, List, [], ◌∷◌, ◌++◌, length, map, Option, Some, None, Bool, true, false, cond, ◌||◌, ◌==◌, refl, sym, ap, ◌∙◌, subst, eq-eqb, arith, unwrap_or, ◌<◌, get_or, set}
 use Rattle.std.proofs.lemmas.Bool.Decides.{nat_tests}
 use Rattle.std.proofs.lemmas.List.{append-nil, append_assoc, length-append, length-map, map-append}
-use Rattle.std.proofs.lemmas.Option.{slice_get-map}
-use Rattle.review_words.specs.declared.shown.ShownComment.{ShownComment}
-use Rattle.review_words.specs.declared.shown.Thread.{Thread}
-use Rattle.review_changes.specs.declared.rows.CommentRow.{CommentRow}
-use Rattle.review_changes.specs.declared.rows.Post.{Post}
+use Rattle.std.{proofs.lemmas.Option.slice_get-map, specs.List.AllByRecursion, specs.List.filter, specs.List.list_any}
+use Rattle.std.specs.{Option.option_map_or, Prelude.option_map, Prelude.slice_get}
+use Rattle.review_words.specs.declared.shown.{ShownComment.ShownComment, Thread.Thread}
 use Rattle.review_changes.specs.Change.{of_number, root_of, threaded}
 use Rattle.review_changes.specs.Threads.{Rooted, last_unresolved, of_root, rooted, rooted_after, roots, shown_comment, thread_of, threads}
+use Rattle.review_changes.specs.declared.rows.{CommentRow.CommentRow, Post.Post}
 use Rattle.review_threads.specs.Gathered.{place_of, put_in, thread_so_far}
 use Rattle.review_threads.specs.declared.gathering.Gathered.{Gathered}
 

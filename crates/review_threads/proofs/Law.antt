@@ -1,11 +1,9 @@
 -- A change has an unresolved thread where one of its threads is shown as unresolved.
 use Rattle.std.proofs.Common.{◌≡◌, ℕ, List, [], ◌∷◌, ◌++◌, Bool, true, false, cond, not, ◌&&◌, ◌||◌, ◌==◌, refl, sym, ap, ◌∙◌, subst, map, eqb-true, eq-eqb, ⊎_elim}
-use Rattle.std.specs.List.{AllByRecursion, filter, list_any}
-use Rattle.std.proofs.lemmas.Bool.{cases_Bool}
-use Rattle.review_changes.specs.declared.rows.CommentRow.{CommentRow}
-use Rattle.review_changes.specs.declared.rows.Post.{Post}
+use Rattle.std.{proofs.lemmas.Bool.cases_Bool, specs.List.AllByRecursion, specs.List.filter, specs.List.list_any}
 use Rattle.review_changes.specs.Change.{has_unresolved, posts, root_of}
 use Rattle.review_changes.specs.Threads.{Rooted, last_unresolved, of_root, roots, thread_of, threads}
+use Rattle.review_changes.specs.declared.rows.{CommentRow.CommentRow, Post.Post}
 use Rattle.review_threads.proofs.InThreads.{all_rooted, is_among, later, post_of, rooted_is, rooted_rest, threaded_is}
 
 -- whether a comment is unresolved and none of its thread follows

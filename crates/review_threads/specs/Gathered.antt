@@ -1,10 +1,8 @@
 -- Comments that are put into threads one after the other.
-use Rattle.std.specs.Prelude.{ℕ, zero, suc, List, [], ◌∷◌, ◌++◌, None, unwrap_or}
 use Rattle.std.specs.Option.{option_map_or}
-use Rattle.review_words.specs.declared.shown.ShownComment.{ShownComment}
-use Rattle.review_words.specs.declared.shown.Thread.{Thread}
-use Rattle.review_changes.specs.declared.rows.CommentRow.{CommentRow}
-use Rattle.review_changes.specs.Change.{of_number}
+use Rattle.std.specs.Prelude.{ℕ, zero, suc, List, [], ◌∷◌, ◌++◌, None, unwrap_or}
+use Rattle.review_words.specs.declared.shown.{ShownComment.ShownComment, Thread.Thread}
+use Rattle.review_changes.specs.{Change.of_number, declared.rows.CommentRow.CommentRow}
 use Rattle.review_threads.specs.declared.gathering.Gathered.{Gathered}
 
 -- a thread with the comments so far

@@ -1,32 +1,27 @@
 -- A desk before its first request.
-use Rattle.std.specs.Prelude.{nat_lt}
 use Rattle.std.proofs.Common.{◌≡◌, ◌≢◌, ◌∙◌, ◌==◌, ℕ, List, [], ◌∷◌, Some, None, option_map, cond, true, refl, sym, ap, subst, arith, inl, inr, length, eqb-true, Bool, Option, false}
-use Rattle.std.specs.Str.{bytes_eq}
 use Rattle.std.proofs.lemmas.Bool.{cases_Bool, both_ways, eqb-false}
-use Rattle.sqlite_value.specs.declared.value.Value.TheVariants.{Text}
-use Rattle.sqlite_trees.specs.Tree.{Trees}
+use Rattle.std.specs.{Prelude.nat_lt, Str.bytes_eq}
 use Rattle.sqlite.specs.Effect.{Database}
+use Rattle.sqlite_trees.specs.Tree.{Trees}
+use Rattle.sqlite_value.specs.declared.value.Value.TheVariants.{Text}
 use Rattle.review_names.specs.Names.{admin_name, administrators}
-use Rattle.review_words.specs.History.{is_listed}
-use Rattle.review_rows.specs.declared.rows.MemberKey.{MemberKey}
-use Rattle.review_rows.specs.Rows.{Key, AccountKey, MemberKey as OfMember, FileKey, BaseKey, PartKey, OddKey, AccountRow, MemberRow, FileRow, BaseRow, APart, OddRow, Count, Projects, BasesOf, ClosedEpochs, Stored}
-use Rattle.review_rows.specs.Changes.{Reading}
-use Rattle.review_rows.specs.View.{IsView, fact, counted}
-use Rattle.review_statements.specs.Desk.{schema_0, desk_schema, is_tree}
-use Rattle.review_tables.specs.Made.{Grows, IsBlank}
-use Rattle.review_statements.specs.Ran.{OnDesk}
+use Rattle.review_statements.specs.{Desk.schema_0, Desk.desk_schema, Desk.is_tree, Ran.OnDesk}
 use Rattle.review_statements.specs.Search.{rows_at, row_at, only, reads, SetsRow}
-use Rattle.review_tables.proofs.Sequences.{Next}
-use Rattle.review_tables.proofs.Made.{ready_blank, empty_at}
-use Rattle.review_transactions.specs.Numbers.{IsDesk}
-use Rattle.review_transactions.specs.First.{SetsFirst, MakesDesk}
-use Rattle.review_transactions.proofs.Unkeyed.{first_keeps, none_unkeyed, unkeyed_same}
+use Rattle.review_words.specs.History.{is_listed}
+use Rattle.review_tables.proofs.{Made.ready_blank, Made.empty_at, Sequences.Next}
+use Rattle.review_tables.specs.Made.{Grows, IsBlank}
 use Rattle.review_changes.specs.Parts.{Part, TheHeader, PatchOf, VoteOf, RoleOf, CommentOf, AttentionOf, AHeader, APatch, ARole, AComment, ACall}
-use Rattle.review_change_records.specs.Forms.{headers, patches, votes, roles, comments, calls}
+use Rattle.review_rows.specs.Changes.{Reading}
+use Rattle.review_rows.specs.Rows.{Key, AccountKey, MemberKey as OfMember, FileKey, BaseKey, PartKey, OddKey, AccountRow, MemberRow, FileRow, BaseRow, APart, OddRow, Count, Projects, BasesOf, ClosedEpochs, Stored}
+use Rattle.review_rows.specs.{View.IsView, View.fact, View.counted, declared.rows.MemberKey.MemberKey}
 use Rattle.review_records.specs.Forms.{accounts, members, projects, bases, answers, epochs, request_key}
+use Rattle.review_change_records.specs.Forms.{headers, patches, votes, roles, comments, calls}
 use Rattle.review_change_records.specs.Laws.{same_bytes}
 use Rattle.review_database.proofs.Telling.{own_bytes}
 use Rattle.review_database.specs.Tables.{part_in, vote_told, told, row_in, count_in, stored_as, number_of, tables_at, least_in, version_in}
+use Rattle.review_transactions.proofs.Unkeyed.{first_keeps, none_unkeyed, unkeyed_same}
+use Rattle.review_transactions.specs.{First.SetsFirst, First.MakesDesk, Numbers.IsDesk}
 
 module _ (a b : Trees) (blank : (t : ℕ) → is_tree t ≡ true → a t ≡ []) (h : SetsFirst a b) where
   abbrev m1 : Trees

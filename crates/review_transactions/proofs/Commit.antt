@@ -1,48 +1,37 @@
 -- What the statements of a commit do together.
 use Rattle.std.proofs.Common.{◌≡◌, ◌≢◌, ◌∙◌, ◌+◌, ◌≤◌, ℕ, List, [], ◌∷◌, Option, Some, None, option_map, cond, Ordering, Less, Equal, Greater, true, false, Bool, is_some, not, pos, refl, sym, ap, subst, arith, inl, inr, length, filter, eqb-true, eq-eqb, ◌&&◌}
-use Rattle.std.specs.Prelude.{nat_lt, unwrap_or}
-use Rattle.std.specs.Str.{bytes_eq}
-use Rattle.std.specs.BTreeMap.{is_at}
-use Rattle.std.specs.Ordering.{nat_cmp, is_eq, ordering_then}
-use Rattle.std.specs.Cmp.Lexicographic.{slice_cmp}
 use Rattle.std.proofs.lemmas.Bool.{cases_Bool, and_parts, and_from, both_ways}
 use Rattle.std.proofs.lemmas.Cmp.{nat_cmp_total, tied_itself, nat_list_cmp_total}
-use Rattle.std.proofs.lemmas.Map.Lookups.{exact_unsigned, exact_bytes}
-use Rattle.sqlite_value.specs.declared.value.Value.TheVariants.{Int, Text}
-use Rattle.sqlite_value.specs.Order.{Row as Raw, column}
-use Rattle.sqlite_trees.specs.Tree.{Trees}
+use Rattle.std.{proofs.lemmas.Map.Lookups.exact_unsigned, proofs.lemmas.Map.Lookups.exact_bytes, specs.BTreeMap.is_at}
+use Rattle.std.specs.{Cmp.Lexicographic.slice_cmp, Ordering.nat_cmp, Ordering.is_eq, Ordering.ordering_then}
+use Rattle.std.specs.{Prelude.nat_lt, Prelude.unwrap_or, Str.bytes_eq}
 use Rattle.sqlite.specs.Effect.{Database}
+use Rattle.sqlite_trees.specs.Tree.{Trees}
+use Rattle.sqlite_value.specs.Order.{Row as Raw, column}
+use Rattle.sqlite_value.specs.declared.value.Value.TheVariants.{Int, Text}
 use Rattle.review_table.specs.Rows.{change_of, after_change}
-use Rattle.review_words.specs.History.{Identity, is_same}
-use Rattle.review_rows.specs.declared.rows.Delta.{Delta}
-use Rattle.review_rows.specs.declared.rows.Kept.{Kept}
-use Rattle.review_rows.specs.declared.rows.MemberKey.{MemberKey as Member}
-use Rattle.review_rows.specs.declared.rows.Put.{Put}
-use Rattle.review_rows.specs.Rows.{is_below, Key, AccountKey, MemberKey, FileKey, BaseKey, PartKey, OddKey, Row, AccountRow, MemberRow, FileRow, BaseRow, APart, OddRow, edited, Count, Projects, BasesOf, ClosedEpochs, Answered, member_cmp, member_change, account_change, after_put, count_put, place_cmp, kept_row, after, count_after}
-use Rattle.review_rows.specs.Shelf.{IsCommitted}
-use Rattle.review_rows.proofs.Puts.{exact_place, place_total}
-use Rattle.review_rows.specs.declared.rows.PlaceKey.{PlaceKey}
-use Rattle.review_rows.specs.declared.rows.StoredFile.{StoredFile}
-use Rattle.review_statements.specs.Content.{SparesOthers, Then, has_key, is_number_below, is_natural, is_text, is_value}
 use Rattle.review_statements.proofs.Meaning.{and_true}
-use Rattle.review_statements.specs.Desk.{is_tree}
-use Rattle.review_statements.specs.Ran.{OnDesk}
+use Rattle.review_statements.specs.Content.{SparesOthers, Then, has_key, is_number_below, is_natural, is_text, is_value}
+use Rattle.review_statements.specs.{Desk.is_tree, Ran.OnDesk}
 use Rattle.review_statements.specs.Search.{row_at, rows_at, only, reads, Search}
-use Rattle.review_tables.specs.Fronts.{IsExact}
+use Rattle.review_words.specs.History.{Identity, is_same}
 use Rattle.review_tables.proofs.Changed.{rows_changed, rows_spare}
 use Rattle.review_tables.proofs.Keys.{equal_is, int_is, same_text, text_is}
-use Rattle.review_transactions.specs.Numbers.{IsDesk}
-use Rattle.review_transactions.specs.Changes.{GivesUp, SetsDelta, SetsKept, SetsDesk, SetsPut}
-use Rattle.review_transactions.specs.Numbers.{with_request}
-use Rattle.review_transactions.specs.declared.numbers.Numbers.{Numbers}
+use Rattle.review_tables.specs.Fronts.{IsExact}
+use Rattle.review_rows.proofs.Puts.{exact_place, place_total}
+use Rattle.review_rows.specs.Rows.{is_below, Key, AccountKey, MemberKey, FileKey, BaseKey, PartKey, OddKey, Row, AccountRow, MemberRow, FileRow, BaseRow, APart, OddRow, edited, Count, Projects, BasesOf, ClosedEpochs, Answered, member_cmp, member_change, account_change, after_put, count_put, place_cmp, kept_row, after, count_after}
+use Rattle.review_rows.specs.Shelf.{IsCommitted}
+use Rattle.review_rows.specs.declared.rows.{Delta.Delta, Kept.Kept, MemberKey.MemberKey as Member, PlaceKey.PlaceKey}
+use Rattle.review_rows.specs.declared.rows.{Put.Put, StoredFile.StoredFile}
 use Rattle.review_records.specs.Forms.{accounts, members, projects, bases, answers, epochs, is_of_lower, request_key}
-use Rattle.review_database.specs.Tables.{told, row_in, count_in, answer_in, least_in, stored_as, number_of, tables_at, version_in}
-use Rattle.review_transactions.specs.Commits.{Commits, AreSingle}
-use Rattle.review_transactions.proofs.Unkeyed.{commit_keeps, unkeyed_same}
-use Rattle.review_transactions.proofs.Rest.{keeps_rest}
-use Rattle.review_transactions.proofs.Edits.{edits_spare, is_part_tree, part_same, parts_edited}
 use Rattle.review_change_records.specs.Laws.{same_bytes}
 use Rattle.review_database.proofs.Telling.{own_bytes}
+use Rattle.review_database.specs.Tables.{told, row_in, count_in, answer_in, least_in, stored_as, number_of, tables_at, version_in}
+use Rattle.review_transactions.proofs.Edits.{edits_spare, is_part_tree, part_same, parts_edited}
+use Rattle.review_transactions.proofs.{Rest.keeps_rest, Unkeyed.commit_keeps, Unkeyed.unkeyed_same}
+use Rattle.review_transactions.specs.Changes.{GivesUp, SetsDelta, SetsKept, SetsDesk, SetsPut}
+use Rattle.review_transactions.specs.Commits.{Commits, AreSingle}
+use Rattle.review_transactions.specs.{Numbers.IsDesk, Numbers.with_request, declared.numbers.Numbers.Numbers}
 
 -- ---- keys
 

@@ -1,24 +1,20 @@
 -- What edits of changes leave of their rows.
 use Rattle.std.proofs.Common.{◌≡◌, ◌≢◌, ◌∙◌, ◌==◌, ◌||◌, ◌++◌, ℕ, ℤ, List, [], ◌∷◌, Bool, true, false, Option, Some, None, option_map, cond, refl, sym, ap, subst, inl, inr, eqb-true, eq-eqb}
-use Rattle.std.specs.List.{list_any}
-use Rattle.std.specs.Ordering.{nat_cmp}
 use Rattle.std.proofs.lemmas.Bool.{cases_Bool, both_ways, eqb-false, or_parts}
+use Rattle.std.specs.{List.list_any, Ordering.nat_cmp}
 use Rattle.sqlite_trees.specs.Tree.{Trees}
 use Rattle.review_table.specs.Rows.{change_of, after_change}
-use Rattle.review_changes.specs.Parts.{Part, TheHeader, PatchOf, VoteOf, RoleOf, CommentOf, AttentionOf, PartRow, AHeader, APatch, ARole, AComment, ACall}
-use Rattle.review_changes.specs.Seen.{vote_cmp}
-use Rattle.review_changes.specs.declared.rows.VoteKey.{VoteKey}
-use Rattle.review_rows.specs.declared.rows.ChangeEdit.{ChangeEdit}
-use Rattle.review_rows.specs.Rows.{APart, edited, part_change, vote_row}
-use Rattle.review_statements.specs.Content.{SparesOthers}
-use Rattle.review_statements.specs.Desk.{is_tree}
-use Rattle.review_statements.specs.Search.{only, reads, rows_at}
+use Rattle.review_statements.specs.{Content.SparesOthers, Desk.is_tree, Search.only, Search.reads, Search.rows_at}
 use Rattle.review_tables.proofs.Changed.{parts_apart, parts_changed, parts_spare}
+use Rattle.review_changes.specs.Parts.{Part, TheHeader, PatchOf, VoteOf, RoleOf, CommentOf, AttentionOf, PartRow, AHeader, APatch, ARole, AComment, ACall}
+use Rattle.review_changes.specs.{Seen.vote_cmp, declared.rows.VoteKey.VoteKey}
+use Rattle.review_rows.specs.Rows.{APart, edited, part_change, vote_row}
+use Rattle.review_rows.specs.declared.rows.ChangeEdit.{ChangeEdit}
 use Rattle.review_records.specs.Laws.{numbers_exact}
 use Rattle.review_change_records.specs.Forms.{headers, patches, votes, roles, comments, calls}
 use Rattle.review_change_records.specs.Laws.{votes_exact}
-use Rattle.review_transactions.specs.Changes.{SetsEdit, SetsEdits, SetsUnless, is_named}
 use Rattle.review_database.specs.Tables.{part_in, told, vote_told}
+use Rattle.review_transactions.specs.Changes.{SetsEdit, SetsEdits, SetsUnless, is_named}
 
 -- ---- rows as they are told
 

@@ -1,21 +1,15 @@
 -- Rows that no key of a commit names stay.
-use Rattle.review_rows.specs.Rows.{kept_row}
 use Rattle.std.proofs.Common.{◌≡◌, ◌∙◌, ℕ, List, [], ◌∷◌, ◌++◌, Option, Some, None, Bool, true, false, filter, IfSome, string_bytes, sym, ap, subst, inl, inr, eqb, eqb-true, not, ◌==◌}
-use Rattle.std.proofs.lemmas.Bool.{cases_Bool, eqb-false}
-use Rattle.std.specs.List.{AllByRecursion}
-use Rattle.sqlite_value.specs.Order.{Row as Raw}
+use Rattle.std.{proofs.lemmas.Bool.cases_Bool, proofs.lemmas.Bool.eqb-false, specs.List.AllByRecursion}
 use Rattle.sqlite_trees.specs.Tree.{Trees}
+use Rattle.sqlite_value.specs.Order.{Row as Raw}
 use Rattle.review_table.specs.declared.table.Change.{Change}
-use Rattle.review_rows.specs.declared.rows.ChangeEdit.{ChangeEdit}
-use Rattle.review_rows.specs.declared.rows.Delta.{Delta}
-use Rattle.review_rows.specs.declared.rows.Kept.{Kept}
-use Rattle.review_rows.specs.declared.rows.Put.{Put}
-use Rattle.review_statements.specs.Content.{Then}
-use Rattle.review_statements.specs.Desk.{is_tree}
-use Rattle.review_statements.specs.Search.{Search, SetsRow, SetsRows}
+use Rattle.review_statements.specs.{Content.Then, Desk.is_tree, Search.Search, Search.SetsRow, Search.SetsRows}
 use Rattle.review_tables.specs.Fronts.{SetsParts}
-use Rattle.review_change_records.specs.Forms.{headers, patches, votes, roles, comments, calls}
+use Rattle.review_rows.specs.Rows.{kept_row}
+use Rattle.review_rows.specs.declared.rows.{ChangeEdit.ChangeEdit, Delta.Delta, Kept.Kept, Put.Put}
 use Rattle.review_records.specs.Forms.{accounts, members, projects, bases, answers, desk, epochs, is_of_lower, request_key}
+use Rattle.review_change_records.specs.Forms.{headers, patches, votes, roles, comments, calls}
 use Rattle.review_transactions.proofs.Unkeyed.{not_not, pass_still}
 use Rattle.review_transactions.specs.Changes.{GivesUp, SetsDelta, SetsEdit, SetsEdits, SetsUnless, SetsKept, SetsPut, SetsDesk, is_named}
 use Rattle.review_transactions.specs.Named.{Test, Spares, SparesAll, SparesParts, SparesEdit, SparesNamed, KeepsRest}

@@ -1,25 +1,20 @@
 -- What is written leaves the rows that have no key of their table.
 use Rattle.std.proofs.Common.{pos, negsuc, ◌≡◌, ◌∙◌, ◌==◌, ◌++◌, ◌||◌, ◌+◌, ℕ, List, [], ◌∷◌, Bool, cond, true, false, not, Option, Some, None, filter, refl, sym, ap, subst, inl, inr, eqb-true}
-use Rattle.std.specs.List.{AllByRecursion, list_any}
 use Rattle.std.proofs.lemmas.Bool.{and_from, and_parts, cases_Bool, eqb-false}
-use Rattle.sqlite_value.specs.declared.value.Value.{Value}
-use Rattle.sqlite_value.specs.declared.value.Value.TheVariants.{Null, Int, Real, Text, Blob}
-use Rattle.sqlite_value.specs.Order.{Row as Raw, column}
+use Rattle.std.specs.List.{AllByRecursion, list_any}
 use Rattle.sqlite_trees.specs.Tree.{Trees}
+use Rattle.sqlite_value.specs.{Order.Row as Raw, Order.column, declared.value.Value.Value}
+use Rattle.sqlite_value.specs.declared.value.Value.TheVariants.{Null, Int, Real, Text, Blob}
 use Rattle.review_table.specs.declared.table.Change.{Change}
-use Rattle.review_rows.specs.declared.rows.ChangeEdit.{ChangeEdit}
-use Rattle.review_rows.specs.declared.rows.Delta.{Delta}
-use Rattle.review_rows.specs.declared.rows.Kept.{Kept}
-use Rattle.review_rows.specs.declared.rows.Put.{Put}
 use Rattle.review_statements.specs.Content.{RemovesWhere, Then, is_number_below, is_natural}
-use Rattle.review_statements.specs.Desk.{is_tree}
-use Rattle.review_statements.specs.Search.{Search, SetsRow, SetsRows}
+use Rattle.review_statements.specs.{Desk.is_tree, Search.Search, Search.SetsRow, Search.SetsRows}
 use Rattle.review_tables.specs.Fronts.{SetsParts}
+use Rattle.review_rows.specs.declared.rows.{ChangeEdit.ChangeEdit, Delta.Delta, Kept.Kept, Put.Put}
 use Rattle.review_records.specs.Forms.{accounts, members, projects, bases, answers, desk, epochs, is_of_lower}
 use Rattle.review_change_records.specs.Forms.{headers, patches, votes, roles, comments, calls}
 use Rattle.review_database.specs.Tables.{has_unkeyed, keyed_tables}
-use Rattle.review_transactions.specs.First.{SetsFirst}
 use Rattle.review_transactions.specs.Changes.{GivesUp, SetsDelta, SetsDesk, SetsEdit, SetsEdits, SetsKept, SetsPut, SetsUnless, is_named}
+use Rattle.review_transactions.specs.First.{SetsFirst}
 
 -- which rows of a tree have a key
 abbrev keyed_of : ℕ → Raw → Bool

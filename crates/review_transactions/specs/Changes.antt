@@ -1,19 +1,13 @@
 -- What a delta does to the trees, table by table.
-use Rattle.std.specs.Prelude.{ℕ, ◌≡◌, ◌==◌, ◌++◌, Bool, true, false, List, [], ◌∷◌, Option, Some, None}
 use Rattle.std.specs.List.{list_any}
+use Rattle.std.specs.Prelude.{ℕ, ◌≡◌, ◌==◌, ◌++◌, Bool, true, false, List, [], ◌∷◌, Option, Some, None, string_bytes}
 use Rattle.sqlite_trees.specs.Tree.{Trees}
-use Rattle.review_rows.specs.declared.rows.ChangeEdit.{ChangeEdit}
-use Rattle.review_rows.specs.declared.rows.Delta.{Delta}
-use Rattle.review_rows.specs.declared.rows.Kept.{Kept}
-use Rattle.review_rows.specs.declared.rows.Put.{Put}
-use Rattle.review_rows.specs.Rows.{kept_row}
-use Rattle.review_rows.specs.View.{tables_version}
-use Rattle.std.specs.Prelude.{string_bytes}
-use Rattle.review_statements.specs.Content.{Then, RemovesWhere}
+use Rattle.review_statements.specs.{Content.Then, Content.RemovesWhere, Search.Search, Search.SetsRow, Search.SetsRows}
 use Rattle.review_tables.specs.Fronts.{SetsParts}
-use Rattle.review_statements.specs.Search.{Search, SetsRow, SetsRows}
-use Rattle.review_change_records.specs.Forms.{headers, patches, votes, roles, comments, calls}
+use Rattle.review_rows.specs.{Rows.kept_row, View.tables_version}
+use Rattle.review_rows.specs.declared.rows.{ChangeEdit.ChangeEdit, Delta.Delta, Kept.Kept, Put.Put}
 use Rattle.review_records.specs.Forms.{accounts, members, projects, bases, answers, desk, epochs, is_of_lower, request_key}
+use Rattle.review_change_records.specs.Forms.{headers, patches, votes, roles, comments, calls}
 
 -- a row is put, where there is one
 abbrev pub SetsPut : {A X : Type 0} → Search A X → Option (Put A X) → Trees → Trees → Type 0

@@ -1,19 +1,14 @@
 -- What a commit does to the tables of a desk.
 use Rattle.std.specs.Prelude.{ℕ, ◌≤◌, List, length}
-use Rattle.sqlite_trees.specs.Tree.{Trees}
 use Rattle.sqlite.specs.Effect.{Database}
-use Rattle.review_rows.specs.Rows.{kept_row}
-use Rattle.review_rows.specs.Shelf.{IsCommitted}
-use Rattle.review_rows.specs.declared.rows.Delta.{Delta}
-use Rattle.review_rows.specs.declared.rows.Kept.{Kept}
-use Rattle.review_statements.specs.Ran.{IsReady}
-use Rattle.review_statements.specs.Search.{rows_at}
-use Rattle.review_rows.specs.declared.rows.PlaceKey.{PlaceKey}
+use Rattle.sqlite_trees.specs.Tree.{Trees}
+use Rattle.review_statements.specs.{Ran.IsReady, Search.rows_at}
+use Rattle.review_rows.specs.{Rows.kept_row, Shelf.IsCommitted}
+use Rattle.review_rows.specs.declared.rows.{Delta.Delta, Kept.Kept, PlaceKey.PlaceKey}
 use Rattle.review_records.specs.Forms.{projects, bases}
 use Rattle.review_database.specs.Tables.{tables_at}
-use Rattle.review_transactions.specs.Numbers.{IsDesk, with_request}
+use Rattle.review_transactions.specs.{Named.KeepsRest, Numbers.IsDesk, Numbers.with_request}
 use Rattle.review_transactions.specs.declared.numbers.Numbers.{Numbers}
-use Rattle.review_transactions.specs.Named.{KeepsRest}
 
 -- no two rows of the tables whose rows are counted have one key
 pub record AreSingle (db : Trees) : Type 0 where

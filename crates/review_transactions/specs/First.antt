@@ -1,18 +1,14 @@
 -- A desk before its first request.
 use Rattle.std.specs.Prelude.{[], Some}
-use Rattle.sqlite_trees.specs.Tree.{Trees}
 use Rattle.sqlite.specs.Effect.{Database}
+use Rattle.sqlite_trees.specs.Tree.{Trees}
 use Rattle.review_names.specs.Names.{admin_name, administrators}
-use Rattle.review_rows.specs.View.{IsView}
-use Rattle.review_statements.specs.Content.{Then}
-use Rattle.review_statements.specs.Desk.{schema_0}
+use Rattle.review_statements.specs.{Content.Then, Desk.schema_0, Ran.IsReady, Search.SetsRow}
 use Rattle.review_tables.specs.Made.{IsBlank}
-use Rattle.review_statements.specs.Ran.{IsReady}
-use Rattle.review_statements.specs.Search.{SetsRow}
+use Rattle.review_rows.specs.View.{IsView}
 use Rattle.review_records.specs.Forms.{accounts, members}
-use Rattle.review_transactions.specs.Changes.{SetsDesk, SetsLeast}
 use Rattle.review_database.specs.Tables.{tables_at}
-use Rattle.review_transactions.specs.Numbers.{IsDesk}
+use Rattle.review_transactions.specs.{Changes.SetsDesk, Changes.SetsLeast, Numbers.IsDesk}
 
 -- the first account, which is the one administrator, the first epoch and no request
 abbrev pub SetsFirst : Trees → Trees → Type 0

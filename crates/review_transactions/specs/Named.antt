@@ -1,18 +1,14 @@
 -- Which rows a commit names by their keys, table by table.
-use Rattle.std.specs.Prelude.{ℕ, ◌≡◌, Bool, true, false, List, filter, IfSome}
 use Rattle.std.specs.List.{AllByRecursion}
-use Rattle.sqlite_value.specs.Order.{Row as Raw}
+use Rattle.std.specs.Prelude.{ℕ, ◌≡◌, Bool, true, false, List, filter, IfSome}
 use Rattle.sqlite_trees.specs.Tree.{Trees}
+use Rattle.sqlite_value.specs.Order.{Row as Raw}
 use Rattle.review_table.specs.declared.table.Change.{Change}
-use Rattle.review_rows.specs.declared.rows.ChangeEdit.{ChangeEdit}
-use Rattle.review_rows.specs.declared.rows.Delta.{Delta}
-use Rattle.review_rows.specs.declared.rows.Kept.{Kept}
+use Rattle.review_statements.specs.{Content.has_key, Desk.is_tree, Search.Search}
 use Rattle.review_rows.specs.Rows.{kept_row}
-use Rattle.review_statements.specs.Content.{has_key}
-use Rattle.review_statements.specs.Desk.{is_tree}
-use Rattle.review_statements.specs.Search.{Search}
-use Rattle.review_change_records.specs.Forms.{headers, patches, votes, roles, comments, calls}
+use Rattle.review_rows.specs.declared.rows.{ChangeEdit.ChangeEdit, Delta.Delta, Kept.Kept}
 use Rattle.review_records.specs.Forms.{accounts, members, projects, bases, answers, desk, epochs, is_of_lower, request_key}
+use Rattle.review_change_records.specs.Forms.{headers, patches, votes, roles, comments, calls}
 
 -- A test on the raw rows of a table.
 abbrev pub Test : Type 0

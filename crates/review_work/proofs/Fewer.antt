@@ -1,23 +1,19 @@
 -- Serving that ends behind a fault of the store has served one connection at least.
 use Rattle.std.proofs.Common.{◌≡◌, ◌<◌, ◌+◌, ◌⊎◌, ◌∙◌, ℕ, Bool, true, false, List, [], ◌∷◌, Some, None, Result, Ok, Err, inl, inr, length, zero, suc, refl, sym, ap, arith, subst, ◌==◌, if◌then◌else◌}
 use Rattle.std.proofs.lemmas.Bool.Decides.{nat_tests}
-use Rattle.sqlite_trees.specs.declared.store.Store.{Ghosts}
 use Rattle.sqlite.specs.Held.{Held}
+use Rattle.sqlite_trees.specs.declared.store.Store.{Ghosts}
 use Rattle.review_rows.specs.Shelf.{Shown}
 use Rattle.review_http.specs.Peers.{Exchange, Peers, ServedAll, ServedEach}
 use Rattle.review_http.specs.declared.connections.ConnectionsFault.{ConnectionsFault}
 use Rattle.review_http.specs.declared.connections.ConnectionsFault.TheVariants.{Network, Output}
-use Rattle.review_lines.specs.declared.fault.Outcome.{Outcome}
-use Rattle.review_lines.specs.declared.fault.Outcome.TheVariants.{Complete}
-use Rattle.review_sql.specs.Shelf.{shown}
-use Rattle.review_sql.specs.declared.faults.DeskFault.{DeskFault}
-use Rattle.review_sql.specs.declared.faults.DeskFault.TheVariants as desk
-use Rattle.review_work.specs.Faults.{desk_fault, serve_outcome}
+use Rattle.review_lines.specs.declared.fault.Outcome.{Outcome, TheVariants.Complete}
+use Rattle.review_sql.specs.{Shelf.shown, declared.faults.DeskFault.DeskFault}
+use Rattle.review_work.specs.{Faults.desk_fault, Faults.serve_outcome, Turns.left_by}
 use Rattle.review_work.specs.Worked.{Known, Does, EndsServed, IsDoneOn, IsRefusedDesk, OnShelf, Worked}
-use Rattle.review_work.specs.Turns.{left_by}
-use Rattle.review_work.specs.declared.fault.ProgramFault.{ProgramFault}
-use Rattle.review_work.specs.declared.fault.ProgramFault.TheVariants.{Memory, ServedInPart}
+use Rattle.review_work.specs.declared.fault.ProgramFault.{ProgramFault, TheVariants.Memory, TheVariants.ServedInPart}
 use Rattle.review_work.specs.declared.task.Task.TheVariants.{Serve}
+use Rattle.review_sql.specs.declared.faults.DeskFault.TheVariants as desk
 
 is_some : (n : ℕ) → (suc n == 0) ≡ false
 is_some n = grind (arith, nat_tests)

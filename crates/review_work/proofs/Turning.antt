@@ -1,14 +1,13 @@
 -- Turns of serving: how they end.
 use Rattle.std.proofs.Common.{◌≡◌, ◌≤◌, ◌<◌, ◌+◌, ◌==◌, ◌∷◌, ◌⊎◌, ℕ, Bool, true, false, List, Some, None, Result, Ok, Err, IsErrAnd, ap, inl, inr, refl, arith, if◌then◌else◌}
 use Rattle.std.proofs.lemmas.Bool.Decides.{nat_tests}
-use Rattle.sqlite_trees.specs.declared.store.Store.{Ghosts}
 use Rattle.sqlite.specs.Held.{Held}
+use Rattle.sqlite_trees.specs.declared.store.Store.{Ghosts}
 use Rattle.review_lines.specs.declared.fault.Outcome.{Outcome}
 use Rattle.review_work.specs.Faults.{after_closing}
-use Rattle.review_work.specs.Worked.{Known}
 use Rattle.review_work.specs.Turns.{Turn, AreTurns, ServedInTurns, in_row, left_by}
-use Rattle.review_work.specs.declared.fault.ProgramFault.{ProgramFault}
-use Rattle.review_work.specs.declared.fault.ProgramFault.TheVariants.{Memory, Store}
+use Rattle.review_work.specs.Worked.{Known}
+use Rattle.review_work.specs.declared.fault.ProgramFault.{ProgramFault, TheVariants.Memory, TheVariants.Store}
 
 -- an error that another one was told as is that one
 pub is_error : (result : Result Outcome ProgramFault) (fault : ProgramFault) → IsErrAnd result (λ (f : ProgramFault). f ≡ fault) → result ≡ Err fault

@@ -2,10 +2,9 @@
 use Rattle.std.proofs.Common.{Bool, Result}
 use Rattle.review_rows.specs.Shelf.{Shown}
 use Rattle.review_lines.specs.declared.fault.Outcome.{Outcome}
-use Rattle.review_work.specs.declared.fault.ProgramFault.{ProgramFault}
-use Rattle.review_work.specs.declared.task.Task.{Task}
-use Rattle.review_work.specs.declared.task.Task.TheVariants.{Apply, Serve, Show, Joined}
 use Rattle.review_work.specs.Worked.{HasDone, Known}
+use Rattle.review_work.specs.declared.{fault.ProgramFault.ProgramFault, task.Task.Task}
+use Rattle.review_work.specs.declared.task.Task.TheVariants.{Apply, Serve, Show, Joined}
 
 module _ {X : Type 0} (state : X → Shown) (before after : Known) (is_warned : Bool) (ended : Result Outcome ProgramFault) (old new : X) where
   pub done_before : (task : Task) → HasDone state task (record before { is_warned = is_warned }) after ended old new → HasDone state task before after ended old new

@@ -1,17 +1,16 @@
 -- The faults of the program, from those of its parts.
 use Rattle.std.specs.Prelude.{ℕ, ◌≡◌, ◌==◌, if◌then◌else◌, List, Result, Ok, Err, codes}
-use Rattle.review_lines.specs.declared.fault.Fault.{Fault}
-use Rattle.review_lines.specs.declared.fault.Fault.TheVariants as line
-use Rattle.review_lines.specs.declared.fault.Outcome.{Outcome}
-use Rattle.review_lines.specs.declared.fault.Outcome.TheVariants.{Complete, Incomplete}
 use Rattle.review_http.specs.declared.connections.ConnectionsFault.{ConnectionsFault}
-use Rattle.review_http.specs.declared.connections.ConnectionsFault.TheVariants as connections
+use Rattle.review_lines.specs.declared.fault.{Fault.Fault, Outcome.Outcome}
+use Rattle.review_lines.specs.declared.fault.Outcome.TheVariants.{Complete, Incomplete}
 use Rattle.review_showing.specs.declared.fault.ShowFault.{ShowFault}
-use Rattle.review_showing.specs.declared.fault.ShowFault.TheVariants as shown
 use Rattle.review_sql.specs.declared.faults.DeskFault.{DeskFault}
-use Rattle.review_sql.specs.declared.faults.DeskFault.TheVariants as desk
 use Rattle.review_work.specs.declared.fault.ProgramFault.{ProgramFault}
 use Rattle.review_work.specs.declared.fault.ProgramFault.TheVariants.{NotADesk, WrongVersion, Store, ServedInPart, NotEmpty, Memory, Input, Output, Network, Damaged, Pattern, NoChange, NoProject, NoBranch}
+use Rattle.review_lines.specs.declared.fault.Fault.TheVariants as line
+use Rattle.review_http.specs.declared.connections.ConnectionsFault.TheVariants as connections
+use Rattle.review_showing.specs.declared.fault.ShowFault.TheVariants as shown
+use Rattle.review_sql.specs.declared.faults.DeskFault.TheVariants as desk
 
 -- why a desk is not made or opened
 abbrev pub desk_fault : DeskFault → ProgramFault

@@ -1,21 +1,14 @@
 -- A connection to a file, by what the file and its log held when they were opened, and how it is closed behind what was done on it.
 use Rattle.std.specs.Prelude.{◌≡◌, ◌⊎◌, IsTrue, Result, Ok, Err}
-use Rattle.sqlite_disk.specs.declared.Disk.{Ghosts}
-use Rattle.sqlite_disk.specs.declared.Files.{Files}
-use Rattle.sqlite_wal.specs.Reads.{AreClean}
-use Rattle.sqlite_wal.specs.Recovery.{Image}
-use Rattle.sqlite_store.specs.declared.store.FileStore.{FileStore}
-use Rattle.sqlite_store.specs.FileStore.{files, log_frames, view}
-use Rattle.sqlite_trees.specs.View.{IsClean}
+use Rattle.sqlite.specs.{Closing.IsCopied, Files.file_state, Files.IsClosed, Files.IsOpened, Held.Held, Start.FindsIn}
 use Rattle.sqlite.specs.State.{HasCleanDisk}
-use Rattle.sqlite.specs.Closing.{IsCopied}
-use Rattle.sqlite.specs.Held.{Held}
-use Rattle.sqlite.specs.Files.{file_state, IsClosed, IsOpened}
-use Rattle.sqlite.specs.Start.{FindsIn}
-use Rattle.review_lines.specs.declared.fault.Outcome.{Outcome}
-use Rattle.review_lines.specs.declared.fault.Outcome.TheVariants.{Complete}
-use Rattle.review_work.specs.Faults.{after_closing}
-use Rattle.review_work.specs.declared.fault.ProgramFault.{ProgramFault}
+use Rattle.sqlite_disk.specs.declared.{Disk.Ghosts, Files.Files}
+use Rattle.sqlite_store.specs.FileStore.{files, log_frames, view}
+use Rattle.sqlite_store.specs.declared.store.FileStore.{FileStore}
+use Rattle.sqlite_trees.specs.View.{IsClean}
+use Rattle.sqlite_wal.specs.{Reads.AreClean, Recovery.Image}
+use Rattle.review_lines.specs.declared.fault.Outcome.{Outcome, TheVariants.Complete}
+use Rattle.review_work.specs.{Faults.after_closing, declared.fault.ProgramFault.ProgramFault}
 use Rattle.review_work.specs.declared.fault.ProgramFault.TheVariants.{Memory, Output, Store}
 
 -- what is told once a job is done: that it is, or that it couldn't be said; else why it isn't

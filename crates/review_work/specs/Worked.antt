@@ -1,39 +1,30 @@
 -- What a task on the tables of a connection did.
-use Rattle.std.specs.Prelude.{◌≡◌, ◌≢◌, ◌⊎◌, ◌||◌, ℕ, Bool, true, false, not, List, [], Option, Result, Ok, Err, IsTrue, IfOk, IfErr}
 use Rattle.std.specs.Io.KnownBytes.{Appends}
+use Rattle.std.specs.Prelude.{◌≡◌, ◌≢◌, ◌⊎◌, ◌||◌, ℕ, Bool, true, false, not, List, [], Option, Result, Ok, Err, IsTrue, IfOk, IfErr}
+use Rattle.sqlite.specs.{Held.Held, Held.state, State.HasCleanDisk}
 use Rattle.sqlite_trees.specs.declared.store.Store.{Ghosts}
-use Rattle.sqlite.specs.Held.{Held, state}
-use Rattle.sqlite.specs.State.{HasCleanDisk}
 use Rattle.review_statements.specs.Desk.{schema_0}
-use Rattle.review_words.specs.declared.command.Delivery.{Delivery}
-use Rattle.review_words.specs.declared.reply.Reply.{Reply}
+use Rattle.review_words.specs.declared.{command.Delivery.Delivery, reply.Reply.Reply}
 use Rattle.review_rows.specs.Shelf.{Shown}
 use Rattle.review_deliveries.specs.Delivered.{WasRun}
 use Rattle.review_deliveries.specs.Restart.{RepliesFollowHistory, RestartAfterCut, RestartAfterStop, RestartCompletes, RestartIsRun, RestartKeepsHistory, RunIsSession, RunsCompose, RunsGoOn}
-use Rattle.review_lines.specs.Answers.{WereAnswered}
-use Rattle.review_lines.specs.declared.fault.Fault.{Fault}
-use Rattle.review_lines.specs.declared.fault.Outcome.{Outcome}
-use Rattle.review_http.specs.Peers.{Peers, ServedAll}
-use Rattle.review_http.specs.declared.connections.ConnectionsFault.{ConnectionsFault}
-use Rattle.review_showing.specs.declared.fault.ShowFault.{ShowFault}
+use Rattle.review_http.specs.{Peers.Peers, Peers.ServedAll, declared.connections.ConnectionsFault.ConnectionsFault}
+use Rattle.review_lines.specs.{Answers.WereAnswered, declared.fault.Fault.Fault, declared.fault.Outcome.Outcome}
 use Rattle.review_showing.specs.Shown.{Showed}
 use Rattle.review_showing.specs.Told.{branch_questions, change_page, change_questions, joined_page}
-use Rattle.review_sql.specs.Shelf.{AreLeftOfOurs, ShelfView, Stays, shown, IsAnyThere, IsHandedBack, IsUnmade}
-use Rattle.review_sql.specs.Left.{MakesOurs, StopLeavesDesk, TreesTellSchema}
-use Rattle.review_sql.specs.Reopened.{ReopensLast}
-use Rattle.review_sql.specs.Said.{IsDeskThere}
-use Rattle.review_sql.specs.Opened.{IsOpened, IsRefused, TellsShut}
-use Rattle.review_sql.specs.Created.{IsCreated}
+use Rattle.review_showing.specs.declared.fault.ShowFault.{ShowFault}
+use Rattle.review_sql.specs.{Created.IsCreated, Left.MakesOurs, Left.StopLeavesDesk, Left.TreesTellSchema}
 use Rattle.review_sql.specs.Migrated.{IsNotMigrated, IsOpenedAsIs, IsUnfit, IsUpgraded}
+use Rattle.review_sql.specs.Opened.{IsOpened, IsRefused, TellsShut}
+use Rattle.review_sql.specs.{Reopened.ReopensLast, Said.IsDeskThere}
+use Rattle.review_sql.specs.Shelf.{AreLeftOfOurs, ShelfView, Stays, shown, IsAnyThere, IsHandedBack, IsUnmade}
 use Rattle.review_sql.specs.declared.faults.DeskFault.{DeskFault}
 use Rattle.review_sql.specs.declared.faults.DeskFault.TheVariants.{NotADesk, WrongVersion, NotEmpty, NotOurs}
-use Rattle.review_sql.specs.declared.faults.DeskFault.TheVariants as desk
 use Rattle.review_work.specs.Faults.{desk_fault, lines_outcome, serve_outcome, shown_outcome}
-use Rattle.review_work.specs.declared.fault.ProgramFault.{ProgramFault}
-use Rattle.review_work.specs.declared.fault.ProgramFault.TheVariants.{Memory}
-use Rattle.review_work.specs.declared.task.Ends.{Ends}
-use Rattle.review_work.specs.declared.task.Task.{Task}
+use Rattle.review_work.specs.declared.fault.ProgramFault.{ProgramFault, TheVariants.Memory}
+use Rattle.review_work.specs.declared.task.{Ends.Ends, Task.Task}
 use Rattle.review_work.specs.declared.task.Task.TheVariants.{Apply, Serve, Show, Joined}
+use Rattle.review_sql.specs.declared.faults.DeskFault.TheVariants as desk
 
 -- lines of an input were taken and answered, as `apply_lines` says
 pub record TookLines (input before after : Option (List ℕ)) (ended : Result Outcome ProgramFault) (s t : Shown) : Type 0 where

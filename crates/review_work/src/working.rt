@@ -4,8 +4,8 @@
 //! than that a desk was there, and how refused calls are counted.
 ghost use Rattle.std.specs.Prelude.{◌≡◌, ◌⊎◌, ◌||◌, true, false, not, Err};
 ghost use Rattle.sqlite.specs.Held.{Held};
-ghost use Rattle.review_sql.specs.Shelf.{IsHandedBack, ShelfView, shown};
 ghost use Rattle.review_http.specs.Peers.{Peers};
+ghost use Rattle.review_sql.specs.Shelf.{IsHandedBack, ShelfView, shown};
 ghost use Rattle.review_work.specs.Faults.{lines_outcome, serve_outcome, shown_outcome};
 ghost use Rattle.review_work.specs.Worked.{Does, EndsServed, HasDone, IsMigratedOrNot, IsRefusedDesk, Made, OnShelf, RunsAreOne, WasMade, WasMigrated, Worked, known};
 

@@ -1,26 +1,18 @@
 -- What is read of a text tells that the text has no comma; and a part that says whose votes count is no count.
 use Rattle.std.proofs.Common.{◌≡◌, ℕ, ℤ, pos, List, ◌++◌, Bool, true, false, cond, Option, None, Some, option_map, refl, sym, subst}
-use Rattle.std.specs.Prelude.{nat_le, codes}
-use Rattle.std.specs.Str.{bytes_eq}
-use Rattle.std.proofs.lemmas.Slice.Eq.{bytes_eq-Decides}
-use Rattle.review_names.specs.Names.{is_account_number, is_word}
+use Rattle.std.{proofs.lemmas.Slice.Eq.bytes_eq-Decides, specs.Prelude.nat_le, specs.Prelude.codes, specs.Str.bytes_eq}
+use Rattle.review_names.{proofs.Numerals.number_shown, specs.Names.is_account_number, specs.Names.is_word}
 use Rattle.review_names.specs.Numerals.{◌>>=◌, number_of, account_of}
-use Rattle.review_names.proofs.Numerals.{number_shown}
-use Rattle.review_terms.specs.declared.terms.VoteValue.{VoteValue}
-use Rattle.review_terms.specs.declared.terms.VoteValue.TheVariants as value
-use Rattle.review_terms.specs.declared.terms.Comparison.{Comparison}
-use Rattle.review_terms.specs.declared.terms.Comparison.TheVariants as comparison
-use Rattle.review_terms.specs.declared.terms.Voters.{Voters}
-use Rattle.review_terms.specs.declared.terms.Voters.TheVariants as voters
-use Rattle.review_terms.specs.declared.terms.Count.{Count}
-use Rattle.review_terms.specs.declared.terms.Count.TheVariants as count
-use Rattle.review_spelling.specs.Cuts.{behind}
-use Rattle.review_spelling.specs.Values.{by_front, digits_in, negative, number_in, vote_in, equal_to, comparison_in}
+use Rattle.review_terms.specs.declared.terms.{Comparison.Comparison, Count.Count, VoteValue.VoteValue, Voters.Voters}
+use Rattle.review_spelling.{proofs.Cutting.behind_front, specs.Cuts.behind}
 use Rattle.review_spelling.specs.Labels.{accounts_in, count_in, user_in, group_in, voters_in}
-use Rattle.review_spelling.proofs.Cutting.{behind_front}
-use Rattle.review_writing.proofs.Lacking.{bare, bare_both}
+use Rattle.review_spelling.specs.Values.{by_front, digits_in, negative, number_in, vote_in, equal_to, comparison_in}
+use Rattle.review_writing.proofs.{Lacking.bare, Lacking.bare_both, Parts.bare_word}
 use Rattle.review_writing.proofs.WordsPrinted.{bare_numeral, map_gives, none_gives}
-use Rattle.review_writing.proofs.Parts.{bare_word}
+use Rattle.review_terms.specs.declared.terms.VoteValue.TheVariants as value
+use Rattle.review_terms.specs.declared.terms.Comparison.TheVariants as comparison
+use Rattle.review_terms.specs.declared.terms.Voters.TheVariants as voters
+use Rattle.review_terms.specs.declared.terms.Count.TheVariants as count
 
 -- what a reading and a second one of what it gave tell
 pub bind_gives : {A B : Type 0} (P : B → Type 0) (o : Option A) (f : A → Option B) → ((a : A) → o ≡ Some a → (b : B) → f a ≡ Some b → P b) → (b : B) → o >>= f ≡ Some b → P b

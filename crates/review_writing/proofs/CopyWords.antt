@@ -1,27 +1,22 @@
 -- The words of copy conditions, read again.
 use Rattle.std.proofs.Common.{◌≡◌, List, ◌∷◌, ℕ, Option, None, Some, Bool, true, false, cond, option_map, refl, sym, ap, subst, ◌∙◌}
-use Rattle.std.specs.Prelude.{codes}
-use Rattle.std.specs.Str.{bytes_eq}
-use Rattle.review_names.specs.Names.{is_word}
-use Rattle.review_names.specs.Numerals as Steps
+use Rattle.std.specs.{Prelude.codes, Str.bytes_eq}
+use Rattle.review_names.specs.{Kinds.kind_named, Kinds.kind_name, Names.is_word, declared.kinds.ChangeKind.ChangeKind}
 use Rattle.review_terms.specs.Words.{NoTerm, Reading, Good, Bad}
-use Rattle.review_terms.specs.declared.terms.VoteValue.{VoteValue}
-use Rattle.review_terms.specs.declared.terms.Comparison.TheVariants as comparison
-use Rattle.review_names.specs.declared.kinds.ChangeKind.{ChangeKind}
-use Rattle.review_names.specs.declared.kinds.ChangeKind.TheVariants as kind
-use Rattle.review_terms.specs.declared.terms.CopyTerm.{CopyTerm}
-use Rattle.review_terms.specs.declared.terms.CopyTerm.TheVariants as copy
+use Rattle.review_terms.specs.declared.terms.{CopyTerm.CopyTerm, VoteValue.VoteValue}
 use Rattle.review_spelling.specs.Cuts.{cut_at, key_and_value, unquoted, with_first}
 use Rattle.review_spelling.specs.Readings.{◌>>=◌, in_term, in_value, unless_zero}
-use Rattle.review_names.specs.Kinds.{kind_named, kind_name}
 use Rattle.review_spelling.specs.Values.{vote_in, is_met_by_zero}
-use Rattle.review_spelling.specs.Words.{copy_key, copy_value, copy_reading}
-use Rattle.review_writing.specs.Written.{vote_text, word_of, copy_word, IsOneWord}
-use Rattle.review_spelling.specs.declared.keys.CopyKey.{CopyKey}
-use Rattle.review_spelling.specs.declared.keys.CopyKey.TheVariants as of_copy
+use Rattle.review_spelling.specs.{Words.copy_key, Words.copy_value, Words.copy_reading, declared.keys.CopyKey.CopyKey}
 use Rattle.review_writing.proofs.Lacking.{lacks, word_back, value_lacks, bare_quote, keep, keep_both}
 use Rattle.review_writing.proofs.Standing.{quoted_runs}
 use Rattle.review_writing.proofs.WordsPrinted.{small_vote, vote_again, bare_vote}
+use Rattle.review_writing.specs.Written.{vote_text, word_of, copy_word, IsOneWord}
+use Rattle.review_names.specs.Numerals as Steps
+use Rattle.review_terms.specs.declared.terms.Comparison.TheVariants as comparison
+use Rattle.review_names.specs.declared.kinds.ChangeKind.TheVariants as kind
+use Rattle.review_terms.specs.declared.terms.CopyTerm.TheVariants as copy
+use Rattle.review_spelling.specs.declared.keys.CopyKey.TheVariants as of_copy
 
 -- a value that is read as a term: what was read
 pub value_good : {A B : Type 0} (f : A → B) (o : Option A) (t : B) → in_value (option_map f o) ≡ Good t → (x : A) × (o ≡ Some x) × (f x ≡ t)

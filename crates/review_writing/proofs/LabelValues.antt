@@ -2,19 +2,15 @@
 use Rattle.std.proofs.Common.{◌≡◌, ℕ, List, [], ◌∷◌, ◌++◌, append-nil, Bool, true, false, cond, Option, None, Some, option_map, refl, sym, ap, subst, ◌∙◌, inl, inr, ◌==◌, arith}
 use Rattle.std.proofs.lemmas.Bool.Decides.{nat_tests}
 use Rattle.review_names.specs.Numerals.{◌>>=◌}
-use Rattle.review_terms.specs.declared.terms.Voters.{Voters}
-use Rattle.review_terms.specs.declared.terms.Voters.TheVariants as voters
-use Rattle.review_terms.specs.declared.terms.Count.{Count}
-use Rattle.review_terms.specs.declared.terms.Comparison.{Comparison}
-use Rattle.review_terms.specs.declared.terms.LabelTerm.{LabelTerm}
+use Rattle.review_terms.specs.declared.terms.{Comparison.Comparison, Count.Count, LabelTerm.LabelTerm, Voters.Voters}
 use Rattle.review_spelling.specs.Cuts.{cut_at, with_first}
-use Rattle.review_spelling.specs.Values.{comparison_in}
 use Rattle.review_spelling.specs.Labels.{longest_label, count_in, voters_in, one_part, two_parts, parts_by, parts_in, comparison_part, behind_comma, label_in}
-use Rattle.review_writing.proofs.Lacking.{bare_comma, cut_lacking, whole_lacking}
-use Rattle.review_writing.proofs.Parts.{tail, cut_tail}
-use Rattle.review_writing.specs.LabelValues.{AreParts, IsLabelValue, LabelValuesAreSo}
+use Rattle.review_spelling.specs.Values.{comparison_in}
 use Rattle.review_writing.proofs.Bare.{bind_gives, comparison_bare, count_bare, voters_bare, no_count}
-use Rattle.review_writing.proofs.LongestNames.{longest_found, longest_is}
+use Rattle.review_writing.proofs.Lacking.{bare_comma, cut_lacking, whole_lacking}
+use Rattle.review_writing.proofs.{LongestNames.longest_found, LongestNames.longest_is, Parts.tail, Parts.cut_tail}
+use Rattle.review_writing.specs.LabelValues.{AreParts, IsLabelValue, LabelValuesAreSo}
+use Rattle.review_terms.specs.declared.terms.Voters.TheVariants as voters
 
 -- one part, which has no comma
 one_read : (part : List ℕ) (who : Voters) (asked : Option Count) (c : Option Count) → cut_at 44 part ≡ None → count_in part ≡ c → one_part c part ≡ Some (who, asked) → parts_in (Some part) ≡ Some (who, asked)

@@ -1,24 +1,19 @@
 -- The values of label words, written and read again.
 use Rattle.std.proofs.Common.{◌≡◌, ℕ, zero, suc, ◌+◌, ◌-◌, ◌<◌, ◌≤◌, ◌==◌, List, [], ◌∷◌, ◌++◌, length, take, drop, length-append, Bool, true, false, not, cond, Option, None, Some, refl, ap, subst, ◌∙◌, arith}
-use Rattle.std.specs.Prelude.{◌&&◌, ◌||◌, nat_le}
-use Rattle.std.specs.Char.{is_ascii_alphabetic, is_ascii_alphanumeric}
 use Rattle.std.proofs.Math.Seq.{take-append_seam, drop-append_seam, take-append-add}
-use Rattle.std.proofs.lemmas.Bool.Decides.{nat_tests}
-use Rattle.review_names.specs.Forms.{is_label, goes_on}
-use Rattle.review_names.specs.Numerals.{◌>>=◌}
-use Rattle.review_terms.specs.declared.terms.Voters.{Voters}
-use Rattle.review_terms.specs.declared.terms.Count.{Count}
-use Rattle.review_terms.specs.declared.terms.Comparison.{Comparison}
-use Rattle.review_terms.specs.declared.terms.Comparison.TheVariants as comparison
-use Rattle.review_terms.specs.declared.terms.LabelTerm.{LabelTerm}
-use Rattle.review_spelling.specs.Cuts.{cut_at}
-use Rattle.review_spelling.specs.Values.{comparison_in}
-use Rattle.review_spelling.specs.Labels.{longest_label, parts_in, comparison_part, behind_comma, label_in}
-use Rattle.review_writing.specs.Written.{comparison_text, voters_text, count_text, label_text}
+use Rattle.std.{proofs.lemmas.Bool.Decides.nat_tests, specs.Char.is_ascii_alphabetic, specs.Char.is_ascii_alphanumeric}
+use Rattle.std.specs.Prelude.{◌&&◌, ◌||◌, nat_le}
+use Rattle.review_names.specs.{Forms.is_label, Forms.goes_on, Numerals.◌>>=◌}
+use Rattle.review_terms.specs.declared.terms.{Comparison.Comparison, Count.Count, LabelTerm.LabelTerm, Voters.Voters}
 use Rattle.review_spelling.proofs.Fronts.{both, label_goes, passed_over, taken_front}
+use Rattle.review_spelling.specs.Cuts.{cut_at}
+use Rattle.review_spelling.specs.Labels.{longest_label, parts_in, comparison_part, behind_comma, label_in}
+use Rattle.review_spelling.specs.Values.{comparison_in}
 use Rattle.review_writing.proofs.Lacking.{lacks, lacks_both, bare, bare_quote}
-use Rattle.review_writing.proofs.WordsPrinted.{none_gives, IsSmallComparison, small_comparison, comparison_again, bare_comparison}
 use Rattle.review_writing.proofs.Parts.{IsNamed, IsAskedIfAny, good_parts, tail, tail_of, cut_tail, voters_lack, count_lacks}
+use Rattle.review_writing.proofs.WordsPrinted.{none_gives, IsSmallComparison, small_comparison, comparison_again, bare_comparison}
+use Rattle.review_writing.specs.Written.{comparison_text, voters_text, count_text, label_text}
+use Rattle.review_terms.specs.declared.terms.Comparison.TheVariants as comparison
 
 and_false : (b : Bool) → b && false ≡ false
 and_false true = refl

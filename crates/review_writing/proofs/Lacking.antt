@@ -1,14 +1,12 @@
 -- Texts that lack a byte, and words written of a key and a value.
 use Rattle.std.proofs.Common.{◌≡◌, ℕ, ◌==◌, List, [], ◌∷◌, ◌++◌, Bool, true, false, not, cond, Option, None, Some, option_map, refl, ap, subst, ◌∙◌}
-use Rattle.std.specs.Prelude.{◌&&◌, codes}
-use Rattle.std.specs.List.{list_all, list_any}
 use Rattle.std.proofs.lemmas.List.Folds.{list_all-append}
+use Rattle.std.specs.{List.list_all, List.list_any, Prelude.◌&&◌, Prelude.codes}
 use Rattle.review_names.specs.Numerals.{◌>>=◌}
 use Rattle.review_terms.specs.Lexemes.{is_end}
+use Rattle.review_spelling.proofs.{Cutting.same, Fronts.both}
 use Rattle.review_spelling.specs.Cuts.{cut_at, with_first, closed, unquoted_by, unquoted, key_and_value}
 use Rattle.review_writing.specs.Written.{quoted, word_of}
-use Rattle.review_spelling.proofs.Cutting.{same}
-use Rattle.review_spelling.proofs.Fronts.{both}
 
 abbrev pub lacks : ℕ → List ℕ → Bool
 lacks b = list_all (λ c. not (c == b))

@@ -1,12 +1,10 @@
 -- The longest front of a text that is a label's name.
 use Rattle.std.proofs.Common.{◌≡◌, ℕ, zero, suc, ◌+◌, ◌-◌, ◌<◌, ◌≤◌, List, [], ◌∷◌, ◌++◌, length, take, drop, length-append, append_assoc, append-nil, Bool, true, false, cond, Option, None, Some, refl, sym, ap, subst, ◌∙◌, arith}
-use Rattle.std.specs.Prelude.{◌&&◌, nat_le}
 use Rattle.std.proofs.Math.Seq.{take-append_seam, drop-append_seam, take-append-add}
-use Rattle.std.proofs.lemmas.List.{take-append-drop, length-take-le}
-use Rattle.std.proofs.lemmas.Bool.Decides.{nat_tests}
+use Rattle.std.proofs.lemmas.{Bool.Decides.nat_tests, List.take-append-drop, List.length-take-le}
+use Rattle.std.specs.Prelude.{◌&&◌, nat_le}
 use Rattle.review_names.specs.Forms.{is_label, goes_on}
-use Rattle.review_spelling.specs.Labels.{longest_label}
-use Rattle.review_spelling.proofs.Fronts.{both, taken_front}
+use Rattle.review_spelling.{proofs.Fronts.both, proofs.Fronts.taken_front, specs.Labels.longest_label}
 use Rattle.review_writing.specs.LabelValues.{IsLongestName}
 
 and_false : (b : Bool) → b && false ≡ false

@@ -1,23 +1,18 @@
 -- The parts of label words, written and read again.
 use Rattle.std.proofs.Common.{◌≡◌, ℕ, ◌≤◌, ◌==◌, List, [], ◌∷◌, ◌++◌, append-nil, Bool, true, false, not, cond, Option, None, Some, option_map, refl, ap, subst, ◌∙◌, arith}
+use Rattle.std.{proofs.lemmas.Bool.Decides.nat_tests, specs.List.list_all}
 use Rattle.std.specs.Prelude.{◌&&◌, nat_le, codes}
-use Rattle.std.specs.List.{list_all}
-use Rattle.std.proofs.lemmas.Bool.Decides.{nat_tests}
 use Rattle.review_names.specs.Names.{is_account_number, is_plain, is_word}
-use Rattle.review_names.specs.Numerals.{numeral}
-use Rattle.review_names.specs.Numerals.{account_of, number_of, ◌>>=◌}
-use Rattle.review_terms.specs.declared.terms.Voters.{Voters}
-use Rattle.review_terms.specs.declared.terms.Voters.TheVariants as voters
-use Rattle.review_terms.specs.declared.terms.Count.{Count}
-use Rattle.review_terms.specs.declared.terms.Count.TheVariants as count
-use Rattle.review_spelling.specs.Cuts.{behind, cut_at}
-use Rattle.review_spelling.specs.Values.{digits_in}
+use Rattle.review_names.specs.Numerals.{numeral, account_of, number_of, ◌>>=◌}
+use Rattle.review_terms.specs.declared.terms.{Count.Count, Voters.Voters}
+use Rattle.review_spelling.{proofs.Accounts.account_back, proofs.Fronts.both, specs.Cuts.behind, specs.Cuts.cut_at}
 use Rattle.review_spelling.specs.Labels.{accounts_in, count_in, user_in, group_in, voters_in, one_part, two_parts, parts_by, parts_in, comparison_part, behind_comma}
-use Rattle.review_writing.specs.Written.{voters_text, count_text}
-use Rattle.review_spelling.proofs.Accounts.{account_back}
-use Rattle.review_spelling.proofs.Fronts.{both}
+use Rattle.review_spelling.specs.Values.{digits_in}
 use Rattle.review_writing.proofs.Lacking.{lacks, bare, bare_quote, bare_comma, cut_lacking, whole_lacking}
 use Rattle.review_writing.proofs.WordsPrinted.{in_numeral, bare_numeral, behind_in, differs, digits_back, front_gives, test_gives, map_gives, none_gives}
+use Rattle.review_writing.specs.Written.{voters_text, count_text}
+use Rattle.review_terms.specs.declared.terms.Voters.TheVariants as voters
+use Rattle.review_terms.specs.declared.terms.Count.TheVariants as count
 
 -- from 1 to 20
 abbrev pub IsAsked : Count → Type 0

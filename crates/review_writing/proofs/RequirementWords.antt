@@ -1,28 +1,25 @@
 -- The words of submit requirements, read again.
 use Rattle.std.proofs.Common.{◌≡◌, List, ◌∷◌, ◌++◌, ℕ, Option, None, Some, Bool, true, false, cond, option_map, refl, sym, ap, subst, ◌∙◌}
-use Rattle.std.specs.Prelude.{codes}
-use Rattle.std.specs.Str.{bytes_eq}
-use Rattle.review_names.specs.Names.{is_word}
-use Rattle.review_names.specs.Numerals as Steps
-use Rattle.review_names.specs.Forms.{is_slashed_name, is_path}
-use Rattle.review_terms.specs.Words.{NoTerm, Reading, Good, Bad}
-use Rattle.review_terms.specs.Patterns.{is_pattern}
-use Rattle.review_terms.specs.declared.terms.LabelTerm.{LabelTerm}
-use Rattle.review_terms.specs.declared.terms.RequirementTerm.{RequirementTerm}
-use Rattle.review_terms.specs.declared.terms.RequirementTerm.TheVariants as requirement
+use Rattle.std.specs.{Prelude.codes, Str.bytes_eq}
+use Rattle.review_names.specs.{Forms.is_slashed_name, Forms.is_path, Names.is_word}
+use Rattle.review_terms.specs.{Patterns.is_pattern, Words.NoTerm, Words.Reading, Words.Good, Words.Bad}
+use Rattle.review_terms.specs.declared.terms.{LabelTerm.LabelTerm, RequirementTerm.RequirementTerm}
+use Rattle.review_spelling.proofs.Cutting.{behind_front}
 use Rattle.review_spelling.specs.Cuts.{behind, cut_at, key_and_value, unquoted, with_first}
+use Rattle.review_spelling.specs.Labels.{label_in}
 use Rattle.review_spelling.specs.Readings.{◌>>=◌, in_term, in_value, unless_zero}
 use Rattle.review_spelling.specs.Values.{is_met_by_zero}
-use Rattle.review_spelling.specs.Labels.{label_in}
-use Rattle.review_spelling.specs.Words.{formed, is_component, keyed, pattern_or, requirement_key, requirement_value, requirement_reading, truth_in}
-use Rattle.review_writing.specs.Written.{label_text, word_of, requirement_word, IsOneWord}
+use Rattle.review_spelling.specs.Words.{formed, is_component, keyed, pattern_or, requirement_key, requirement_value}
+use Rattle.review_spelling.specs.Words.{requirement_reading, truth_in}
 use Rattle.review_spelling.specs.declared.keys.RequirementKey.{RequirementKey}
-use Rattle.review_spelling.specs.declared.keys.RequirementKey.TheVariants as of_requirement
-use Rattle.review_spelling.proofs.Cutting.{behind_front}
-use Rattle.review_writing.proofs.Lacking.{lacks, word_back, value_lacks, keep, keep_both}
-use Rattle.review_writing.proofs.Standing.{quoted_runs}
 use Rattle.review_writing.proofs.CopyWords.{value_good, formed_good}
 use Rattle.review_writing.proofs.LabelWords.{label_again, label_of_form, label_lacks}
+use Rattle.review_writing.proofs.Lacking.{lacks, word_back, value_lacks, keep, keep_both}
+use Rattle.review_writing.proofs.Standing.{quoted_runs}
+use Rattle.review_writing.specs.Written.{label_text, word_of, requirement_word, IsOneWord}
+use Rattle.review_names.specs.Numerals as Steps
+use Rattle.review_terms.specs.declared.terms.RequirementTerm.TheVariants as requirement
+use Rattle.review_spelling.specs.declared.keys.RequirementKey.TheVariants as of_requirement
 
 name : RequirementKey → List ℕ
 name of_requirement.Is = codes "is"

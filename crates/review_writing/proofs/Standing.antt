@@ -1,11 +1,10 @@
 -- Written words stand as one word in an expression; and words with a minus in front are no terms.
 use Rattle.std.proofs.Common.{◌≡◌, ℕ, ◌==◌, List, [], ◌∷◌, ◌++◌, Bool, true, false, not, cond, refl, ap, ◌∙◌}
-use Rattle.std.specs.Prelude.{◌&&◌, ◌||◌, codes}
-use Rattle.std.specs.List.{list_any}
+use Rattle.std.specs.{List.list_any, Prelude.◌&&◌, Prelude.◌||◌, Prelude.codes}
 use Rattle.review_terms.specs.Lexemes.{is_end, runs}
-use Rattle.review_writing.specs.Written.{quoted}
 use Rattle.review_spelling.proofs.Fronts.{both}
 use Rattle.review_writing.proofs.Lacking.{lacks}
+use Rattle.review_writing.specs.Written.{quoted}
 
 not_false : (x : Bool) → not x ≡ true → x ≡ false
 not_false true e = absurd (cc)

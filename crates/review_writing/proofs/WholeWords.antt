@@ -1,28 +1,23 @@
 -- A word is a label term exactly where it is `label:` and a text that stands for the value of that term.
 use Rattle.std.proofs.Common.{◌≡◌, ℕ, List, [], ◌∷◌, ◌++◌, Bool, true, false, not, cond, Option, None, Some, option_map, refl, sym, ap, ◌∙◌, inl, inr, ◌==◌, arith}
-use Rattle.std.specs.Prelude.{◌&&◌, ◌≢◌, codes}
-use Rattle.std.specs.Str.{bytes_eq}
-use Rattle.std.proofs.lemmas.Bool.Decides.{nat_tests}
-use Rattle.std.proofs.lemmas.List.Folds.{list_all-append}
-use Rattle.std.proofs.lemmas.Slice.Eq.{bytes_eq-Decides}
-use Rattle.review_names.specs.Numerals as Steps
-use Rattle.review_terms.specs.Words.{Reading, Good}
-use Rattle.review_terms.specs.Patterns.{is_pattern}
-use Rattle.review_names.specs.Names.{is_word}
-use Rattle.review_names.specs.Forms.{is_slashed_name, is_path}
-use Rattle.review_terms.specs.declared.terms.LabelTerm.{LabelTerm}
-use Rattle.review_terms.specs.declared.terms.RequirementTerm.{RequirementTerm}
-use Rattle.review_terms.specs.declared.terms.RequirementTerm.TheVariants as requirement
+use Rattle.std.proofs.lemmas.{Bool.Decides.nat_tests, List.Folds.list_all-append, Slice.Eq.bytes_eq-Decides}
+use Rattle.std.specs.{Prelude.◌&&◌, Prelude.◌≢◌, Prelude.codes, Str.bytes_eq}
+use Rattle.review_names.specs.{Forms.is_slashed_name, Forms.is_path, Names.is_word}
+use Rattle.review_terms.specs.{Patterns.is_pattern, Words.Reading, Words.Good}
+use Rattle.review_terms.specs.declared.terms.{LabelTerm.LabelTerm, RequirementTerm.RequirementTerm}
 use Rattle.review_spelling.specs.Cuts.{behind, cut_at, closed, key_and_value, unquoted, unquoted_by}
+use Rattle.review_spelling.specs.Labels.{label_in}
 use Rattle.review_spelling.specs.Readings.{◌>>=◌, in_term, in_value, unless_zero}
 use Rattle.review_spelling.specs.Values.{is_met_by_zero}
-use Rattle.review_spelling.specs.Labels.{label_in}
-use Rattle.review_spelling.specs.Words.{formed, is_component, keyed, pattern_or, requirement_key, requirement_value, requirement_reading, truth_in}
+use Rattle.review_spelling.specs.Words.{formed, is_component, keyed, pattern_or, requirement_key, requirement_value}
+use Rattle.review_spelling.specs.Words.{requirement_reading, truth_in}
 use Rattle.review_spelling.specs.declared.keys.RequirementKey.{RequirementKey}
-use Rattle.review_spelling.specs.declared.keys.RequirementKey.TheVariants as key
+use Rattle.review_writing.proofs.LabelValues.{IsCut, cut_is, label_values}
 use Rattle.review_writing.proofs.Lacking.{lacks, cut_lacking, whole_lacking, value_lacks, keep, keep_both}
 use Rattle.review_writing.specs.LabelWords.{StandsFor, IsLabelWord, LabelWordsAreSo}
-use Rattle.review_writing.proofs.LabelValues.{IsCut, cut_is, label_values}
+use Rattle.review_names.specs.Numerals as Steps
+use Rattle.review_terms.specs.declared.terms.RequirementTerm.TheVariants as requirement
+use Rattle.review_spelling.specs.declared.keys.RequirementKey.TheVariants as key
 
 -- a value that lacks quotes, and one that no quote stands in
 quote_within : (before after : List ℕ) → lacks 34 (before ++ 34 ∷ after) ≡ false

@@ -1,25 +1,17 @@
 -- Numbers, votes and comparisons, written and read again.
 use Rattle.std.proofs.Common.{◌≡◌, ℕ, zero, suc, ◌+◌, ◌<◌, ◌≤◌, ◌==◌, ℤ, pos, negsuc, List, [], ◌∷◌, map, Bool, true, false, not, cond, Option, None, Some, IfSome, option_map, refl, sym, ap, subst, ◌∙◌, arith}
-use Rattle.std.specs.Prelude.{◌&&◌, nat_le, codes}
-use Rattle.std.specs.List.{list_all, AllByRecursion}
-use Rattle.std.specs.Int.Digits as Digits
-use Rattle.std.specs.Str.{bytes_eq}
-use Rattle.std.proofs.lemmas.Slice.Eq.{bytes_eq-Decides}
-use Rattle.std.proofs.lemmas.Int.Digits.{all_below_base_digits_of}
-use Rattle.std.proofs.lemmas.Bool.Decides.{nat_tests}
-use Rattle.review_names.specs.Numerals.{shown_digits, numeral}
-use Rattle.review_names.proofs.Numerals.{number_back}
-use Rattle.review_terms.specs.declared.terms.VoteValue.{VoteValue}
-use Rattle.review_terms.specs.declared.terms.VoteValue.TheVariants as value
-use Rattle.review_terms.specs.declared.terms.Comparison.{Comparison}
-use Rattle.review_terms.specs.declared.terms.Comparison.TheVariants as comparison
-use Rattle.review_spelling.specs.Cuts.{behind}
+use Rattle.std.proofs.lemmas.{Bool.Decides.nat_tests, Int.Digits.all_below_base_digits_of, Slice.Eq.bytes_eq-Decides}
+use Rattle.std.specs.{List.list_all, List.AllByRecursion, Prelude.◌&&◌, Prelude.nat_le, Prelude.codes, Str.bytes_eq}
+use Rattle.review_names.{proofs.Numerals.number_back, specs.Numerals.shown_digits, specs.Numerals.numeral}
+use Rattle.review_terms.specs.declared.terms.{Comparison.Comparison, VoteValue.VoteValue}
+use Rattle.review_spelling.proofs.{Cutting.behind_back, Digits.digits_small, Digits.up_to_99, Digits.up_some}
+use Rattle.review_spelling.{proofs.Fronts.both, specs.Cuts.behind}
 use Rattle.review_spelling.specs.Values.{by_front, digits_in, negative, number_in, vote_in, equal_to, comparison_in}
-use Rattle.review_writing.specs.Written.{number_text, vote_text, comparison_text}
-use Rattle.review_spelling.proofs.Cutting.{behind_back}
-use Rattle.review_spelling.proofs.Digits.{digits_small, up_to_99, up_some}
-use Rattle.review_spelling.proofs.Fronts.{both}
 use Rattle.review_writing.proofs.Lacking.{bare}
+use Rattle.review_writing.specs.Written.{number_text, vote_text, comparison_text}
+use Rattle.std.specs.Int.Digits as Digits
+use Rattle.review_terms.specs.declared.terms.VoteValue.TheVariants as value
+use Rattle.review_terms.specs.declared.terms.Comparison.TheVariants as comparison
 
 -- a digit, or with 45 for 48 also a minus
 abbrev is_in : ℕ → ℕ → Bool

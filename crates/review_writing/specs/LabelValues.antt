@@ -1,12 +1,9 @@
 -- The value of a `label:` word, in other words than those by which it is read.
 use Rattle.std.specs.Prelude.{ℕ, ◌≡◌, ◌⊎◌, ◌↔◌, ◌++◌, List, [], ◌∷◌, Option, Some, None, true, false}
 use Rattle.review_names.specs.Forms.{is_label}
-use Rattle.review_terms.specs.declared.terms.Voters.{Voters}
-use Rattle.review_terms.specs.declared.terms.Voters.TheVariants.{Everyone}
-use Rattle.review_terms.specs.declared.terms.Count.{Count}
-use Rattle.review_terms.specs.declared.terms.LabelTerm.{LabelTerm}
-use Rattle.review_spelling.specs.Values.{comparison_in}
-use Rattle.review_spelling.specs.Labels.{voters_in, count_in, label_in}
+use Rattle.review_terms.specs.declared.terms.{Count.Count, LabelTerm.LabelTerm}
+use Rattle.review_terms.specs.declared.terms.Voters.{Voters, TheVariants.Everyone}
+use Rattle.review_spelling.specs.{Labels.voters_in, Labels.count_in, Labels.label_in, Values.comparison_in}
 
 -- a label's name in front of the rest of a text, where no longer front is one
 pub record IsLongestName (name rest : List ℕ) : Type 0 where

@@ -1,11 +1,9 @@
 -- A whole `label:` word, in other words than those by which it is read.
 use Rattle.std.specs.Prelude.{ℕ, ◌≡◌, ◌≢◌, ◌⊎◌, ◌↔◌, ◌++◌, List, codes, false}
-use Rattle.review_terms.specs.Words.{Good}
-use Rattle.review_terms.specs.declared.terms.LabelTerm.{LabelTerm}
-use Rattle.review_terms.specs.declared.terms.RequirementTerm.TheVariants as requirement
-use Rattle.review_spelling.specs.Values.{is_met_by_zero}
-use Rattle.review_spelling.specs.Words.{requirement_reading}
+use Rattle.review_terms.specs.{Words.Good, declared.terms.LabelTerm.LabelTerm}
+use Rattle.review_spelling.specs.{Values.is_met_by_zero, Words.requirement_reading}
 use Rattle.review_writing.specs.LabelValues.{IsLabelValue}
+use Rattle.review_terms.specs.declared.terms.RequirementTerm.TheVariants as requirement
 
 -- a text stands for a value: it is that value, or the value between two quotes
 abbrev pub StandsFor : List ℕ → List ℕ → Type 0

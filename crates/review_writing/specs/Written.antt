@@ -1,23 +1,16 @@
 -- How terms are written.
+use Rattle.std.specs.{Char.is_ascii_lowercase, List.list_any}
 use Rattle.std.specs.Prelude.{◌≡◌, IsTrue, ℕ, suc, ℤ, pos, negsuc, List, [], ◌∷◌, ◌++◌, Bool, true, false, if◌then◌else◌, codes, Option, Some, None}
-use Rattle.std.specs.List.{list_any}
-use Rattle.std.specs.Char.{is_ascii_lowercase}
-use Rattle.review_names.specs.Numerals.{numeral}
-use Rattle.review_terms.specs.Lexemes.{is_end, runs}
-use Rattle.review_terms.specs.declared.terms.VoteValue.{VoteValue}
+use Rattle.review_names.specs.{Kinds.kind_name, Numerals.numeral}
+use Rattle.review_terms.specs.{Lexemes.is_end, Lexemes.runs, declared.terms.Comparison.Comparison}
+use Rattle.review_terms.specs.declared.terms.{CopyTerm.CopyTerm, Count.Count, LabelTerm.LabelTerm}
+use Rattle.review_terms.specs.declared.terms.{RequirementTerm.RequirementTerm, VoteValue.VoteValue, Voters.Voters}
 use Rattle.review_terms.specs.declared.terms.VoteValue.TheVariants as value
-use Rattle.review_terms.specs.declared.terms.Comparison.{Comparison}
 use Rattle.review_terms.specs.declared.terms.Comparison.TheVariants as comparison
-use Rattle.review_terms.specs.declared.terms.Voters.{Voters}
 use Rattle.review_terms.specs.declared.terms.Voters.TheVariants as voters
-use Rattle.review_terms.specs.declared.terms.Count.{Count}
 use Rattle.review_terms.specs.declared.terms.Count.TheVariants as count
-use Rattle.review_terms.specs.declared.terms.LabelTerm.{LabelTerm}
-use Rattle.review_terms.specs.declared.terms.RequirementTerm.{RequirementTerm}
 use Rattle.review_terms.specs.declared.terms.RequirementTerm.TheVariants as requirement
-use Rattle.review_terms.specs.declared.terms.CopyTerm.{CopyTerm}
 use Rattle.review_terms.specs.declared.terms.CopyTerm.TheVariants as copy
-use Rattle.review_names.specs.Kinds.{kind_name}
 
 -- a number without a plus
 unfoldable pub number_text : ℤ → List ℕ

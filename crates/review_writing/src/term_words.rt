@@ -1,6 +1,6 @@
 //! Terms written as words.
-ghost use Rattle.std.specs.Prelude.{◌≡◌, ◌++◌, ℕ, List, codes, OnErr, OnOk, string_bytes};
 ghost use Rattle.std.specs.List.{list_any};
+ghost use Rattle.std.specs.Prelude.{◌≡◌, ◌++◌, ℕ, List, codes, OnErr, OnOk, string_bytes};
 ghost use Rattle.review_names.specs.Numerals.{numeral};
 ghost use Rattle.review_terms.specs.Lexemes.{is_blank, is_end};
 ghost use Rattle.review_writing.specs.Written.{comparison_text, copy_word, count_text, label_text, number_text, quoted, requirement_word, truth_text, vote_text, voters_text, word_of};

@@ -1,8 +1,7 @@
 //! Laws of words.
 ghost use Rattle.std.specs.Prelude.{◌≡◌, ◌∷◌, ℕ, List};
 ghost use Rattle.review_terms.specs.Words.{NoTerm, Bad, Good};
-ghost use Rattle.review_terms.specs.declared.terms.CopyTerm.{CopyTerm};
-ghost use Rattle.review_terms.specs.declared.terms.RequirementTerm.{RequirementTerm};
+ghost use Rattle.review_terms.specs.declared.terms.{CopyTerm.CopyTerm, RequirementTerm.RequirementTerm};
 ghost use Rattle.review_spelling.specs.Words.{copy_reading, requirement_reading};
 ghost use Rattle.review_writing.specs.Written.{copy_word, requirement_word, IsOneWord};
 

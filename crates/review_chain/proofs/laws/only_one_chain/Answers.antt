@@ -1,6 +1,6 @@
 use Rattle.std.proofs.Common.{◌≡◌}
-use Rattle.review_chain.specs.Steps.{TheBase, Bad, Wants}
 use Rattle.review_chain.proofs.Walking.{one_walk, one_end, chain_meets, bad_meets, wanted_meets, decided}
+use Rattle.review_chain.specs.Steps.{TheBase, Bad, Wants}
 use Rattle.review_chain.proofs.laws.only_one_chain.Goals as goal
 
 pub returns : goal.returns

@@ -1,8 +1,7 @@
 use Rattle.std.proofs.Common.{◌≡◌, sym, ap, subst}
 use Rattle.std.specs.Prelude.{IfOk, option_map}
-use Rattle.review_chain.specs.Parts.{HasWalked}
-use Rattle.review_chain.specs.Steps.{want_of, wanted}
 use Rattle.review_chain.proofs.Wanting.{found_decided, found_wanted, walked_alone}
+use Rattle.review_chain.specs.{Parts.HasWalked, Steps.want_of, Steps.wanted}
 use Rattle.review_chain.proofs.walks.wanted.Goals as goal
 
 pub returns-clause-is : goal.returns-clause-is

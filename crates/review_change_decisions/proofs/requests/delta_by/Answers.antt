@@ -1,9 +1,8 @@
 use Rattle.std.proofs.Common.{◌≡◌, ◌∙◌, [], IfOk, ap, subst}
-use Rattle.review_changes.specs.Change.{after_plain}
-use Rattle.review_changes.specs.Seen.{seen}
-use Rattle.review_change_decisions.specs.Facts.{MakesChange}
+use Rattle.review_changes.specs.{Change.after_plain, Seen.seen}
 use Rattle.review_change_decisions.proofs.Edited.{comments_go, patches_go, unchanged}
 use Rattle.review_change_decisions.proofs.Plain.{plain_comments, plain_patches}
+use Rattle.review_change_decisions.specs.Facts.{MakesChange}
 use Rattle.review_change_decisions.proofs.requests.delta_by.Goals as goal
 
 pub turned-requires-clause-patches : goal.turned-requires-clause-patches

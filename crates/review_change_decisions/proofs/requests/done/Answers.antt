@@ -1,6 +1,5 @@
 use Rattle.std.proofs.Common.{◌≡◌, ◌+◌, ◌∙◌, ap, min, refl, subst}
-use Rattle.review_changes.specs.Change.{after_plain}
-use Rattle.review_changes.specs.Seen.{seen}
+use Rattle.review_changes.specs.{Change.after_plain, Seen.seen}
 use Rattle.review_change_decisions.specs.Facts.{MakesChange, next_request}
 use Rattle.review_change_decisions.proofs.requests.done.Goals as goal
 

@@ -1,9 +1,7 @@
-use Rattle.std.proofs.Common.{subst}
-use Rattle.std.specs.Option.{option_copied}
+use Rattle.std.{proofs.Common.subst, specs.Option.option_copied}
 use Rattle.review_changes.specs.Seen.{seen}
 use Rattle.review_rows.specs.Answer.{first_refusal}
-use Rattle.review_change_decisions.specs.Facts.{IsChecked}
-use Rattle.review_change_decisions.specs.Requests.{plain_list}
+use Rattle.review_change_decisions.specs.{Facts.IsChecked, Requests.plain_list}
 use Rattle.review_change_decisions.proofs.requests.plain_checked.Goals as goal
 
 pub returns-clause-checked : goal.returns-clause-checked

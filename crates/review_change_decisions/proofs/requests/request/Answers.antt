@@ -1,17 +1,14 @@
 use Rattle.std.proofs.Common.{◌∙◌, ap, subst, sym}
-use Rattle.std.specs.Prelude.{option_map}
-use Rattle.std.specs.Option.{option_copied}
-use Rattle.review_words.specs.declared.command.Command.TheVariants.{OnChange}
-use Rattle.review_words.specs.declared.reply.Refusal.TheVariants.{NoChange}
+use Rattle.std.specs.{Option.option_copied, Prelude.option_map}
+use Rattle.review_words.specs.declared.{command.Command.TheVariants.OnChange, reply.Refusal.TheVariants.NoChange}
 use Rattle.review_changes.specs.Seen.{seen}
 use Rattle.review_rows.specs.Answer.{first_refusal}
 use Rattle.review_account_decisions.proofs.Decided.{asked_beside, refused_pair}
+use Rattle.review_change_decisions.proofs.Plain.{lacking_undecided, plain_decided, plain_fits, plain_told}
 use Rattle.review_change_decisions.proofs.Told.{change_told}
 use Rattle.review_change_decisions.proofs.Undecided.{change_is, err_with, none_there, unsound_undecided}
 use Rattle.review_change_decisions.proofs.Written.{request_is}
-use Rattle.review_change_decisions.specs.Facts.{IsChecked}
-use Rattle.review_change_decisions.specs.Requests.{plain_list}
-use Rattle.review_change_decisions.proofs.Plain.{lacking_undecided, plain_decided, plain_fits, plain_told}
+use Rattle.review_change_decisions.specs.{Facts.IsChecked, Requests.plain_list}
 use Rattle.review_change_decisions.proofs.requests.request.Goals as goal
 
 pub returns-in_default-clause-decided : goal.returns-in_default-clause-decided

@@ -1,9 +1,7 @@
 use Rattle.std.proofs.Common.{◌≡◌, Some, None, refl, subst, rules}
-use Rattle.review_rows.specs.declared.rows.Want.TheVariants as want
 use Rattle.review_rows.specs.Known.{HaveJoined, Joins}
-use Rattle.review_database.specs.Loads.{IfTold}
-use Rattle.review_database.specs.Tables.{tables_at}
-use Rattle.review_database.proofs.Telling.{tells_as}
+use Rattle.review_database.{proofs.Telling.tells_as, specs.Loads.IfTold, specs.Tables.tables_at}
+use Rattle.review_rows.specs.declared.rows.Want.TheVariants as want
 use Rattle.review_change_lookups.proofs.joins.tell_joined.Goals as goal
 
 pub returns-clause-told : goal.returns-clause-told

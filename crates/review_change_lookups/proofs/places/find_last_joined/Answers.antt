@@ -1,10 +1,9 @@
 use Rattle.std.proofs.Common.{◌≡◌, ℕ, Option, Some, None, Ok, subst, rules}
 use Rattle.sqlite.specs.Held.{state}
 use Rattle.sqlite_trees.specs.Tree.{Trees}
-use Rattle.review_changes.specs.declared.rows.Header.{Header}
-use Rattle.review_statements.specs.Greatest.{HasGreatest}
-use Rattle.review_statements.specs.Search.{row_at}
+use Rattle.review_statements.specs.{Greatest.HasGreatest, Search.row_at}
 use Rattle.review_tables.proofs.Found.{look_both, look_on}
+use Rattle.review_changes.specs.declared.rows.Header.{Header}
 use Rattle.review_change_records.specs.Forms.{change_places, headers}
 use Rattle.review_change_lookups.proofs.Placed.{last_joined_damaged}
 use Rattle.review_change_lookups.proofs.places.find_last_joined.Goals as goal

@@ -1,11 +1,9 @@
 use Rattle.std.proofs.Common.{◌≡◌, true, false, refl, sym, subst, rules}
-use Rattle.review_rows.specs.declared.rows.Want.TheVariants as want
 use Rattle.review_rows.specs.Known.{Number}
+use Rattle.review_database.{proofs.Telling.tells_as, specs.Tables.tables_at}
+use Rattle.review_change_lookups.proofs.{Joining.last_joined, Placed.last_elsewhere}
 use Rattle.review_change_lookups.specs.Joins.{IsHeaderAt}
-use Rattle.review_database.specs.Tables.{tables_at}
-use Rattle.review_database.proofs.Telling.{tells_as}
-use Rattle.review_change_lookups.proofs.Joining.{last_joined}
-use Rattle.review_change_lookups.proofs.Placed.{last_elsewhere}
+use Rattle.review_rows.specs.declared.rows.Want.TheVariants as want
 use Rattle.review_change_lookups.proofs.places.tell_last_joined.Goals as goal
 
 pub returns-clause-told : goal.returns-clause-told

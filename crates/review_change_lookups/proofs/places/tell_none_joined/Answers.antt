@@ -1,9 +1,8 @@
 use Rattle.std.proofs.Common.{refl}
-use Rattle.review_rows.specs.declared.rows.Want.TheVariants as want
 use Rattle.review_rows.specs.Known.{Number}
-use Rattle.review_database.specs.Tables.{tables_at}
-use Rattle.review_database.proofs.Telling.{tells_as}
+use Rattle.review_database.{proofs.Telling.tells_as, specs.Tables.tables_at}
 use Rattle.review_change_lookups.proofs.Joining.{none_joined}
+use Rattle.review_rows.specs.declared.rows.Want.TheVariants as want
 use Rattle.review_change_lookups.proofs.places.tell_none_joined.Goals as goal
 
 pub returns-clause-told : goal.returns-clause-told

@@ -1,14 +1,12 @@
 use Rattle.std.proofs.Common.{rules, ◌≡◌, Option, ℕ, Ok}
 use Rattle.sqlite.specs.Held.{state}
 use Rattle.sqlite_trees.specs.Tree.{Trees}
-use Rattle.review_rows.specs.declared.rows.Want.TheVariants as want
 use Rattle.review_statements.specs.Greatest.{HasGreatest}
-use Rattle.review_change_records.specs.Forms.{change_numbers}
 use Rattle.review_tables.proofs.Found.{look_both, look_on}
-use Rattle.review_database.specs.declared.sights.Sight.{Sight}
-use Rattle.review_database.specs.declared.sights.Sight.TheVariants.{Learnt}
+use Rattle.review_change_records.specs.Forms.{change_numbers}
+use Rattle.review_database.specs.{Loads.Sees, declared.sights.Sight.Sight, declared.sights.Sight.TheVariants.Learnt}
 use Rattle.review_change_lookups.specs.Reviews.{NothingStays}
-use Rattle.review_database.specs.Loads.{Sees}
+use Rattle.review_rows.specs.declared.rows.Want.TheVariants as want
 use Rattle.review_change_lookups.proofs.reviews.find_last_beside.Goals as goal
 
 pub returns-in_default-clause-looks : goal.returns-in_default-clause-looks

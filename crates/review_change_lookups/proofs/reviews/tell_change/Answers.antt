@@ -1,9 +1,8 @@
 use Rattle.std.proofs.Common.{◌≡◌, Some, rules, subst}
-use Rattle.review_rows.specs.declared.rows.Want.TheVariants as want
-use Rattle.review_change_rows.specs.declared.loading.ChangeFault.TheVariants.{Gap}
-use Rattle.review_change_rows.specs.Tables.{HaveFault}
-use Rattle.review_change_lookups.specs.Reviews.{HaveTables}
+use Rattle.review_change_rows.specs.{Tables.HaveFault, declared.loading.ChangeFault.TheVariants.Gap}
 use Rattle.review_change_lookups.proofs.Reviewing.{gap_damaged, why_told}
+use Rattle.review_change_lookups.specs.Reviews.{HaveTables}
+use Rattle.review_rows.specs.declared.rows.Want.TheVariants as want
 use Rattle.review_change_lookups.proofs.reviews.tell_change.Goals as goal
 
 pub returns-in-Err-Gap-clause-told : goal.returns-in-Err-Gap-clause-told

@@ -1,10 +1,7 @@
 use Rattle.std.proofs.Common.{refl, rules, Some, None, ◌≡◌}
-use Rattle.review_records.specs.Forms.{where_is}
-use Rattle.review_records.specs.Laws.{passed}
-use Rattle.review_records.specs.Keyed.{is_small}
 use Rattle.review_rows.specs.Known.{Number}
-use Rattle.review_database.specs.Loads.{last_of}
-use Rattle.review_database.proofs.Odd.{last_change_damaged}
+use Rattle.review_records.specs.{Forms.where_is, Keyed.is_small, Laws.passed}
+use Rattle.review_database.{proofs.Odd.last_change_damaged, specs.Loads.last_of}
 use Rattle.review_change_lookups.proofs.Reviewing.{last_change}
 use Rattle.review_change_lookups.proofs.reviews.tell_last_change.Goals as goal
 

@@ -1,10 +1,9 @@
 use Rattle.std.proofs.Common.{◌≡◌, Bool, Option, Some, true, false, Ok, inl, subst, rules}
 use Rattle.sqlite.specs.Held.{state}
 use Rattle.sqlite_trees.specs.Tree.{Trees}
-use Rattle.review_rows.specs.Known.{IsBaseOrNot}
 use Rattle.review_tables.proofs.Found.{look_both, look_on}
-use Rattle.review_database.specs.Loads.{IfTold}
-use Rattle.review_database.specs.Tables.{tables_at}
+use Rattle.review_rows.specs.Known.{IsBaseOrNot}
+use Rattle.review_database.specs.{Loads.IfTold, Tables.tables_at}
 use Rattle.review_change_lookups.proofs.Sending.{looks_so}
 use Rattle.review_change_lookups.proofs.senders.find_standing.Goals as goal
 

@@ -1,9 +1,8 @@
 use Rattle.std.proofs.Common.{◌≡◌, Some, None, false, refl, rules, subst}
-use Rattle.review_rows.specs.declared.rows.Want.TheVariants as want
 use Rattle.review_rows.specs.Known.{Holder}
-use Rattle.review_database.specs.Tables.{tables_at}
+use Rattle.review_database.{proofs.Telling.tells_as, specs.Tables.tables_at}
 use Rattle.review_change_lookups.proofs.Sending.{KnowsSent, sender_told}
-use Rattle.review_database.proofs.Telling.{tells_as}
+use Rattle.review_rows.specs.declared.rows.Want.TheVariants as want
 use Rattle.review_change_lookups.proofs.senders.tell_sender.Goals as goal
 
 pub returns-in-Some-None-clause-told : goal.returns-in-Some-None-clause-told

@@ -1,8 +1,7 @@
 use Rattle.std.proofs.Common.{refl}
-use Rattle.review_rows.specs.declared.rows.Want.TheVariants as want
 use Rattle.review_rows.specs.Known.{Stands}
-use Rattle.review_database.specs.Tables.{tables_at}
-use Rattle.review_database.proofs.Telling.{tells_as}
+use Rattle.review_database.{proofs.Telling.tells_as, specs.Tables.tables_at}
+use Rattle.review_rows.specs.declared.rows.Want.TheVariants as want
 use Rattle.review_change_lookups.proofs.senders.tell_standing.Goals as goal
 
 pub returns-clause-told : goal.returns-clause-told

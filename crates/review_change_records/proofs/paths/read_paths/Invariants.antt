@@ -1,6 +1,6 @@
-use Rattle.std.proofs.Common.{length}
 use denote.Shadow.{shadow}
 use denote.Text.{Utf8}
+use Rattle.std.proofs.Common.{length}
 use Rattle.review_change_records.proofs.Lines.{AreLinesSoFar}
 use Rattle.review_change_records.proofs.paths.read_paths.Given as goal
 

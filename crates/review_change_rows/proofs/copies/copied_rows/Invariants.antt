@@ -1,5 +1,4 @@
-use Rattle.std.proofs.Common.{◌≡◌, map}
-use Rattle.std.specs.Map.Iter.{deref_pair}
+use Rattle.std.{proofs.Common.◌≡◌, proofs.Common.map, specs.Map.Iter.deref_pair}
 use Rattle.review_change_rows.proofs.copies.copied_rows.Given as goal
 
 abbrev pub invariant-loop-key : goal.invariant-loop-key

@@ -1,8 +1,5 @@
-use Rattle.std.proofs.Common.{◌∙◌, ap, sym, subst}
-use Rattle.std.specs.List.{IsDistinct}
-use Rattle.std.specs.Map.{keys_of}
-use Rattle.std.specs.Ordering.{eq_by_cmp}
-use Rattle.std.proofs.lemmas.Map.Keys.{IsDistinct-from_sorted}
+use Rattle.std.proofs.{Common.◌∙◌, Common.ap, Common.sym, Common.subst, lemmas.Map.Keys.IsDistinct-from_sorted}
+use Rattle.std.specs.{List.IsDistinct, Map.keys_of, Ordering.eq_by_cmp}
 use Rattle.review_table.specs.Rows.{row_in}
 use Rattle.review_change_rows.proofs.copies.copied_table.Goals as goal
 

@@ -2,8 +2,8 @@ use Rattle.std.proofs.Common.{◌≡◌, ◌++◌, ◌∙◌, ap, sym, subst}
 use Rattle.std.specs.List.{All}
 use Rattle.review_table.specs.Rows.{rows_of, row_in, changed}
 use Rattle.review_rows.specs.Decisions.{NamesOnce}
-use Rattle.review_change_rows.specs.Differences.{puts, takes}
 use Rattle.review_change_rows.proofs.Becoming.{difference_at, difference_narrow, difference_once}
+use Rattle.review_change_rows.specs.Differences.{puts, takes}
 use Rattle.review_change_rows.proofs.differences.difference.Goals as goal
 
 pub returns-clause-becomes : goal.returns-clause-becomes

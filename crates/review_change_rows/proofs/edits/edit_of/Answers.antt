@@ -1,5 +1,4 @@
-use Rattle.std.proofs.Common.{◌∙◌, sym, ap}
-use Rattle.std.specs.Ordering.{nat_cmp}
+use Rattle.std.{proofs.Common.◌∙◌, proofs.Common.sym, proofs.Common.ap, specs.Ordering.nat_cmp}
 use Rattle.review_table.specs.Rows.{changed}
 use Rattle.review_changes.specs.Change.{of_number}
 use Rattle.review_change_rows.proofs.Edited.{turned}

@@ -1,12 +1,10 @@
-use Rattle.std.proofs.Common.{◌≡◌, ◌∙◌, None, sym, subst}
-use Rattle.std.proofs.lemmas.Result.{IfOk-weaker}
+use Rattle.std.proofs.{Common.◌≡◌, Common.◌∙◌, Common.None, Common.sym, Common.subst, lemmas.Result.IfOk-weaker}
 use Rattle.review_names.specs.Forms.{most_comments, most_patches}
 use Rattle.review_table.specs.Rows.{after_change}
-use Rattle.review_changes.specs.Parts.{Part, part_row}
-use Rattle.review_changes.specs.Seen.{seen}
+use Rattle.review_changes.specs.{Parts.Part, Parts.part_row, Seen.seen}
 use Rattle.review_rows.specs.Rows.{part_change}
-use Rattle.review_change_rows.specs.Edits.{GoesOn}
 use Rattle.review_change_rows.proofs.Edited.{bare_before}
+use Rattle.review_change_rows.specs.Edits.{GoesOn}
 use Rattle.review_change_rows.proofs.edits.edit_of_new.Goals as goal
 
 pub edit_of-requires-clause-patches : goal.edit_of-requires-clause-patches

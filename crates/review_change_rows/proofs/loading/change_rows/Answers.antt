@@ -1,6 +1,6 @@
 use Rattle.std.proofs.Common.{refl}
-use Rattle.review_change_rows.specs.Tables.{HaveFault}
 use Rattle.review_change_rows.proofs.Shown.{comments_fault, passed, patches_fault, shown}
+use Rattle.review_change_rows.specs.Tables.{HaveFault}
 use Rattle.review_change_rows.proofs.loading.change_rows.Goals as goal
 
 pub returns-in_err-patches-clause-fault : goal.returns-in_err-patches-clause-fault

@@ -1,8 +1,8 @@
 use Rattle.std.proofs.Common.{◌≡◌, ◌+◌, ◌∙◌, ◌++◌, ap, sym, [], arith, length}
 use Rattle.std.proofs.lemmas.Grind.{common_steps}
 use Rattle.review_table.specs.Rows.{rows_of}
-use Rattle.review_change_rows.specs.Tables.{numbered}
 use Rattle.review_change_rows.proofs.Ordered.{gap, in_order, numbered_more}
+use Rattle.review_change_rows.specs.Tables.{numbered}
 use Rattle.review_change_rows.proofs.loading.comments_in_order.Goals as goal
 
 pub loop-number-init : goal.loop-number-init

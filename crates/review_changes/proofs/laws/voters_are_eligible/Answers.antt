@@ -1,6 +1,6 @@
+use Rattle.std.specs.Prelude.{◌==◌, is_some}
 use Rattle.review_changes.proofs.Eligible.{role_eligible}
 use Rattle.review_changes.specs.Change.{uploader}
-use Rattle.std.specs.Prelude.{◌==◌, is_some}
 use Rattle.review_changes.proofs.laws.voters_are_eligible.Goals as goal
 
 pub returns : goal.returns

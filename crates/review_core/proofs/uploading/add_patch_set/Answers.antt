@@ -1,18 +1,14 @@
 use Rattle.std.proofs.Common.{◌≡◌, ◌==◌, ◌&&◌, ◌||◌, ◌+◌, ◌++◌, ◌∷◌, [], not, ◌∙◌, ap, sym, length, pos, None, map}
-use Rattle.std.specs.Prelude.{if◌then◌else◌, is_some, find, option_map}
 use Rattle.std.specs.Cmp.Lexicographic.{pointwise}
+use Rattle.std.specs.Prelude.{if◌then◌else◌, is_some, find, option_map}
 use Rattle.review_table.specs.Rows.{row_in, rows_of}
 use Rattle.review_judging.specs.declared.facts.VoteFacts.{VoteFacts}
-use Rattle.review_changes.specs.declared.rows.Why.TheVariants.{NotCopied}
-use Rattle.review_changes.specs.declared.rows.PatchRow.{PatchRow}
 use Rattle.review_changes.specs.Change.{last_uploader, last_paths, kept_or}
 use Rattle.review_changes.specs.Seen.{seen, vote_in, vote_cmp, of_account}
-use Rattle.review_changes.specs.Votes.{voted}
+use Rattle.review_changes.specs.{Votes.voted, declared.rows.PatchRow.PatchRow, declared.rows.Why.TheVariants.NotCopied}
+use Rattle.review_parts.proofs.{Copied.votes_carried, Copied.lost_is, Counted.many_copied, Counted.many_lost}
 use Rattle.review_parts.specs.Copies.{copies_by, group_list, has_lost, with_groups}
-use Rattle.review_parts.specs.Tables.{put_in}
-use Rattle.review_parts.specs.declared.attention.Who.{Who}
-use Rattle.review_parts.proofs.Copied.{votes_carried, lost_is}
-use Rattle.review_parts.proofs.Counted.{many_copied, many_lost}
+use Rattle.review_parts.specs.{Tables.put_in, declared.attention.Who.Who}
 use Rattle.review_core.proofs.uploading.add_patch_set.Goals as goal
 
 pub returns : goal.returns

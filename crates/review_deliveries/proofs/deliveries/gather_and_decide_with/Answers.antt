@@ -1,10 +1,8 @@
-use Rattle.std.proofs.Common.{inl, subst, sym}
-use Rattle.std.specs.Prelude.{option_copied}
+use Rattle.std.{proofs.Common.inl, proofs.Common.subst, proofs.Common.sym, specs.Prelude.option_copied}
 use Rattle.review_rows.specs.Steps.{OfCommand}
-use Rattle.review_deliveries.specs.Deciding.{WasUndecided}
-use Rattle.review_deliveries.specs.Gathered.{IsAllAsked}
 use Rattle.review_deliveries.proofs.Deciding.{counts_none, leaves_alike, ungathered_undecided, was_decided, was_stored, was_undecided}
 use Rattle.review_deliveries.proofs.Filed.{passed_on}
+use Rattle.review_deliveries.specs.{Deciding.WasUndecided, Gathered.IsAllAsked}
 use Rattle.review_deliveries.proofs.deliveries.gather_and_decide_with.Goals as goal
 
 pub returns-clause-decided : goal.returns-clause-decided

@@ -1,11 +1,9 @@
 use Rattle.std.proofs.Common.{◌∙◌, None, sym, subst}
-use Rattle.review_words.specs.declared.command.Delivery.TheVariants.{Write}
-use Rattle.review_words.specs.History.{Identity}
-use Rattle.review_rows.specs.Rows.{kept_row}
-use Rattle.review_rows.specs.Shelf.{Answers, IsRecalled, Shows}
-use Rattle.review_deliveries.specs.Replies.{IsToldAgain, StoresOnce, KeepsUntaken, reply_of}
-use Rattle.review_deliveries.proofs.Served.{closed_served, repeat_served, after_read, views_stay, unrecalled}
+use Rattle.review_words.specs.{History.Identity, declared.command.Delivery.TheVariants.Write}
+use Rattle.review_rows.specs.{Rows.kept_row, Shelf.Answers, Shelf.IsRecalled, Shelf.Shows}
 use Rattle.review_deliveries.proofs.Effects.{repeated, repeat_keeps}
+use Rattle.review_deliveries.proofs.Served.{closed_served, repeat_served, after_read, views_stay, unrecalled}
+use Rattle.review_deliveries.specs.Replies.{IsToldAgain, StoresOnce, KeepsUntaken, reply_of}
 use Rattle.review_deliveries.proofs.deliveries.write.Goals as goal
 
 pub returns-in-Kept-clause-served : goal.returns-in-Kept-clause-served

@@ -1,5 +1,4 @@
-use Rattle.std.proofs.Common.{◌≡◌, drop}
-use Rattle.std.specs.Prelude.{fold}
+use Rattle.std.{proofs.Common.◌≡◌, proofs.Common.drop, specs.Prelude.fold}
 use Rattle.review_project.specs.Inherited.{put_by}
 use Rattle.review_effective.proofs.inheriting.put_all.Given as goal
 

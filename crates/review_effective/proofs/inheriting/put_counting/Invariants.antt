@@ -1,8 +1,6 @@
-use Rattle.std.proofs.Common.{◌≡◌, drop}
-use Rattle.std.specs.Prelude.{filter, fold}
+use Rattle.std.{proofs.Common.◌≡◌, proofs.Common.drop, specs.Prelude.filter, specs.Prelude.fold}
 use Rattle.review_expr.specs.declared.expr.Expr.{Expr}
-use Rattle.review_project.specs.Inherited.{counts, put_by}
-use Rattle.review_project.specs.View.{RequirementView}
+use Rattle.review_project.specs.{Inherited.counts, Inherited.put_by, View.RequirementView}
 use Rattle.review_effective.proofs.inheriting.put_counting.Given as goal
 
 abbrev pub invariant-loop-requirement : goal.invariant-loop-requirement

@@ -1,11 +1,10 @@
 use Rattle.std.proofs.Common.{◌+◌, ap, ap₂, sym, ◌∙◌, arith, refl}
-use Rattle.review_terms.specs.Scanned.{lexemes}
-use Rattle.review_terms.specs.Views.{toks}
-use Rattle.review_expr.specs.Tokens.{opens_at, word_tokens}
-use Rattle.review_expr.proofs.Signs.{toks_more}
+use Rattle.review_terms.specs.{Scanned.lexemes, Views.toks}
 use Rattle.review_expr.proofs.Reached.{word_spans, word_refused, piece_more, to_the_end}
-use Rattle.review_expr.proofs.words.tokens_of.Goals as goal
+use Rattle.review_expr.proofs.Signs.{toks_more}
 use Rattle.review_expr.proofs.words.tokens_of.Goals.{in-Open+in_ok-push_back-in-Open, in-Close+in_ok-push_back-in-Close, in-Word+in_default}
+use Rattle.review_expr.specs.Tokens.{opens_at, word_tokens}
+use Rattle.review_expr.proofs.words.tokens_of.Goals as goal
 
 pub overflow_add-start : goal.overflow_add-start
 overflow_add-start g c =

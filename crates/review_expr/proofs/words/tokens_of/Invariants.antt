@@ -1,6 +1,5 @@
 use Rattle.std.proofs.Common.{◌≡◌, Some, take, drop}
-use Rattle.review_terms.specs.Scanned.{lexemes}
-use Rattle.review_terms.specs.Views.{toks}
+use Rattle.review_terms.specs.{Scanned.lexemes, Views.toks}
 use Rattle.review_expr.specs.Tokens.{tokens_before}
 use Rattle.review_expr.proofs.words.tokens_of.Given as goal
 

@@ -1,7 +1,7 @@
 use Rattle.std.proofs.Common.{◌≡◌, ℕ, List, length, map}
 use Rattle.review_words.specs.Texts.{text_of}
-use Rattle.review_fields.specs.Cutting.{AreShort}
 use Rattle.review_fields.proofs.Splitting.{Left}
+use Rattle.review_fields.specs.Cutting.{AreShort}
 use Rattle.review_fields.proofs.pieces.cut.Given as goal
 
 abbrev pub invariant-loop-rest : goal.invariant-loop-rest

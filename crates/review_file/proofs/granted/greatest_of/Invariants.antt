@@ -1,6 +1,5 @@
 use Rattle.std.proofs.Common.{◌≡◌, map, drop}
-use Rattle.std.specs.Prelude.{filter, fold}
-use Rattle.std.specs.Int.{int_max}
+use Rattle.std.specs.{Int.int_max, Prelude.filter, Prelude.fold}
 use Rattle.review_names.specs.Groups.{has_account}
 use Rattle.review_project.specs.Rights.{greatest_of}
 use Rattle.review_file.proofs.granted.greatest_of.Given as goal

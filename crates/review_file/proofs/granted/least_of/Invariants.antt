@@ -1,6 +1,5 @@
 use Rattle.std.proofs.Common.{◌≡◌, map, drop}
-use Rattle.std.specs.Prelude.{filter, fold}
-use Rattle.std.specs.Int.{int_min}
+use Rattle.std.specs.{Int.int_min, Prelude.filter, Prelude.fold}
 use Rattle.review_names.specs.Groups.{has_account}
 use Rattle.review_project.specs.Rights.{least_of}
 use Rattle.review_file.proofs.granted.least_of.Given as goal

@@ -1,6 +1,6 @@
 use Rattle.std.proofs.Common.{◌≡◌, ℕ, List, [], ◌∷◌, Option, Some, IfSome, ap, subst, sym}
-use Rattle.review_http.specs.Peers.{ServedOne, WereTold}
 use Rattle.review_http.proofs.Connected.{served_one, told_text}
+use Rattle.review_http.specs.Peers.{ServedOne, WereTold}
 use Rattle.review_http.proofs.connections.serve.Goals as goal
 
 pub returns-clause-served : goal.returns-clause-served

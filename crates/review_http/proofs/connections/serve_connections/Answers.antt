@@ -1,7 +1,7 @@
 use Rattle.std.proofs.Common.{◌≡◌, ◌+◌, ◌++◌, ◌∷◌, ◌∙◌, List, [], Option, ℕ, length, length-append, refl, sym, subst, rules, arith}
 use Rattle.review_deliveries.proofs.Ran.{ran_none}
-use Rattle.review_http.specs.Peers.{Exchange, WereTold}
 use Rattle.review_http.proofs.Connected.{came_none, came_one, each_more, ran_more, told_none, told_one, texts_of}
+use Rattle.review_http.specs.Peers.{Exchange, WereTold}
 use Rattle.review_http.proofs.connections.serve_connections.Goals as goal
 
 pub loop-served-init : goal.loop-served-init

@@ -1,5 +1,4 @@
-use Rattle.review_inheritance.proofs.OneFile.{one_file}
-use Rattle.review_inheritance.proofs.Together.{same_covers}
+use Rattle.review_inheritance.proofs.{OneFile.one_file, Together.same_covers}
 use Rattle.review_inheritance.proofs.reading.one_file.Goals as goal
 
 pub returns-clause-trees : goal.returns-clause-trees

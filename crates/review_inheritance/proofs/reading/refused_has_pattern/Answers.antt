@@ -1,6 +1,5 @@
 use Rattle.std.proofs.Common.{refl}
-use Rattle.review_project.proofs.Spells.{pattern_spelled}
-use Rattle.review_project.specs.declared.fault.ReadFault.TheVariants.{Pattern}
+use Rattle.review_project.{proofs.Spells.pattern_spelled, specs.declared.fault.ReadFault.TheVariants.Pattern}
 use Rattle.review_inheritance.proofs.reading.refused_has_pattern.Goals as goal
 
 pub returns : goal.returns

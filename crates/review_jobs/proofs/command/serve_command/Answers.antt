@@ -1,5 +1,4 @@
-use Rattle.std.proofs.Common.{subst}
-use Rattle.std.specs.Prelude.{codes}
+use Rattle.std.{proofs.Common.subst, specs.Prelude.codes}
 use Rattle.clap.specs.Words.{new_app, with_rule}
 use Rattle.review_jobs.specs.CommandLine.{Makes, file, port}
 use Rattle.review_jobs.proofs.command.serve_command.Goals as goal

@@ -1,7 +1,6 @@
 use Rattle.std.proofs.Common.{◌∙◌, ap, subst}
-use Rattle.review_jobs.specs.Faults.{fault_of_kind}
-use Rattle.review_jobs.specs.Jobs.{Gives, spelled}
 use Rattle.review_jobs.proofs.Usage.{found_job, no_job}
+use Rattle.review_jobs.specs.{Faults.fault_of_kind, Jobs.Gives, Jobs.spelled}
 use Rattle.review_jobs.proofs.reading.job_taken.Goals as goal
 
 pub returns-in-Err : goal.returns-in-Err

@@ -1,6 +1,5 @@
 use Rattle.std.proofs.Common.{◌≡◌, ◌++◌, drop, map}
-use Rattle.serde_json.specs.View.{view}
-use Rattle.serde_json.specs.Data.{string}
+use Rattle.serde_json.specs.{Data.string, View.view}
 use Rattle.review_json.proofs.answer.commit_values.Given as goal
 
 abbrev pub invariant-loop-commit : goal.invariant-loop-commit

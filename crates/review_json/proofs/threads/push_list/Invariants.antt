@@ -1,7 +1,6 @@
 use Rattle.std.proofs.Common.{◌≡◌, ◌++◌, false, drop, map}
 use Rattle.std.specs.Prelude.{string_bytes}
-use Rattle.serde_json.specs.View.{items_of}
-use Rattle.serde_json.specs.Written.{items_text}
+use Rattle.serde_json.specs.{View.items_of, Written.items_text}
 use Rattle.review_json.proofs.threads.push_list.Given as goal
 
 -- the text with that of the items that are left is the text before with that of all

@@ -1,7 +1,7 @@
 use Rattle.std.proofs.Common.{refl, arith}
 use Rattle.review_terms.proofs.Nodes.{view-And, view-Or}
-use Rattle.review_judging.specs.Postfix.{AndEntry, OrEntry}
 use Rattle.review_judging.proofs.Flat.{behind}
+use Rattle.review_judging.specs.Postfix.{AndEntry, OrEntry}
 use Rattle.review_judging.proofs.compiled.+steps.Goals as goal
 
 pub push_steps-returns-in_ok-push-in-And : goal.push_steps-returns-in_ok-push-in-And

@@ -1,6 +1,6 @@
 use Rattle.std.proofs.Common.{rules, ◌≡◌, ◌≤◌, ◌∷◌, [], length, take, get_or, refl}
-use Rattle.review_judging.specs.Holds.{holds}
 use Rattle.review_judging.proofs.Flat.{first_is, leads_list, none_left, there_is}
+use Rattle.review_judging.specs.Holds.{holds}
 use Rattle.review_judging.proofs.compiled.holds_in.Goals as goal
 
 pub returns-in-Some : goal.returns-in-Some

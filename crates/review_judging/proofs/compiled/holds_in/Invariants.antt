@@ -1,6 +1,5 @@
 use Rattle.std.proofs.Common.{◌≡◌, ◌≤◌, Bool, [], length, map, drop, take}
-use Rattle.review_judging.specs.Postfix.{entry}
-use Rattle.review_judging.specs.Stack.{LeadsTo}
+use Rattle.review_judging.specs.{Postfix.entry, Stack.LeadsTo}
 use Rattle.review_judging.proofs.compiled.holds_in.Given as goal
 
 -- what the whole list leads to from nothing, the rest of it leads to from the stack, which has at most as many values as steps were taken

@@ -1,6 +1,5 @@
 use Rattle.std.proofs.Common.{◌≡◌, map, drop}
-use Rattle.review_terms.specs.Grammar.{trees}
-use Rattle.review_terms.specs.Views.{view}
+use Rattle.review_terms.specs.{Grammar.trees, Views.view}
 use Rattle.review_judging.specs.Holds.{all_hold, any_holds}
 use Rattle.review_judging.proofs.judge.+eval.Given as goal
 

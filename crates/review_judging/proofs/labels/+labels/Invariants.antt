@@ -1,6 +1,5 @@
 use Rattle.std.proofs.Common.{◌≡◌, ◌++◌, map, drop}
-use Rattle.review_terms.specs.Grammar.{trees}
-use Rattle.review_terms.specs.Views.{view}
+use Rattle.review_terms.specs.{Grammar.trees, Views.view}
 use Rattle.review_judging.specs.Labels.{all_labels}
 use Rattle.review_judging.proofs.labels.+labels.Given as goal
 

@@ -1,6 +1,6 @@
+use denote.Bor.{Bor}
 use Rattle.std.proofs.Common.{◌≡◌, ℕ, List, ◌++◌, map}
 use Rattle.std.specs.Vec.{vec_len}
-use denote.Bor.{Bor}
 use Rattle.review_names.specs.Forms.{text_set}
 use Rattle.review_judging.proofs.labels.set_of.Given as goal
 

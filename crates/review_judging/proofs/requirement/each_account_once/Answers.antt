@@ -1,8 +1,5 @@
 use Rattle.std.proofs.Common.{rules, ◌≡◌, None, sym, subst}
-use Rattle.std.specs.BTreeMap.{get}
-use Rattle.std.specs.Cmp.Lexicographic.{slice_cmp}
-use Rattle.std.specs.List.Sorted.{IsStrictlySortedBy}
-use Rattle.std.specs.Map.{keys_of}
+use Rattle.std.specs.{BTreeMap.get, Cmp.Lexicographic.slice_cmp, List.Sorted.IsStrictlySortedBy, Map.keys_of}
 use Rattle.std.specs.Ordering.{nat_cmp}
 use Rattle.review_judging.specs.Holds.{votes_on}
 use Rattle.review_judging.proofs.requirement.each_account_once.Goals as goal

@@ -1,8 +1,6 @@
-use Rattle.std.proofs.Common.{◌≡◌, length}
-use Rattle.std.specs.List.{list_any}
-use Rattle.std.specs.Str.{bytes_eq}
 use denote.Shadow.{shadow}
 use denote.Text.{Utf8}
+use Rattle.std.{proofs.Common.◌≡◌, proofs.Common.length, specs.List.list_any, specs.Str.bytes_eq}
 use Rattle.review_names.specs.Forms.{components}
 use Rattle.review_judging.proofs.requirement.has_component.Given as goal
 

@@ -1,8 +1,7 @@
 use Rattle.std.proofs.Common.{◌∙◌, ◌++◌, ap, sym, map, take}
-use Rattle.std.specs.Map.Iter.{deref_pair}
-use Rattle.std.proofs.lemmas.List.{append_assoc, take_all}
-use Rattle.review_kept_answers.specs.Answers.{if_lower, lower}
+use Rattle.std.{proofs.lemmas.List.append_assoc, proofs.lemmas.List.take_all, specs.Map.Iter.deref_pair}
 use Rattle.review_kept_answers.proofs.Dropped.{lower_more}
+use Rattle.review_kept_answers.specs.Answers.{if_lower, lower}
 use Rattle.review_kept_answers.proofs.lower.push_lower.Goals as goal
 
 pub loop-row-preserved : goal.loop-row-preserved

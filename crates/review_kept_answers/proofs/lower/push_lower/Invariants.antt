@@ -1,5 +1,4 @@
-use Rattle.std.proofs.Common.{◌≡◌, ◌++◌, map, take}
-use Rattle.std.specs.Map.Iter.{deref_pair}
+use Rattle.std.{proofs.Common.◌≡◌, proofs.Common.◌++◌, proofs.Common.map, proofs.Common.take, specs.Map.Iter.deref_pair}
 use Rattle.review_kept_answers.specs.Answers.{lower}
 use Rattle.review_kept_answers.proofs.lower.push_lower.Given as goal
 

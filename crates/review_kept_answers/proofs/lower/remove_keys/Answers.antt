@@ -1,9 +1,8 @@
 use Rattle.std.proofs.Common.{◌∙◌, None, ap, cond, sym, take, arith}
-use Rattle.std.specs.BTreeMap.{is_at}
-use Rattle.std.proofs.lemmas.List.{take_all}
+use Rattle.std.{proofs.lemmas.List.take_all, specs.BTreeMap.is_at}
 use Rattle.review_table.specs.Rows.{row_in, rows_of}
-use Rattle.review_kept_answers.specs.Answers.{answer_cmp, is_among}
 use Rattle.review_kept_answers.proofs.Dropped.{among_more, drop_more}
+use Rattle.review_kept_answers.specs.Answers.{answer_cmp, is_among}
 use Rattle.review_kept_answers.proofs.lower.remove_keys.Goals as goal
 
 pub loop-key-preserved : goal.loop-key-preserved

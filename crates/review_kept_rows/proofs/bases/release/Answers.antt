@@ -1,6 +1,4 @@
-use Rattle.std.proofs.Common.{sym, subst}
-use Rattle.std.specs.Ordering.{nat_cmp}
-use Rattle.std.specs.Cmp.Lexicographic.{slice_cmp}
+use Rattle.std.{proofs.Common.sym, proofs.Common.subst, specs.Cmp.Lexicographic.slice_cmp, specs.Ordering.nat_cmp}
 use Rattle.review_table.specs.Rows.{HasEmptyOnly, is_named}
 use Rattle.review_rows.specs.Rows.{branch_cmp}
 use Rattle.review_kept_rows.specs.Bases.{commit_cmp}

@@ -1,10 +1,8 @@
-use Rattle.std.proofs.Common.{subst}
-use Rattle.std.specs.Ordering.{nat_cmp}
-use Rattle.std.specs.Cmp.Lexicographic.{slice_cmp}
+use Rattle.std.{proofs.Common.subst, specs.Cmp.Lexicographic.slice_cmp, specs.Ordering.nat_cmp}
 use Rattle.review_table.specs.Rows.{HavePlaces, HasEmptyOnly, is_named}
 use Rattle.review_rows.specs.Rows.{branch_cmp}
-use Rattle.review_kept_rows.specs.Bases.{commit_cmp}
 use Rattle.review_kept_rows.proofs.Based.{none_spare}
+use Rattle.review_kept_rows.specs.Bases.{commit_cmp}
 use Rattle.review_kept_rows.proofs.bases.reserve.Goals as goal
 
 pub returns-clause-listed : goal.returns-clause-listed

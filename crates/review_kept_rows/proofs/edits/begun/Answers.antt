@@ -1,8 +1,7 @@
-use Rattle.std.proofs.Common.{◌∙◌, None}
-use Rattle.std.proofs.lemmas.Result.{IfOk-weaker}
+use Rattle.std.proofs.{Common.◌∙◌, Common.None, lemmas.Result.IfOk-weaker}
 use Rattle.review_change_rows.specs.Tables.{part_in}
-use Rattle.review_kept_rows.specs.Kept.{AreEdited}
 use Rattle.review_kept_rows.proofs.Turned.{bare_before}
+use Rattle.review_kept_rows.specs.Kept.{AreEdited}
 use Rattle.review_kept_rows.proofs.edits.begun.Goals as goal
 
 pub returns : goal.returns

@@ -1,6 +1,5 @@
 use Rattle.std.proofs.Common.{◌∙◌, ap, sym}
-use Rattle.review_table.specs.Rows.{changed, row_in, rows_of}
-use Rattle.review_table.proofs.Places.{changed_pushed}
+use Rattle.review_table.{proofs.Places.changed_pushed, specs.Rows.changed, specs.Rows.row_in, specs.Rows.rows_of}
 use Rattle.review_kept_rows.proofs.edits.change_all.Goals as goal
 
 pub loop-change-preserved : goal.loop-change-preserved

@@ -1,5 +1,4 @@
-use Rattle.std.proofs.Common.{◌∙◌}
-use Rattle.std.specs.Ordering.{nat_cmp}
+use Rattle.std.{proofs.Common.◌∙◌, specs.Ordering.nat_cmp}
 use Rattle.review_table.specs.Rows.{changed, row_in, rows_of}
 use Rattle.review_kept_rows.proofs.Turned.{turned}
 use Rattle.review_kept_rows.proofs.edits.edited.Goals as goal

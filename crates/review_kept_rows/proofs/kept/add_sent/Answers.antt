@@ -1,6 +1,6 @@
 use Rattle.std.proofs.Common.{◌++◌, ◌<◌, ◌∙◌, ap, subst, length, get_or}
-use Rattle.review_kept_rows.specs.Kept.{sent_in}
 use Rattle.review_kept_rows.proofs.Listing.{sent_more}
+use Rattle.review_kept_rows.specs.Kept.{sent_in}
 use Rattle.review_kept_rows.proofs.kept.add_sent.Goals as goal
 
 pub loop-patch-preserved : goal.loop-patch-preserved

@@ -1,6 +1,5 @@
 use Rattle.std.proofs.lemmas.Result.{IfErr-weaker}
-use Rattle.review_change_rows.specs.Tables.{HaveFault}
-use Rattle.review_change_rows.proofs.Shown.{fault_by}
+use Rattle.review_change_rows.{proofs.Shown.fault_by, specs.Tables.HaveFault}
 use Rattle.review_kept_rows.proofs.kept.copied_rows.Goals as goal
 
 pub returns-clause-fault : goal.returns-clause-fault

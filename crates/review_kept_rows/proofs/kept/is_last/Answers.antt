@@ -1,7 +1,5 @@
 use Rattle.std.proofs.Common.{◌≡◌, ◌<◌, false, true, subst, sym, arith}
-use Rattle.std.specs.Option.{IsSome}
-use Rattle.std.specs.declared.cmp.Ordering.TheVariants.{Less}
-use Rattle.std.specs.Cmp.{nat_cmp_is}
+use Rattle.std.specs.{Cmp.nat_cmp_is, Option.IsSome, declared.cmp.Ordering.TheVariants.Less}
 use Rattle.review_kept_rows.proofs.kept.is_last.Goals as goal
 
 pub returns-then-get : goal.returns-then-get

@@ -1,8 +1,7 @@
-use Rattle.std.proofs.Common.{subst}
-use Rattle.std.specs.Ordering.{nat_cmp}
+use Rattle.std.{proofs.Common.subst, specs.Ordering.nat_cmp}
 use Rattle.review_table.specs.Rows.{is_named, HavePlaces}
-use Rattle.review_kept_rows.specs.Kept.{place_cmp, sent_cmp}
 use Rattle.review_kept_rows.proofs.Spare.{none_spare, only_for}
+use Rattle.review_kept_rows.specs.Kept.{place_cmp, sent_cmp}
 use Rattle.review_kept_rows.proofs.kept.reserve.Goals as goal
 
 pub returns-in_err-reserve_all-clause-spare : goal.returns-in_err-reserve_all-clause-spare

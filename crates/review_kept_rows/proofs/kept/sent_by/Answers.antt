@@ -1,5 +1,5 @@
-use Rattle.review_kept_rows.specs.Kept.{sent_by}
 use Rattle.review_kept_rows.proofs.Listing.{sent_by_more}
+use Rattle.review_kept_rows.specs.Kept.{sent_by}
 use Rattle.review_kept_rows.proofs.kept.sent_by.Goals as goal
 
 pub loop-edit-preserved : goal.loop-edit-preserved

@@ -1,6 +1,6 @@
 use Rattle.std.specs.Prelude.{flat_map}
-use Rattle.review_kept_rows.specs.Kept.{placed_in}
 use Rattle.review_kept_rows.proofs.Listing.{flat_more}
+use Rattle.review_kept_rows.specs.Kept.{placed_in}
 use Rattle.review_kept_rows.proofs.places.placed_by.Goals as goal
 
 pub loop-edit-preserved : goal.loop-edit-preserved

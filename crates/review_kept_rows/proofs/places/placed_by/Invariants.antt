@@ -1,5 +1,4 @@
-use Rattle.std.proofs.Common.{◌≡◌, ◌++◌, drop}
-use Rattle.std.specs.Prelude.{flat_map}
+use Rattle.std.{proofs.Common.◌≡◌, proofs.Common.◌++◌, proofs.Common.drop, specs.Prelude.flat_map}
 use Rattle.review_kept_rows.specs.Kept.{placed_in, ArePlaceKeys}
 use Rattle.review_kept_rows.proofs.places.placed_by.Given as goal
 

@@ -1,13 +1,11 @@
 use Rattle.std.proofs.Common.{rules, ◌++◌, ◌∷◌, ◌∙◌, [], refl, ap, length, sym, subst, Some, None, Option}
-use Rattle.std.specs.Io.KnownBytes.{prepend_known}
-use Rattle.std.proofs.KnownBytes.{Appends-nil, Appends-trans}
+use Rattle.std.{proofs.KnownBytes.Appends-nil, proofs.KnownBytes.Appends-trans, specs.Io.KnownBytes.prepend_known}
 use Rattle.review_deliveries.proofs.Ran.{ran_none}
-use Rattle.review_lines.specs.declared.apply.Asked.{Asked}
-use Rattle.review_lines.specs.declared.fault.Fault.TheVariants as fault
-use Rattle.review_lines.specs.Answers.{IsNextAsked, with_asked}
-use Rattle.review_lines.proofs.LinesOf.{gave_more, gave_all, gave_first, nothing_first}
 use Rattle.review_lines.proofs.Answering.{counted, started, kept, one_more, ran_more}
 use Rattle.review_lines.proofs.Left.{all_left, any_left, if_err, memory_left, output_left}
+use Rattle.review_lines.proofs.LinesOf.{gave_more, gave_all, gave_first, nothing_first}
+use Rattle.review_lines.specs.{Answers.IsNextAsked, Answers.with_asked, declared.apply.Asked.Asked}
+use Rattle.review_lines.specs.declared.fault.Fault.TheVariants as fault
 use Rattle.review_lines.proofs.apply.answer_lines.Goals as goal
 
 pub returns-in_err-lines : goal.returns-in_err-lines

@@ -1,5 +1,4 @@
-use Rattle.std.proofs.Common.{rules, ◌++◌, ◌∙◌}
-use Rattle.std.proofs.KnownBytes.{Appends-trans}
+use Rattle.std.proofs.{Common.rules, Common.◌++◌, Common.◌∙◌, KnownBytes.Appends-trans}
 use Rattle.review_lines.proofs.Left.{if_err, part_either, part_left, sent_less}
 use Rattle.review_lines.proofs.apply.apply_lines.Goals as goal
 

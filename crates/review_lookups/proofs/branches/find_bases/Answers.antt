@@ -1,11 +1,10 @@
 use Rattle.std.proofs.Common.{Option, List, ℕ, option_map, Ok}
+use Rattle.std.specs.Ordering.{nat_cmp}
 use Rattle.sqlite.specs.Held.{state}
 use Rattle.sqlite_trees.specs.Tree.{Trees}
-use Rattle.std.specs.Ordering.{nat_cmp}
 use Rattle.review_table.specs.Rows.{rows_of}
-use Rattle.review_tables.specs.Fronts.{AreParts}
+use Rattle.review_tables.{proofs.Found.look_on, specs.Fronts.AreParts}
 use Rattle.review_records.specs.Forms.{branch_bases, base_parts}
-use Rattle.review_tables.proofs.Found.{look_on}
 use Rattle.review_lookups.proofs.branches.find_bases.Goals as goal
 
 pub returns-clause-looks : goal.returns-clause-looks

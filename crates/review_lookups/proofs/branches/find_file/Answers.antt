@@ -1,10 +1,10 @@
 use Rattle.std.proofs.Common.{◌≡◌, Option, Ok}
 use Rattle.sqlite.specs.Held.{state}
 use Rattle.sqlite_trees.specs.Tree.{Trees}
-use Rattle.review_rows.specs.declared.rows.StoredFile.{StoredFile}
 use Rattle.review_statements.specs.Search.{row_at}
-use Rattle.review_records.specs.Forms.{projects}
 use Rattle.review_tables.proofs.Found.{look_on}
+use Rattle.review_rows.specs.declared.rows.StoredFile.{StoredFile}
+use Rattle.review_records.specs.Forms.{projects}
 use Rattle.review_lookups.proofs.branches.find_file.Goals as goal
 
 pub returns-clause-looks : goal.returns-clause-looks

@@ -2,8 +2,8 @@ use Rattle.std.proofs.Common.{Option, ℕ, Ok}
 use Rattle.sqlite.specs.Held.{state}
 use Rattle.sqlite_trees.specs.Tree.{Trees}
 use Rattle.review_statements.specs.Greatest.{HasGreatest}
-use Rattle.review_records.specs.Forms.{base_places}
 use Rattle.review_tables.proofs.Found.{look_on}
+use Rattle.review_records.specs.Forms.{base_places}
 use Rattle.review_lookups.proofs.branches.find_last_place.Goals as goal
 
 pub returns-clause-looks : goal.returns-clause-looks

@@ -2,8 +2,8 @@ use Rattle.std.proofs.Common.{◌≡◌, ℕ, Option, Ok}
 use Rattle.sqlite.specs.Held.{state}
 use Rattle.sqlite_trees.specs.Tree.{Trees}
 use Rattle.review_statements.specs.Search.{row_at}
-use Rattle.review_records.specs.Forms.{epochs}
 use Rattle.review_tables.proofs.Found.{look_on}
+use Rattle.review_records.specs.Forms.{epochs}
 use Rattle.review_lookups.proofs.branches.find_least_epoch.Goals as goal
 
 pub returns-clause-looks : goal.returns-clause-looks

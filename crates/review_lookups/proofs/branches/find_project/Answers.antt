@@ -2,8 +2,8 @@ use Rattle.std.proofs.Common.{◌≡◌, Option, Ok}
 use Rattle.sqlite.specs.Held.{state}
 use Rattle.sqlite_trees.specs.Tree.{Trees}
 use Rattle.review_statements.specs.Search.{row_at}
-use Rattle.review_records.specs.Forms.{project_names}
 use Rattle.review_tables.proofs.Found.{look_on}
+use Rattle.review_records.specs.Forms.{project_names}
 use Rattle.review_lookups.proofs.branches.find_project.Goals as goal
 
 pub returns-clause-looks : goal.returns-clause-looks

@@ -3,8 +3,7 @@ use Rattle.sqlite.specs.Held.{state}
 use Rattle.sqlite_trees.specs.Tree.{Trees}
 use Rattle.review_statements.specs.Search.{row_at}
 use Rattle.review_tables.proofs.Found.{look_on}
-use Rattle.review_records.specs.declared.rows.DeskRow.{DeskRow}
-use Rattle.review_records.specs.Forms.{desk}
+use Rattle.review_records.specs.{Forms.desk, declared.rows.DeskRow.DeskRow}
 use Rattle.review_database.specs.Tables.{tables_at}
 use Rattle.review_lookups.proofs.branches.find_room_for_projects.Goals as goal
 

@@ -1,14 +1,12 @@
 use Rattle.std.proofs.Common.{◌≡◌, Some, None, option_map, refl, rules, subst}
 use Rattle.std.specs.Ordering.{nat_cmp}
-use Rattle.review_rows.specs.declared.rows.Want.TheVariants as want
 use Rattle.review_table.specs.Rows.{rows_of}
-use Rattle.review_rows.specs.Known.{Commits}
 use Rattle.review_tables.specs.Fronts.{AreParts}
+use Rattle.review_rows.specs.Known.{Commits}
 use Rattle.review_records.specs.Forms.{branch_bases, base_parts}
-use Rattle.review_database.specs.Loads.{IsOrdered}
-use Rattle.review_database.specs.Tables.{tables_at}
-use Rattle.review_database.proofs.Odd.{bases_odd}
-use Rattle.review_database.proofs.Telling.{tells_as, bases_told, bases_damaged}
+use Rattle.review_database.proofs.{Odd.bases_odd, Telling.tells_as, Telling.bases_told, Telling.bases_damaged}
+use Rattle.review_database.specs.{Loads.IsOrdered, Tables.tables_at}
+use Rattle.review_rows.specs.declared.rows.Want.TheVariants as want
 use Rattle.review_lookups.proofs.branches.tell_bases.Goals as goal
 
 pub returns-in-Ok-Some-clause-told : goal.returns-in-Ok-Some-clause-told

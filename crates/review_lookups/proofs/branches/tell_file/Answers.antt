@@ -1,8 +1,7 @@
 use Rattle.std.proofs.Common.{ap, sym}
-use Rattle.review_rows.specs.declared.rows.Want.TheVariants as want
 use Rattle.review_rows.specs.Rows.{FileKey, FileRow}
-use Rattle.review_database.specs.Tables.{told}
-use Rattle.review_database.proofs.Telling.{odd_told}
+use Rattle.review_database.{proofs.Telling.odd_told, specs.Tables.told}
+use Rattle.review_rows.specs.declared.rows.Want.TheVariants as want
 use Rattle.review_lookups.proofs.branches.tell_file.Goals as goal
 
 pub returns-in-Err-clause-told : goal.returns-in-Err-clause-told

@@ -1,13 +1,9 @@
 use Rattle.std.proofs.Common.{refl, ◌≡◌, Some, None, rules}
-use Rattle.review_rows.specs.declared.rows.Want.TheVariants as want
 use Rattle.review_rows.specs.Known.{Number}
-use Rattle.review_records.specs.Forms.{where_is}
-use Rattle.review_records.specs.Keyed.{is_small}
-use Rattle.review_records.specs.Laws.{passed}
-use Rattle.review_database.specs.Loads.{last_of}
-use Rattle.review_database.specs.Tables.{tables_at}
-use Rattle.review_database.proofs.Odd.{last_place_damaged}
-use Rattle.review_database.proofs.Telling.{tells_as, last_place}
+use Rattle.review_records.specs.{Forms.where_is, Keyed.is_small, Laws.passed}
+use Rattle.review_database.proofs.{Odd.last_place_damaged, Telling.tells_as, Telling.last_place}
+use Rattle.review_database.specs.{Loads.last_of, Tables.tables_at}
+use Rattle.review_rows.specs.declared.rows.Want.TheVariants as want
 use Rattle.review_lookups.proofs.branches.tell_last_place.Goals as goal
 
 pub returns-in-Some-clause-told : goal.returns-in-Some-clause-told

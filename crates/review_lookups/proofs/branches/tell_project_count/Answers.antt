@@ -1,8 +1,6 @@
-use Rattle.std.proofs.Common.{◌≡◌, ◌∙◌, sym, arith}
-use Rattle.std.proofs.lemmas.Option.{same_Some}
-use Rattle.review_rows.specs.Limits.{most_projects}
-use Rattle.review_rows.specs.Rows.{Projects}
+use Rattle.std.proofs.{Common.◌≡◌, Common.◌∙◌, Common.sym, Common.arith, lemmas.Option.same_Some}
 use Rattle.review_statements.specs.Greatest.{as_counted}
+use Rattle.review_rows.specs.{Limits.most_projects, Rows.Projects}
 use Rattle.review_database.specs.Tables.{tables_at}
 use Rattle.review_lookups.proofs.Bounded.{counted_below}
 use Rattle.review_lookups.proofs.branches.tell_project_count.Goals as goal

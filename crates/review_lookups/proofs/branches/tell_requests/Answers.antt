@@ -1,7 +1,6 @@
 use Rattle.std.proofs.Common.{◌≡◌, ◌∙◌, Some, None, sym, ap, rules}
 use Rattle.review_records.specs.declared.rows.DeskRow.{DeskRow}
-use Rattle.review_database.specs.Tables.{number_of}
-use Rattle.review_database.proofs.Odd.{desk_damaged}
+use Rattle.review_database.{proofs.Odd.desk_damaged, specs.Tables.number_of}
 use Rattle.review_lookups.proofs.branches.tell_requests.Goals as goal
 
 pub returns-in-Some-None-clause-told : goal.returns-in-Some-None-clause-told

@@ -1,14 +1,10 @@
 use Rattle.std.proofs.Common.{◌∙◌, cond, List, Some, None, sym, ap, subst}
 use Rattle.std.proofs.lemmas.Option.{same_Some}
-use Rattle.std.specs.BTreeMap.{is_at}
-use Rattle.std.specs.Ordering.{nat_cmp}
-use Rattle.std.specs.Cmp.Lexicographic.{slice_cmp}
+use Rattle.std.specs.{BTreeMap.is_at, Cmp.Lexicographic.slice_cmp, Ordering.nat_cmp}
 use Rattle.review_table.specs.Rows.{row_in, rows_of}
-use Rattle.review_rows.specs.Limits.{most_bases}
-use Rattle.review_rows.specs.Rows.{BasesOf}
-use Rattle.review_lookups.specs.declared.counts.Bound.{Bound}
-use Rattle.review_lookups.specs.Counts.{Bounds}
+use Rattle.review_rows.specs.{Limits.most_bases, Rows.BasesOf}
 use Rattle.review_lookups.proofs.Bounded.{renewed, unknown}
+use Rattle.review_lookups.specs.{Counts.Bounds, declared.counts.Bound.Bound}
 use Rattle.review_lookups.proofs.counts.note_one.Goals as goal
 
 pub returns-in_default : goal.returns-in_default

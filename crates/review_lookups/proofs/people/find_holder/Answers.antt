@@ -1,8 +1,7 @@
 use Rattle.std.proofs.Common.{◌≡◌, ℕ, List, Option, Some, None, Ok, subst, rules}
 use Rattle.sqlite.specs.Held.{state}
 use Rattle.sqlite_trees.specs.Tree.{Trees}
-use Rattle.review_statements.specs.Greatest.{HasOne}
-use Rattle.review_statements.specs.Search.{row_at}
+use Rattle.review_statements.specs.{Greatest.HasOne, Search.row_at}
 use Rattle.review_tables.proofs.Found.{look_both, look_on}
 use Rattle.review_records.specs.Forms.{accounts, account_names}
 use Rattle.review_database.proofs.Odd.{name_damaged}

@@ -1,13 +1,12 @@
 use Rattle.std.proofs.Common.{◌≡◌, Some, None, option_map, refl, rules, subst}
 use Rattle.std.specs.Ordering.{nat_cmp}
-use Rattle.review_rows.specs.declared.rows.Want.TheVariants as want
 use Rattle.review_table.specs.Rows.{rows_of}
-use Rattle.review_rows.specs.Known.{Members}
 use Rattle.review_tables.specs.Fronts.{AreParts}
+use Rattle.review_rows.specs.Known.{Members}
 use Rattle.review_records.specs.Forms.{group_members, member_parts}
+use Rattle.review_database.proofs.{Odd.members_damaged, Telling.tells_as, Telling.group_told}
 use Rattle.review_database.specs.Tables.{tables_at}
-use Rattle.review_database.proofs.Odd.{members_damaged}
-use Rattle.review_database.proofs.Telling.{tells_as, group_told}
+use Rattle.review_rows.specs.declared.rows.Want.TheVariants as want
 use Rattle.review_lookups.proofs.people.tell_group.Goals as goal
 
 pub returns-in-Some-clause-told : goal.returns-in-Some-clause-told

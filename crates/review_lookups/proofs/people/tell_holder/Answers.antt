@@ -1,10 +1,8 @@
 use Rattle.std.proofs.Common.{◌≡◌, ◌∙◌, Some, false, refl, sym, ap, rules}
-use Rattle.review_rows.specs.declared.rows.Want.TheVariants as want
-use Rattle.review_rows.specs.Known.{Holder}
-use Rattle.review_rows.specs.Rows.{AccountRow}
+use Rattle.review_rows.specs.{Known.Holder, Rows.AccountRow}
+use Rattle.review_database.proofs.{Odd.holder_damaged, Telling.tells_as}
 use Rattle.review_database.specs.Tables.{tables_at, told}
-use Rattle.review_database.proofs.Odd.{holder_damaged}
-use Rattle.review_database.proofs.Telling.{tells_as}
+use Rattle.review_rows.specs.declared.rows.Want.TheVariants as want
 use Rattle.review_lookups.proofs.people.tell_holder.Goals as goal
 
 pub returns-clause-told : goal.returns-clause-told

@@ -1,11 +1,7 @@
 use Rattle.std.proofs.Common.{refl, rules, Some, None, ◌≡◌}
-use Rattle.review_records.specs.Forms.{where_is}
-use Rattle.review_records.specs.Keyed.{is_small}
-use Rattle.review_records.specs.Laws.{passed}
 use Rattle.review_rows.specs.Known.{Number}
-use Rattle.review_database.specs.Loads.{last_of}
-use Rattle.review_database.proofs.Odd.{last_account_damaged}
-use Rattle.review_database.proofs.Telling.{last_account}
+use Rattle.review_records.specs.{Forms.where_is, Keyed.is_small, Laws.passed}
+use Rattle.review_database.{proofs.Odd.last_account_damaged, proofs.Telling.last_account, specs.Loads.last_of}
 use Rattle.review_lookups.proofs.people.tell_last_account.Goals as goal
 
 pub returns-in-Some-clause-told : goal.returns-in-Some-clause-told

@@ -1,8 +1,7 @@
 use Rattle.std.proofs.Common.{None, refl}
-use Rattle.review_rows.specs.declared.rows.Want.TheVariants as want
 use Rattle.review_rows.specs.Known.{Holder}
-use Rattle.review_database.specs.Tables.{tables_at}
-use Rattle.review_database.proofs.Telling.{tells_as, unheld}
+use Rattle.review_database.{proofs.Telling.tells_as, proofs.Telling.unheld, specs.Tables.tables_at}
+use Rattle.review_rows.specs.declared.rows.Want.TheVariants as want
 use Rattle.review_lookups.proofs.people.tell_no_holder.Goals as goal
 
 pub returns-clause-told : goal.returns-clause-told

@@ -1,20 +1,10 @@
 use Rattle.std.proofs.Common.{IfOk, Option, Result, Ok, Err, ◌≡◌, ◌<◌, ℕ, List, length, true, sym, ◌∙◌}
 use Rattle.std.specs.Option.{option_copied}
-use Rattle.review_words.specs.History.{Entry, is_account}
-use Rattle.review_words.specs.declared.command.Command.{Command}
-use Rattle.review_words.specs.declared.reply.NotTaken.{NotTaken}
-use Rattle.review_words.specs.declared.reply.Refusal.TheVariants.{UnknownCaller}
-use Rattle.review_words.specs.declared.reply.Reply.{Reply}
-use Rattle.review_rows.specs.Answer.{most_requests}
-use Rattle.review_rows.specs.Decisions.{RestsOn}
-use Rattle.review_rows.specs.Changes.{Reading}
-use Rattle.review_rows.specs.Files.{File}
-use Rattle.review_rows.specs.Steps.{OfCommand}
-use Rattle.review_rows.specs.View.{AreEnough, IsDecidedAt}
-use Rattle.review_rows.specs.declared.rows.Delta.{Delta}
-use Rattle.review_rows.specs.declared.rows.Rows.{Rows}
-use Rattle.review_account_decisions.proofs.Decided.{caller_is, unknown_refused}
-use Rattle.review_account_decisions.proofs.Closing.{refused_pair_in}
+use Rattle.review_words.specs.{History.Entry, History.is_account, declared.command.Command.Command}
+use Rattle.review_words.specs.declared.reply.{NotTaken.NotTaken, Refusal.TheVariants.UnknownCaller, Reply.Reply}
+use Rattle.review_rows.specs.{Answer.most_requests, Changes.Reading, Decisions.RestsOn, Files.File, Steps.OfCommand}
+use Rattle.review_rows.specs.{View.AreEnough, View.IsDecidedAt, declared.rows.Delta.Delta, declared.rows.Rows.Rows}
+use Rattle.review_account_decisions.proofs.{Closing.refused_pair_in, Decided.caller_is, Decided.unknown_refused}
 use Rattle.review_machine.proofs.decisions.decide.Goals as goal
 
 -- what is decided for an account is decided, where rows know that the caller is one

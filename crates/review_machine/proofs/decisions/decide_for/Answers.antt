@@ -1,18 +1,12 @@
 use Rattle.std.proofs.Common.{IfOk, Option, Result, Ok, Err, ◌≡◌, ◌<◌, ℕ, List, length, true, sym, subst}
 use Rattle.std.specs.Option.{option_copied}
-use Rattle.review_words.specs.History.{Entry, is_account}
-use Rattle.review_words.specs.declared.command.Command.{Command}
+use Rattle.review_words.specs.{History.Entry, History.is_account, declared.command.Command.Command}
 use Rattle.review_words.specs.declared.command.Command.TheVariants.{CreateAccount, PutGroup, PutProject, RecordBase, CreateChange, OnChange, Submit, CloseEpoch}
-use Rattle.review_words.specs.declared.reply.NotTaken.{NotTaken}
-use Rattle.review_words.specs.declared.reply.Reply.{Reply}
+use Rattle.review_words.specs.declared.reply.{NotTaken.NotTaken, Reply.Reply}
 use Rattle.review_rows.specs.Answer.{IsAnswerBy, IsAnswerAt, most_requests}
-use Rattle.review_rows.specs.Decisions.{RestsOn}
-use Rattle.review_rows.specs.Changes.{Reading}
-use Rattle.review_rows.specs.Files.{File}
-use Rattle.review_rows.specs.Steps.{OfCommand}
+use Rattle.review_rows.specs.{Changes.Reading, Decisions.RestsOn, Files.File, Steps.OfCommand}
 use Rattle.review_rows.specs.View.{AreEnough, IsDecided, IsDecidedAt}
-use Rattle.review_rows.specs.declared.rows.Delta.{Delta}
-use Rattle.review_rows.specs.declared.rows.Rows.{Rows}
+use Rattle.review_rows.specs.declared.rows.{Delta.Delta, Rows.Rows}
 use Rattle.review_account_decisions.proofs.Closing.{decided_in}
 use Rattle.review_machine.proofs.decisions.decide_for.Goals as goal
 

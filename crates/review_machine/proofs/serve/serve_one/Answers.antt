@@ -1,5 +1,4 @@
-use Rattle.std.proofs.Common.{[], false, inl, refl}
-use Rattle.std.proofs.KnownBytes.{Appends-nil}
+use Rattle.std.proofs.{Common.[], Common.false, Common.inl, Common.refl, KnownBytes.Appends-nil}
 use Rattle.review_counted.proofs.Given.{gave_none}
 use Rattle.review_machine.proofs.serve.serve_one.Goals as goal
 

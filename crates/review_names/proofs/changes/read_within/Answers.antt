@@ -1,11 +1,9 @@
 use Rattle.std.proofs.Common.{◌≡◌, ◌<◌, Some, None, refl, sym, ap, ◌∙◌, arith}
 use Rattle.std.proofs.lemmas.Bool.Decides.{nat_tests}
-use Rattle.review_names.specs.Forms.{is_within}
-use Rattle.review_names.specs.Numerals.{number_of}
-use Rattle.review_names.proofs.Bounds.{unread, zero_read, more_read}
-use Rattle.review_names.proofs.Numerals.{number_shown}
-use Rattle.review_names.proofs.changes.read_within.Goals as goal
+use Rattle.review_names.proofs.{Bounds.unread, Bounds.zero_read, Bounds.more_read, Numerals.number_shown}
 use Rattle.review_names.proofs.changes.read_within.Goals.{then-number-eq0-via-then-number-eq0, then-number-eq0-via-else-number-eq0+then-number-most}
+use Rattle.review_names.specs.{Forms.is_within, Numerals.number_of}
+use Rattle.review_names.proofs.changes.read_within.Goals as goal
 
 pub returns-in_default-clause-form : goal.returns-in_default-clause-form
 returns-in_default-clause-form c =

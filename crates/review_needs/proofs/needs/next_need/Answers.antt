@@ -1,5 +1,4 @@
-use Rattle.std.proofs.Common.{rules}
-use Rattle.std.specs.Prelude.{option_copied}
+use Rattle.std.{proofs.Common.rules, specs.Prelude.option_copied}
 use Rattle.review_rows.specs.Steps.{topic_of}
 use Rattle.review_needs.proofs.Going.{step_left}
 use Rattle.review_needs.proofs.needs.next_need.Goals as goal

@@ -1,5 +1,4 @@
-use Rattle.std.proofs.Common.{◌≡◌, ◌++◌, map}
-use Rattle.std.specs.Prelude.{option_copied}
+use Rattle.std.{proofs.Common.◌≡◌, proofs.Common.◌++◌, proofs.Common.map, specs.Prelude.option_copied}
 use Rattle.review_rows.specs.Steps.{texts_in}
 use Rattle.review_needs.proofs.Texts.{texts_from}
 use Rattle.review_needs.proofs.reading.line_of.Given as goal

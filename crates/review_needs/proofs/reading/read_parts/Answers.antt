@@ -1,8 +1,8 @@
 use Rattle.std.proofs.Common.{map, subst, sym, take, drop, length, ◌-◌}
 use Rattle.review_effective.proofs.Effective.{rest_texts}
 use Rattle.review_rows.specs.Decisions.{IsUnread}
-use Rattle.review_needs.specs.Files.{unread_cause}
 use Rattle.review_needs.proofs.Texts.{unread_is}
+use Rattle.review_needs.specs.Files.{unread_cause}
 use Rattle.review_needs.proofs.reading.read_parts.Goals as goal
 
 pub returns-in-Err-clause-cause : goal.returns-in-Err-clause-cause

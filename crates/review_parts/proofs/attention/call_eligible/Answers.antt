@@ -1,9 +1,8 @@
 use Rattle.std.proofs.Common.{◌∙◌, ◌||◌, ◌==◌, ◌&&◌, ap, sym, not, None}
 use Rattle.std.specs.Prelude.{is_some, if◌then◌else◌}
-use Rattle.review_changes.specs.Change.{kept_or}
-use Rattle.review_changes.specs.Seen.{of_account}
-use Rattle.review_parts.specs.Tables.{called_among}
+use Rattle.review_changes.specs.{Change.kept_or, Seen.of_account}
 use Rattle.review_parts.proofs.Accounts.{called_eligible, called_not}
+use Rattle.review_parts.specs.Tables.{called_among}
 use Rattle.review_parts.proofs.attention.call_eligible.Goals as goal
 
 pub returns-then-who : goal.returns-then-who

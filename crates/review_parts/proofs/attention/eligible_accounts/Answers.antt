@@ -1,7 +1,5 @@
 use Rattle.std.proofs.Common.{◌≡◌, ◌++◌, ◌∷◌, ◌||◌, ◌==◌, ◌∙◌, ap, sym, map, append-nil, arith}
-use Rattle.std.specs.List.{list_any}
-use Rattle.std.specs.Map.Iter.{deref_pair}
-use Rattle.std.proofs.lemmas.List.{at_drop_all}
+use Rattle.std.{proofs.lemmas.List.at_drop_all, specs.List.list_any, specs.Map.Iter.deref_pair}
 use Rattle.review_table.specs.Rows.{rows_of}
 use Rattle.review_parts.proofs.Accounts.{keys_now, has_row}
 use Rattle.review_parts.proofs.attention.eligible_accounts.Goals as goal

@@ -1,8 +1,7 @@
 use Rattle.std.proofs.Common.{◌∷◌, [], sym, subst, arith}
-use Rattle.std.specs.List.{All}
-use Rattle.std.proofs.lemmas.List.Elements.{All-append, All-cons}
-use Rattle.review_parts.specs.Conditions.{IsCompiled}
+use Rattle.std.{proofs.lemmas.List.Elements.All-append, proofs.lemmas.List.Elements.All-cons, specs.List.All}
 use Rattle.review_parts.proofs.Compiled.{next_label}
+use Rattle.review_parts.specs.Conditions.{IsCompiled}
 use Rattle.review_parts.proofs.copying.all_compiled.Goals as goal
 
 pub loop-label-preserved : goal.loop-label-preserved

@@ -1,7 +1,5 @@
-use Rattle.std.proofs.Common.{◌≡◌, map, take}
-use Rattle.std.specs.List.{All}
-use Rattle.review_parts.specs.declared.copying.Condition.{Condition}
-use Rattle.review_parts.specs.Conditions.{IsCompiled}
+use Rattle.std.{proofs.Common.◌≡◌, proofs.Common.map, proofs.Common.take, specs.List.All}
+use Rattle.review_parts.specs.{Conditions.IsCompiled, declared.copying.Condition.Condition}
 use Rattle.review_parts.proofs.copying.all_compiled.Given as goal
 
 abbrev pub invariant-loop-label : goal.invariant-loop-label

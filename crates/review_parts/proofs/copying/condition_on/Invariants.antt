@@ -1,6 +1,4 @@
-use Rattle.std.proofs.Common.{◌≡◌, drop}
-use Rattle.std.specs.Prelude.{find}
-use Rattle.std.specs.Str.{bytes_eq}
+use Rattle.std.{proofs.Common.◌≡◌, proofs.Common.drop, specs.Prelude.find, specs.Str.bytes_eq}
 use Rattle.review_parts.proofs.copying.condition_on.Given as goal
 
 abbrev pub invariant-loop-condition : goal.invariant-loop-condition

@@ -1,8 +1,8 @@
 use Rattle.std.proofs.Common.{Some, ◌≡◌, sym, ap, ◌∙◌, subst, IfOk, rules, w8, to_z, of_z}
 use Rattle.std.specs.Option.{option_copied}
 use Rattle.review_changes.specs.Change.{condition_holds}
-use Rattle.review_parts.specs.Copies.{with_groups}
 use Rattle.review_parts.proofs.Compiled.{copied_never, copied_none, copied_where}
+use Rattle.review_parts.specs.Copies.{with_groups}
 use Rattle.review_parts.proofs.copying.is_copied.Goals as goal
 
 pub returns-in_default-clause-holds : goal.returns-in_default-clause-holds

@@ -1,7 +1,5 @@
 use Rattle.std.proofs.Common.{Bor, Option, Some, None, ◌≡◌, refl, sym, ap, ◌∙◌}
-use Rattle.std.specs.Prelude.{is_some}
-use Rattle.std.specs.Option.{option_copied}
-use Rattle.std.specs.Str.{bytes_eq}
+use Rattle.std.specs.{Option.option_copied, Prelude.is_some, Str.bytes_eq}
 use Rattle.review_names.specs.Names.{registered_users}
 use Rattle.review_parts.proofs.Grouped.{told_in}
 use Rattle.review_parts.proofs.copying.is_in.Goals as goal

@@ -1,7 +1,7 @@
 use Rattle.std.proofs.Common.{◌++◌, ◌∷◌, [], ◌∙◌, ap}
 use Rattle.std.specs.Map.Iter.{deref_pair}
-use Rattle.review_parts.specs.Copies.{copies_by, copied_rows, lost_rows, with_groups}
 use Rattle.review_parts.proofs.Copied.{copied_next, lost_next, rows_more}
+use Rattle.review_parts.specs.Copies.{copies_by, copied_rows, lost_rows, with_groups}
 use Rattle.review_parts.proofs.copying.part.Goals as goal
 
 pub loop-key-preserved : goal.loop-key-preserved

@@ -1,5 +1,4 @@
-use Rattle.std.proofs.Common.{◌≡◌, ◌++◌, drop, map}
-use Rattle.std.specs.Map.Iter.{deref_pair}
+use Rattle.std.{proofs.Common.◌≡◌, proofs.Common.◌++◌, proofs.Common.drop, proofs.Common.map, specs.Map.Iter.deref_pair}
 use Rattle.review_parts.specs.Copies.{copies_by, copied_rows, lost_rows, with_groups}
 use Rattle.review_parts.proofs.copying.part.Given as goal
 

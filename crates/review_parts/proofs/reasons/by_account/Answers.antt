@@ -1,6 +1,5 @@
 use Rattle.std.proofs.Common.{◌≡◌, ◌++◌, ◌∙◌, ap, codes}
-use Rattle.review_names.specs.Forms.{is_line}
-use Rattle.review_names.specs.Numerals.{numeral}
+use Rattle.review_names.specs.{Forms.is_line, Numerals.numeral}
 use Rattle.review_parts.proofs.Lines.{account_line}
 use Rattle.review_parts.proofs.reasons.by_account.Goals as goal
 

@@ -1,5 +1,4 @@
-use Rattle.std.proofs.Common.{◌≡◌, ◌&&◌, ◌==◌, drop}
-use Rattle.std.specs.List.{list_any}
+use Rattle.std.{proofs.Common.◌≡◌, proofs.Common.◌&&◌, proofs.Common.◌==◌, proofs.Common.drop, specs.List.list_any}
 use Rattle.review_changes.specs.Change.{answers_thread}
 use Rattle.review_parts.proofs.rules.wrote_in_answered.Given as goal
 

@@ -1,9 +1,8 @@
-use Rattle.std.proofs.Common.{◌∙◌, ap, not}
+use Rattle.std.{proofs.Common.◌∙◌, proofs.Common.ap, proofs.Common.not, specs.List.filter}
 use Rattle.review_table.specs.Rows.{rows_of, row_in}
-use Rattle.std.specs.List.{filter}
 use Rattle.review_changes.specs.Seen.{vote_cmp}
-use Rattle.review_parts.specs.Tables.{put_in, is_of}
 use Rattle.review_parts.proofs.VoteKeys.{votes_dropped}
+use Rattle.review_parts.specs.Tables.{put_in, is_of}
 use Rattle.review_parts.proofs.votes.drop_votes.Goals as goal
 
 pub returns : goal.returns

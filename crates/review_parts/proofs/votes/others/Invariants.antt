@@ -1,5 +1,4 @@
-use Rattle.std.proofs.Common.{◌≡◌, ◌++◌, not}
-use Rattle.std.specs.List.{filter}
+use Rattle.std.{proofs.Common.◌≡◌, proofs.Common.◌++◌, proofs.Common.not, specs.List.filter}
 use Rattle.review_parts.specs.Tables.{is_of}
 use Rattle.review_parts.proofs.votes.others.Given as goal
 

@@ -1,7 +1,6 @@
 use Rattle.std.proofs.Common.{◌≡◌}
 use Rattle.review_table.specs.Rows.{row_in, rows_of}
-use Rattle.review_changes.specs.declared.rows.VoteKey.{VoteKey}
-use Rattle.review_changes.specs.Seen.{vote_cmp}
+use Rattle.review_changes.specs.{Seen.vote_cmp, declared.rows.VoteKey.VoteKey}
 use Rattle.review_parts.specs.Tables.{put_in}
 use Rattle.review_parts.proofs.votes.put_all.Given as goal
 

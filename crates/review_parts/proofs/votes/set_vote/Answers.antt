@@ -1,9 +1,8 @@
 use Rattle.std.proofs.Common.{ap, ◌∙◌, sym, None, Some, of_z, to_z, w8}
-use Rattle.std.proofs.lemmas.Int.{to_z-of_z}
-use Rattle.std.specs.Prelude.{if◌then◌else◌}
+use Rattle.std.{proofs.lemmas.Int.to_z-of_z, specs.Prelude.if◌then◌else◌}
 use Rattle.review_changes.specs.Seen.{vote_in}
-use Rattle.review_parts.specs.Tables.{is_vote}
 use Rattle.review_parts.proofs.VoteKeys.{none_voted, some_voted, vote_set}
+use Rattle.review_parts.specs.Tables.{is_vote}
 use Rattle.review_parts.proofs.votes.set_vote.Goals as goal
 
 pub returns-in_default : goal.returns-in_default

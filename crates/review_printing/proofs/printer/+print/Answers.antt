@@ -1,9 +1,9 @@
 use Rattle.std.proofs.Common.{◌++◌, ap, sym, ◌∙◌, arith, string_bytes}
 use Rattle.review_terms.specs.Views.{view}
-use Rattle.review_printing.specs.Printed.{member_text}
 use Rattle.review_printing.proofs.Behind.{first_written, next_written}
-use Rattle.review_printing.proofs.printer.+print.Goals as goal
 use Rattle.review_printing.proofs.printer.+print.Goals.{push_members-then-index-gt0+in_ok-push_str, push_members-else-index-gt0}
+use Rattle.review_printing.specs.Printed.{member_text}
+use Rattle.review_printing.proofs.printer.+print.Goals as goal
 
 pub push_members-loop-index-preserved : goal.push_members-loop-index-preserved
 push_members-loop-index-preserved g t c =

@@ -1,6 +1,5 @@
 use Rattle.std.proofs.Common.{◌≡◌, ◌++◌, map, drop, string_bytes}
-use Rattle.review_terms.specs.Grammar.{trees}
-use Rattle.review_terms.specs.Views.{view}
+use Rattle.review_terms.specs.{Grammar.trees, Views.view}
 use Rattle.review_printing.specs.Printed.{joined_text, left_text}
 use Rattle.review_printing.proofs.printer.+print.Given as goal
 

@@ -1,8 +1,8 @@
 use Rattle.review_terms.specs.Views.{view}
-use Rattle.review_writing.specs.Written.{copy_word, requirement_word}
 use Rattle.review_spelling.specs.Words.{copy_reading, requirement_reading}
 use Rattle.review_writing.proofs.CopyWords.{copy_again, copy_stands}
 use Rattle.review_writing.proofs.RequirementWords.{requirement_again, requirement_stands}
+use Rattle.review_writing.specs.Written.{copy_word, requirement_word}
 use Rattle.review_printing.proofs.Again.{printed_again}
 use Rattle.review_printing.proofs.printing.print.Goals as goal
 

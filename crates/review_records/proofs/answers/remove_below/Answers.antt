@@ -1,9 +1,7 @@
 use Rattle.std.proofs.Common.{rules, ◌≡◌, ◌∙◌, [], ◌∷◌, pos}
-use Rattle.sqlite.specs.Held.{state}
-use Rattle.sqlite.specs.Values.{bound}
+use Rattle.sqlite.specs.{Held.state, Values.bound}
 use Rattle.sqlite_value.specs.declared.value.Value.TheVariants.{Int}
-use Rattle.review_statements.proofs.Changes.{deleted_below}
-use Rattle.review_statements.proofs.TextsOfChanges.{delete_answers_below}
+use Rattle.review_statements.proofs.{Changes.deleted_below, TextsOfChanges.delete_answers_below}
 use Rattle.review_tables.proofs.Sequences.{one_inside, opened}
 use Rattle.review_records.specs.Forms.{answers}
 use Rattle.review_records.proofs.answers.remove_below.Goals as goal

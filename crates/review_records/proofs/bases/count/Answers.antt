@@ -1,11 +1,8 @@
 use Rattle.std.proofs.Common.{Vec, Global, ◌∙◌, ◌∷◌, [], Ok}
-use Rattle.sqlite.specs.Held.{state}
-use Rattle.sqlite.specs.declared.rows.Row.{Row}
-use Rattle.sqlite_value.specs.declared.value.Value.TheVariants.{Text}
+use Rattle.sqlite.specs.{Held.state, declared.rows.Row.Row}
 use Rattle.sqlite_trees.specs.Tree.{Trees}
-use Rattle.review_statements.specs.Desk.{bases}
-use Rattle.review_statements.specs.Greatest.{ShowsCount}
-use Rattle.review_statements.specs.Search.{rows_at}
+use Rattle.sqlite_value.specs.declared.value.Value.TheVariants.{Text}
+use Rattle.review_statements.specs.{Desk.bases, Greatest.ShowsCount, Search.rows_at}
 use Rattle.review_tables.proofs.Found.{look_on}
 use Rattle.review_records.proofs.bases.count.Goals as goal
 

@@ -1,10 +1,7 @@
 use Rattle.std.proofs.Common.{◌≡◌, [], ◌∷◌, refl}
-use Rattle.sqlite.specs.Held.{state}
-use Rattle.sqlite.specs.Values.{bound}
+use Rattle.sqlite.specs.{Held.state, Values.bound}
 use Rattle.sqlite_value.specs.declared.value.Value.TheVariants.{Text}
-use Rattle.review_statements.specs.Desk.{bases}
-use Rattle.review_statements.proofs.Counting.{asked_count}
-use Rattle.review_statements.proofs.TextsOfLookups.{count_bases}
+use Rattle.review_statements.{proofs.Counting.asked_count, proofs.TextsOfLookups.count_bases, specs.Desk.bases}
 use Rattle.review_tables.proofs.Sequences.{look}
 use Rattle.review_records.proofs.bases.select_count.Goals as goal
 

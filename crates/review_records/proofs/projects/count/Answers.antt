@@ -1,12 +1,9 @@
 use Rattle.std.proofs.Common.{Vec, Global, ◌∙◌, [], length, ap, Ok, Some}
-use Rattle.sqlite.specs.Held.{state}
-use Rattle.sqlite.specs.declared.rows.Row.{Row}
+use Rattle.sqlite.specs.{Held.state, declared.rows.Row.Row}
 use Rattle.sqlite_trees.specs.Tree.{Trees}
-use Rattle.review_statements.specs.Desk.{projects_2}
-use Rattle.review_statements.specs.Greatest.{as_counted, ShowsCount}
-use Rattle.review_statements.specs.Search.{rows_at}
-use Rattle.review_tables.proofs.Found.{look_on}
 use Rattle.review_statements.proofs.Meaning.{all_pass}
+use Rattle.review_statements.specs.{Desk.projects_2, Greatest.as_counted, Greatest.ShowsCount, Search.rows_at}
+use Rattle.review_tables.proofs.Found.{look_on}
 use Rattle.review_records.proofs.projects.count.Goals as goal
 
 pub returns-clause-looks : goal.returns-clause-looks

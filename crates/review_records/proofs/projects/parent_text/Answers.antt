@@ -1,7 +1,5 @@
 use Rattle.std.proofs.Common.{◌≡◌, true, sym, subst}
-use Rattle.std.specs.Str.{is_utf8}
-use Rattle.std.proofs.lemmas.Bool.{and_from}
-use Rattle.std.proofs.lemmas.Str.{is_utf8-from_IsUtf8}
+use Rattle.std.{proofs.lemmas.Bool.and_from, proofs.lemmas.Str.is_utf8-from_IsUtf8, specs.Str.is_utf8}
 use Rattle.review_records.specs.Forms.{is_parent}
 use Rattle.review_records.proofs.projects.parent_text.Goals as goal
 

@@ -1,8 +1,6 @@
 use Rattle.std.proofs.Common.{[]}
 use Rattle.sqlite.specs.Held.{state}
-use Rattle.review_statements.specs.Desk.{projects_2}
-use Rattle.review_statements.proofs.Counting.{asked_count}
-use Rattle.review_statements.proofs.TextsOfLookups.{count_projects}
+use Rattle.review_statements.{proofs.Counting.asked_count, proofs.TextsOfLookups.count_projects, specs.Desk.projects_2}
 use Rattle.review_tables.proofs.Sequences.{look}
 use Rattle.review_records.proofs.projects.select_count.Goals as goal
 

@@ -1,7 +1,6 @@
 use Rattle.std.proofs.Common.{◌≡◌, map, drop}
 use Rattle.httparse.specs.Spans.{header_bytes}
-use Rattle.review_requests.specs.Fields.{occurs_from, absent}
-use Rattle.review_requests.specs.Seen.{seen}
+use Rattle.review_requests.specs.{Fields.occurs_from, Fields.absent, Seen.seen}
 use Rattle.review_requests.proofs.fields.find_field.Given as goal
 
 abbrev pub invariant-loop-header : goal.invariant-loop-header

@@ -1,6 +1,6 @@
 use Rattle.std.proofs.Common.{◌≡◌, ◌+◌, ◌∙◌, ℕ, List, ◌∷◌, drop, get_or, drop-cons, add-one, sym, subst, arith}
-use Rattle.review_requests.specs.Fields.{digits_after}
 use Rattle.review_requests.proofs.Digits.{told, told_next}
+use Rattle.review_requests.specs.Fields.{digits_after}
 use Rattle.review_requests.proofs.fields.number_shown.Goals as goal
 
 pub loop-b-preserved : goal.loop-b-preserved

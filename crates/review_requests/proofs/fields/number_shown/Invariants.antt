@@ -1,6 +1,6 @@
 use Rattle.std.proofs.Common.{◌≡◌, ◌≤◌, drop}
-use Rattle.review_requests.specs.Fields.{digits_after, most}
 use Rattle.review_requests.proofs.Digits.{told}
+use Rattle.review_requests.specs.Fields.{digits_after, most}
 use Rattle.review_requests.proofs.fields.number_shown.Given as goal
 
 abbrev pub invariant-loop-b : goal.invariant-loop-b

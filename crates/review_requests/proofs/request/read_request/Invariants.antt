@@ -1,7 +1,5 @@
 use Rattle.std.proofs.Common.{◌≡◌, ◌+◌, ◌<◌, ◌≤◌, length, min, false}
-use Rattle.review_counted.specs.Bytes.{Gave}
-use Rattle.review_counted.specs.Counts.{greatest}
-use Rattle.review_counted.specs.Shown.{inner_of, reads_of, faults_of}
+use Rattle.review_counted.specs.{Bytes.Gave, Counts.greatest, Shown.inner_of, Shown.reads_of, Shown.faults_of}
 use Rattle.review_requests.specs.Judged.{WaitsFor}
 use Rattle.review_requests.proofs.request.read_request.Given as goal
 

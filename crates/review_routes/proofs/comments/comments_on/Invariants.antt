@@ -1,5 +1,4 @@
-use Rattle.std.proofs.Common.{◌≡◌, ◌++◌, drop}
-use Rattle.std.specs.Prelude.{option_map}
+use Rattle.std.{proofs.Common.◌≡◌, proofs.Common.◌++◌, proofs.Common.drop, specs.Prelude.option_map}
 use Rattle.serde_json.specs.View.{items_view}
 use Rattle.review_routes.specs.Comments.{comments_on}
 use Rattle.review_routes.proofs.comments.comments_on.Given as goal

@@ -1,5 +1,4 @@
-use Rattle.std.proofs.Common.{◌≡◌, ◌++◌}
-use Rattle.std.specs.Prelude.{option_map}
+use Rattle.std.{proofs.Common.◌≡◌, proofs.Common.◌++◌, specs.Prelude.option_map}
 use Rattle.serde_json.specs.View.{members_view}
 use Rattle.review_routes.specs.Votes.{given_in}
 use Rattle.review_routes.proofs.votes.given_in.Given as goal

@@ -1,8 +1,8 @@
 use Rattle.std.proofs.Common.{◌≡◌, ◌∙◌, ◌∷◌, ◌+◌, sym, subst, drop, add-one}
 use Rattle.std.proofs.Math.Seq.{drop-cons}
 use Rattle.review_table.specs.Rows.{HasEmptyOnly}
-use Rattle.review_shelves.specs.Desk.{is_removed}
 use Rattle.review_shelves.proofs.Spare.{none_removed, past_all}
+use Rattle.review_shelves.specs.Desk.{is_removed}
 use Rattle.review_shelves.proofs.tables.release_removed.Goals as goal
 
 pub loop-change-preserved : goal.loop-change-preserved

@@ -1,6 +1,5 @@
 use Rattle.std.proofs.Common.{rules, ◌++◌, ◌∷◌, [], append_assoc}
-use Rattle.review_names.specs.Numerals.{numeral}
-use Rattle.review_names.proofs.Numerals.{decimal_numeral}
+use Rattle.review_names.{proofs.Numerals.decimal_numeral, specs.Numerals.numeral}
 use Rattle.review_showing.proofs.lines.push_attention_words.Goals as goal
 
 pub returns : goal.returns

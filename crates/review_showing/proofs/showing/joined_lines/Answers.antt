@@ -1,7 +1,6 @@
-use Rattle.std.proofs.Common.{[], refl}
-use Rattle.std.proofs.KnownBytes.{Appends-nil}
-use Rattle.review_showing.specs.Told.{branch_questions}
+use Rattle.std.proofs.{Common.[], Common.refl, KnownBytes.Appends-nil}
 use Rattle.review_showing.proofs.Replies.{none_asked}
+use Rattle.review_showing.specs.Told.{branch_questions}
 use Rattle.review_showing.proofs.showing.joined_lines.Goals as goal
 
 pub returns-in_default : goal.returns-in_default

@@ -1,13 +1,13 @@
 use Rattle.std.proofs.Common.{◌≡◌, ◌∙◌, Ok, subst, rules, arith}
 use Rattle.std.proofs.lemmas.List.{take_all}
 use Rattle.sqlite.specs.Held.{state}
-use Rattle.review_rows.specs.Known.{AreAsked}
 use Rattle.review_statements.specs.Ran.{Looks}
 use Rattle.review_tables.proofs.Found.{look_on}
-use Rattle.review_database.specs.declared.sights.Sight.TheVariants as sight
+use Rattle.review_rows.specs.Known.{AreAsked}
 use Rattle.review_lookups.specs.Counts.{SeesBounded}
-use Rattle.review_sql.specs.Loading.{WereSeen}
 use Rattle.review_sql.proofs.Finding.{Have, have_more, learnt_asked}
+use Rattle.review_sql.specs.Loading.{WereSeen}
+use Rattle.review_database.specs.declared.sights.Sight.TheVariants as sight
 use Rattle.review_sql.proofs.loading.find_each.Goals as goal
 
 pub loop-want-preserved : goal.loop-want-preserved

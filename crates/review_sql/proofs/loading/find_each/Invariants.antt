@@ -1,7 +1,7 @@
 use Rattle.std.proofs.Common.{◌≡◌, take, Ok}
 use Rattle.sqlite.specs.Held.{state}
-use Rattle.review_rows.specs.Known.{AreAsked}
 use Rattle.review_statements.specs.Ran.{Looks}
+use Rattle.review_rows.specs.Known.{AreAsked}
 use Rattle.review_sql.proofs.Finding.{Have}
 use Rattle.review_sql.proofs.loading.find_each.Given as goal
 

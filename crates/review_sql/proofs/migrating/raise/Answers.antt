@@ -1,7 +1,5 @@
 use Rattle.std.proofs.Common.{rules, refl, ◌≡◌, ◌∙◌, sym, ap, not, subst, false, true, IsTrue, Ok, Err, arith}
-use Rattle.sqlite.specs.Held.{Held, state}
-use Rattle.sqlite.specs.State.{HasCleanDisk}
-use Rattle.sqlite.proofs.StateLemmas.{clean_if_open}
+use Rattle.sqlite.{proofs.StateLemmas.clean_if_open, specs.Held.Held, specs.Held.state, specs.State.HasCleanDisk}
 use Rattle.review_statements.specs.Ran.{Transacts, Within}
 use Rattle.review_tables.proofs.Sequences.{begun, failed, ended}
 use Rattle.review_sql.specs.Migrated.{Upgrades, if_whole}

@@ -1,6 +1,5 @@
 use Rattle.std.proofs.Common.{rules, ◌≡◌, inl, true, false}
-use Rattle.sqlite.specs.Held.{state}
-use Rattle.sqlite.proofs.StateLemmas.{clean_if_open}
+use Rattle.sqlite.{proofs.StateLemmas.clean_if_open, specs.Held.state}
 use Rattle.review_sql.proofs.Peeking.{part_after, whole_after}
 use Rattle.review_sql.proofs.opening.least_of_whole.Goals as goal
 

@@ -1,6 +1,5 @@
 use Rattle.std.proofs.Common.{rules, ◌≡◌, ◌∙◌, sym, ap, not, subst, IsTrue, Err}
-use Rattle.sqlite.specs.Held.{Held, state}
-use Rattle.sqlite.proofs.StateLemmas.{clean_if_open}
+use Rattle.sqlite.{proofs.StateLemmas.clean_if_open, specs.Held.Held, specs.Held.state}
 use Rattle.review_statements.specs.Ran.{Serves}
 use Rattle.review_tables.proofs.Sequences.{look_failed, look_ended}
 use Rattle.review_sql.specs.LookedUp.{IsLookedUp}

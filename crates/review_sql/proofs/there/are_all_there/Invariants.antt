@@ -1,6 +1,5 @@
 use Rattle.std.proofs.Common.{◌≡◌, ◌≤◌, ◌<◌, ℕ, List, get_or, IsTrue, false}
-use Rattle.sqlite.specs.Held.{state}
-use Rattle.sqlite.specs.State.{HasCleanDisk}
+use Rattle.sqlite.specs.{Held.state, State.HasCleanDisk}
 use Rattle.review_sql.specs.Shelf.{IsUnderstood, Stays, rows_read}
 use Rattle.review_sql.proofs.there.are_all_there.Given as goal
 

@@ -1,7 +1,5 @@
 use Rattle.std.proofs.Common.{◌∙◌, [], ap, not, subst, IsTrue}
-use Rattle.sqlite.specs.Held.{state}
-use Rattle.sqlite.specs.State.{IsNotRun}
-use Rattle.sqlite.proofs.StateLemmas.{clean_if_open}
+use Rattle.sqlite.{proofs.StateLemmas.clean_if_open, specs.Held.state, specs.State.IsNotRun}
 use Rattle.review_sql.proofs.Staying.{not_understood, stays_prepared}
 use Rattle.review_sql.proofs.there.is_understood.Goals as goal
 

@@ -1,8 +1,5 @@
 use Rattle.std.proofs.Common.{◌≡◌, ◌∙◌, Some, cond, sym, ap, rules, to_z, of_z, w8}
-use Rattle.std.specs.Prelude.{is_some}
-use Rattle.std.specs.BTreeMap.{get, is_at}
-use Rattle.std.specs.Cmp.Lexicographic.{slice_cmp}
-use Rattle.std.specs.Ordering.{nat_cmp}
+use Rattle.std.specs.{BTreeMap.get, BTreeMap.is_at, Cmp.Lexicographic.slice_cmp, Ordering.nat_cmp, Prelude.is_some}
 use Rattle.review_changes.specs.Change.{range_of}
 use Rattle.review_statuses.proofs.Made.{range_new}
 use Rattle.review_statuses.proofs.facts.add_range.Goals as goal

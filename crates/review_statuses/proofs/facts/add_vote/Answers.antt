@@ -1,6 +1,5 @@
 use Rattle.std.proofs.Common.{◌∙◌, ◌==◌, Some, cond, w8}
-use Rattle.std.proofs.lemmas.Int.{to_z-of_z}
-use Rattle.std.specs.Ordering.{nat_cmp}
+use Rattle.std.{proofs.lemmas.Int.to_z-of_z, specs.Ordering.nat_cmp}
 use Rattle.review_table.specs.Rows.{row_in}
 use Rattle.review_statuses.proofs.Made.{still_ordered, vote_added}
 use Rattle.review_statuses.proofs.facts.add_vote.Goals as goal

@@ -1,11 +1,9 @@
 use Rattle.std.proofs.Common.{◌∙◌, None, ap, map}
-use Rattle.std.specs.List.{filter}
-use Rattle.std.specs.Map.Iter.{deref_pair}
+use Rattle.std.specs.{List.filter, Map.Iter.deref_pair}
 use Rattle.review_changes.specs.Seen.{vote_cmp}
-use Rattle.review_parts.specs.Tables.{put_in}
-use Rattle.review_parts.proofs.VoteKeys.{vote_key}
-use Rattle.review_statuses.specs.Made.{is_voted}
+use Rattle.review_parts.{proofs.VoteKeys.vote_key, specs.Tables.put_in}
 use Rattle.review_statuses.proofs.Made.{votes_made}
+use Rattle.review_statuses.specs.Made.{is_voted}
 use Rattle.review_statuses.proofs.facts.current_votes.Goals as goal
 
 pub returns : goal.returns

@@ -1,5 +1,4 @@
-use Rattle.std.proofs.Common.{◌∙◌, [], sym, ap}
-use Rattle.std.specs.Option.{option_copied}
+use Rattle.std.{proofs.Common.◌∙◌, proofs.Common.[], proofs.Common.sym, proofs.Common.ap, specs.Option.option_copied}
 use Rattle.review_statuses.proofs.Made.{last_of_paths}
 use Rattle.review_statuses.proofs.facts.paths_of.Goals as goal
 

@@ -1,7 +1,7 @@
 use Rattle.std.proofs.Common.{◌≡◌, ◌∙◌, ◌==◌, ◌&&◌, Some, true, cond, sym, ap, eq-eqb, rules, to_z, of_z, w8}
 use Rattle.std.specs.Str.{bytes_eq}
-use Rattle.review_statuses.specs.Made.{vote_at}
 use Rattle.review_statuses.proofs.Made.{both_tests}
+use Rattle.review_statuses.specs.Made.{vote_at}
 use Rattle.review_statuses.proofs.facts.put_vote.Goals as goal
 
 pub returns-clause-vote : goal.returns-clause-vote

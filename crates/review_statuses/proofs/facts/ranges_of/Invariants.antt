@@ -1,10 +1,6 @@
 use Rattle.std.proofs.Common.{◌≡◌, ℕ, List, drop}
-use Rattle.std.specs.Prelude.{find, option_map}
-use Rattle.std.specs.BTreeMap.{get}
-use Rattle.std.specs.Cmp.Lexicographic.{slice_cmp}
-use Rattle.std.specs.Option.{option_or}
-use Rattle.std.specs.Ordering.{nat_cmp}
-use Rattle.std.specs.Str.{bytes_eq}
+use Rattle.std.specs.{BTreeMap.get, Cmp.Lexicographic.slice_cmp, Option.option_or, Ordering.nat_cmp}
+use Rattle.std.specs.{Prelude.find, Prelude.option_map, Str.bytes_eq}
 use Rattle.review_changes.specs.Change.{range_of}
 use Rattle.review_statuses.proofs.facts.ranges_of.Given as goal
 

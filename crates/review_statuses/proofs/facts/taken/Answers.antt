@@ -1,5 +1,4 @@
-use Rattle.std.proofs.Common.{◌∙◌}
-use Rattle.std.proofs.lemmas.Map.Text.{is_eq-slice_cmp}
+use Rattle.std.proofs.{Common.◌∙◌, lemmas.Map.Text.is_eq-slice_cmp}
 use Rattle.review_statuses.proofs.facts.taken.Goals as goal
 
 pub returns-in-Some-clause-others : goal.returns-in-Some-clause-others

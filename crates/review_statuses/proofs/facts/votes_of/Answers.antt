@@ -1,19 +1,13 @@
 use Rattle.std.proofs.Common.{◌≡◌, ℕ, List, subst, ◌+◌, ◌∙◌, ◌∷◌, Some, None, cond, sym, ap, drop, map}
 use Rattle.std.proofs.lemmas.List.{at_drop_more}
-use Rattle.std.specs.BTreeMap.{get, is_at}
-use Rattle.std.specs.Cmp.Lexicographic.{slice_cmp}
-use Rattle.std.specs.List.{filter}
-use Rattle.std.specs.List.Sorted.{IsStrictlySortedBy}
-use Rattle.std.specs.Map.{keys_of, lookup}
-use Rattle.std.specs.Ordering.{nat_cmp}
+use Rattle.std.specs.{BTreeMap.get, BTreeMap.is_at, Cmp.Lexicographic.slice_cmp, List.filter}
+use Rattle.std.specs.{List.Sorted.IsStrictlySortedBy, Map.keys_of, Map.lookup, Map.Iter.deref_pair, Ordering.nat_cmp}
 use Rattle.review_table.specs.Rows.{row_in}
 use Rattle.review_judging.specs.Holds.{votes_on}
-use Rattle.std.specs.Map.Iter.{deref_pair}
 use Rattle.review_changes.specs.Seen.{vote_cmp}
-use Rattle.review_parts.specs.Tables.{put_in}
-use Rattle.review_parts.proofs.VoteKeys.{vote_key, vote_tied}
-use Rattle.review_statuses.specs.Made.{is_voted, vote_at}
+use Rattle.review_parts.{proofs.VoteKeys.vote_key, proofs.VoteKeys.vote_tied, specs.Tables.put_in}
 use Rattle.review_statuses.proofs.Made.{voted_more}
+use Rattle.review_statuses.specs.Made.{is_voted, vote_at}
 use Rattle.review_statuses.proofs.facts.votes_of.Goals as goal
 
 nothing : IsStrictlySortedBy nat_cmp (keys_of (votes_on None))

@@ -1,9 +1,7 @@
 use Rattle.std.proofs.Common.{◌≡◌, ℕ, List, None, drop, map}
-use Rattle.std.specs.List.{filter}
-use Rattle.std.specs.Map.Iter.{deref_pair}
+use Rattle.std.specs.{List.filter, Map.Iter.deref_pair}
 use Rattle.review_changes.specs.Seen.{vote_cmp}
-use Rattle.review_parts.specs.Tables.{put_in}
-use Rattle.review_parts.proofs.VoteKeys.{vote_key}
+use Rattle.review_parts.{proofs.VoteKeys.vote_key, specs.Tables.put_in}
 use Rattle.review_statuses.specs.Made.{AreOrdered, is_voted, vote_at}
 use Rattle.review_statuses.proofs.facts.votes_of.Given as goal
 

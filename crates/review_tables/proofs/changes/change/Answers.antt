@@ -1,9 +1,7 @@
 use Rattle.std.proofs.Common.{rules, ◌≡◌, Option, None, Ok, sym, subst}
 use Rattle.sqlite.specs.Held.{state}
-use Rattle.review_statements.specs.Ran.{Inside}
-use Rattle.review_statements.specs.Search.{SetsRow}
-use Rattle.review_tables.proofs.Sequences.{told}
-use Rattle.review_tables.proofs.Keys.{row_gone}
+use Rattle.review_statements.specs.{Ran.Inside, Search.SetsRow}
+use Rattle.review_tables.proofs.{Keys.row_gone, Sequences.told}
 use Rattle.review_tables.proofs.changes.change.Goals as goal
 
 pub returns-in_ok-remove-in-None-clause-ran : goal.returns-in_ok-remove-in-None-clause-ran

@@ -1,8 +1,7 @@
 use Rattle.std.proofs.Common.{rules, ◌≡◌, ◌∙◌, ◌-◌, suc, drop, get_or, ◌∷◌, Ok, Err, subst, sym, arith}
 use Rattle.std.proofs.Math.Seq.{drop-cons}
 use Rattle.sqlite.specs.Held.{state}
-use Rattle.review_statements.specs.Ran.{Inside}
-use Rattle.review_statements.specs.Search.{SetsRows}
+use Rattle.review_statements.specs.{Ran.Inside, Search.SetsRows}
 use Rattle.review_tables.proofs.Sequences.{next, stop}
 use Rattle.review_tables.proofs.changes.change_all.Goals as goal
 

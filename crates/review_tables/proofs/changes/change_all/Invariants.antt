@@ -1,7 +1,6 @@
 use Rattle.std.proofs.Common.{◌≡◌, ◌≤◌, length, drop, Ok}
 use Rattle.sqlite.specs.Held.{state}
-use Rattle.review_statements.specs.Ran.{Inside}
-use Rattle.review_statements.specs.Search.{SetsRows}
+use Rattle.review_statements.specs.{Ran.Inside, Search.SetsRows}
 use Rattle.review_tables.proofs.changes.change_all.Given as goal
 
 abbrev pub invariant-loop-left : goal.invariant-loop-left

@@ -1,8 +1,7 @@
 use Rattle.std.proofs.Common.{Some}
 use Rattle.sqlite.specs.Held.{state}
 use Rattle.review_statements.specs.Search.{SetsRow}
-use Rattle.review_tables.proofs.Sequences.{next, told}
-use Rattle.review_tables.proofs.Keys.{row_put}
+use Rattle.review_tables.proofs.{Keys.row_put, Sequences.next, Sequences.told}
 use Rattle.review_tables.proofs.changes.set.Goals as goal
 
 pub returns-clause-ran : goal.returns-clause-ran

@@ -1,11 +1,8 @@
 use Rattle.std.proofs.Common.{rules, refl, ◌≡◌, ◌∙◌, sym, ap, not, subst, IsTrue, Err}
-use Rattle.sqlite.specs.Held.{Held, state}
-use Rattle.sqlite.proofs.StateLemmas.{clean_if_open}
-use Rattle.review_statements.specs.Desk.{schema_0}
-use Rattle.review_tables.specs.Made.{Grows}
-use Rattle.review_statements.specs.Ran.{Transacts}
-use Rattle.review_tables.specs.Versions.{schema_at}
+use Rattle.sqlite.{proofs.StateLemmas.clean_if_open, specs.Held.Held, specs.Held.state}
+use Rattle.review_statements.specs.{Desk.schema_0, Ran.Transacts}
 use Rattle.review_tables.proofs.Sequences.{failed, ended}
+use Rattle.review_tables.specs.{Made.Grows, Versions.schema_at}
 use Rattle.review_tables.proofs.creating.create_all.Goals as goal
 
 pub returns-in_err-create_tables-clause-acts : goal.returns-in_err-create_tables-clause-acts

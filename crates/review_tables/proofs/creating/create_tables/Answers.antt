@@ -1,14 +1,11 @@
 use Rattle.std.proofs.Common.{sym, subst}
 use Rattle.sqlite.specs.Held.{state}
 use Rattle.review_statements.specs.Desk.{desk_schema, schema_0, schema_1, schema_2}
-use Rattle.review_statements.specs.Moved.{projects_move}
-use Rattle.review_statements.specs.Ran.{Within}
-use Rattle.review_tables.specs.Made.{Grows}
-use Rattle.review_tables.specs.Migrated.{Migrates, Moves}
-use Rattle.review_tables.specs.Versions.{schema_at}
-use Rattle.review_tables.specs.declared.versions.EarlierVersion.TheVariants as earlier
-use Rattle.review_tables.proofs.Sequences.{Next, follow, retold}
+use Rattle.review_statements.specs.{Moved.projects_move, Ran.Within}
 use Rattle.review_tables.proofs.Migrated.{grows, grows_second}
+use Rattle.review_tables.proofs.Sequences.{Next, follow, retold}
+use Rattle.review_tables.specs.{Made.Grows, Migrated.Migrates, Migrated.Moves, Versions.schema_at}
+use Rattle.review_tables.specs.declared.versions.EarlierVersion.TheVariants as earlier
 use Rattle.review_tables.proofs.creating.create_tables.Goals as goal
 
 pub returns-in-Second-clause-ran : goal.returns-in-Second-clause-ran

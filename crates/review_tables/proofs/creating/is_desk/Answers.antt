@@ -1,6 +1,6 @@
 use Rattle.std.proofs.Common.{◌∙◌}
-use Rattle.review_tables.specs.Versions.{schema_at}
 use Rattle.review_tables.proofs.Made.{made_in_memory, decides_desk}
+use Rattle.review_tables.specs.Versions.{schema_at}
 use Rattle.review_tables.proofs.creating.is_desk.Goals as goal
 
 pub returns : goal.returns

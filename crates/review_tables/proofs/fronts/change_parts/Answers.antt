@@ -2,8 +2,8 @@ use Rattle.std.proofs.Common.{rules, ◌≡◌, ◌∙◌, ◌-◌, suc, drop, g
 use Rattle.std.proofs.Math.Seq.{drop-cons}
 use Rattle.sqlite.specs.Held.{state}
 use Rattle.review_statements.specs.Ran.{Inside}
-use Rattle.review_tables.specs.Fronts.{SetsParts}
 use Rattle.review_tables.proofs.Sequences.{next, stop}
+use Rattle.review_tables.specs.Fronts.{SetsParts}
 use Rattle.review_tables.proofs.fronts.change_parts.Goals as goal
 
 pub loop-left-preserved : goal.loop-left-preserved

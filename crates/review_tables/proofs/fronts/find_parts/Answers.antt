@@ -1,12 +1,10 @@
 use Rattle.std.proofs.Common.{Vec, Global, rules, ◌≡◌, option_map, subst, Ok}
-use Rattle.sqlite.specs.Held.{state}
-use Rattle.sqlite.specs.declared.rows.Row.{Row}
+use Rattle.sqlite.specs.{Held.state, declared.rows.Row.Row}
 use Rattle.sqlite_trees.specs.Tree.{Trees}
 use Rattle.review_table.specs.Rows.{rows_of}
-use Rattle.review_tables.specs.Fronts.{WereSorted}
 use Rattle.review_statements.specs.Search.{Finds}
-use Rattle.review_tables.proofs.Found.{look_on}
-use Rattle.review_tables.proofs.Owned.{sorted_owned}
+use Rattle.review_tables.proofs.{Found.look_on, Owned.sorted_owned}
+use Rattle.review_tables.specs.Fronts.{WereSorted}
 use Rattle.review_tables.proofs.fronts.find_parts.Goals as goal
 
 pub returns-clause-looks : goal.returns-clause-looks

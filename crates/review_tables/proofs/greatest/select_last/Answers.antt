@@ -1,8 +1,6 @@
 use Rattle.std.proofs.Common.{◌≡◌, ◌∙◌}
-use Rattle.sqlite.specs.Held.{state}
-use Rattle.sqlite.specs.Values.{bound}
-use Rattle.review_statements.specs.Texts.{values_of}
-use Rattle.review_statements.proofs.Cut.{asked_last}
+use Rattle.sqlite.specs.{Held.state, Values.bound}
+use Rattle.review_statements.{proofs.Cut.asked_last, specs.Texts.values_of}
 use Rattle.review_tables.proofs.Sequences.{look}
 use Rattle.review_tables.proofs.greatest.select_last.Goals as goal
 

@@ -1,8 +1,7 @@
 use Rattle.std.proofs.Common.{[]}
 use Rattle.sqlite.specs.Held.{state}
+use Rattle.review_tables.proofs.{Made.makes_by, Sequences.one}
 use Rattle.review_tables.specs.Made.{MakesBy}
-use Rattle.review_tables.proofs.Sequences.{one}
-use Rattle.review_tables.proofs.Made.{makes_by}
 use Rattle.review_tables.proofs.making.make.Goals as goal
 
 pub returns-clause-ran : goal.returns-clause-ran

@@ -1,10 +1,8 @@
 use Rattle.std.proofs.Common.{◌≡◌, ◌∙◌, ◌+◌, suc, take, Ok, subst, arith}
 use Rattle.sqlite.specs.Held.{state}
-use Rattle.review_statements.specs.Desk.{tables_1, schema_0, schema_of}
-use Rattle.review_statements.specs.Ran.{Within}
+use Rattle.review_statements.specs.{Desk.tables_1, Desk.schema_0, Desk.schema_of, Ran.Within}
+use Rattle.review_tables.proofs.{Made.makes_first, Made.makes_next, Sequences.follow, Sequences.settled_as}
 use Rattle.review_tables.specs.Made.{MakesBy, Grows}
-use Rattle.review_tables.proofs.Sequences.{follow, settled_as}
-use Rattle.review_tables.proofs.Made.{makes_first, makes_next}
 use Rattle.review_tables.proofs.making.make_first_tables.Goals as goal
 
 pub loop-at-init : goal.loop-at-init

@@ -1,7 +1,6 @@
 use Rattle.std.proofs.Common.{◌≡◌, ◌≤◌, take, Ok}
 use Rattle.sqlite.specs.Held.{state}
-use Rattle.review_statements.specs.Desk.{tables_1, schema_0, schema_of}
-use Rattle.review_statements.specs.Ran.{Within, Opens}
+use Rattle.review_statements.specs.{Desk.tables_1, Desk.schema_0, Desk.schema_of, Ran.Within, Ran.Opens}
 use Rattle.review_tables.specs.Made.{Grows}
 use Rattle.review_tables.proofs.making.make_first_tables.Given as goal
 

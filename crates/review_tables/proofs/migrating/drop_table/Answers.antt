@@ -1,8 +1,8 @@
 use Rattle.std.proofs.Common.{[]}
 use Rattle.sqlite.specs.Held.{state}
 use Rattle.review_statements.proofs.TextsOfMoves.{drops}
-use Rattle.review_tables.specs.Migrated.{DropsBy}
 use Rattle.review_tables.proofs.Sequences.{one}
+use Rattle.review_tables.specs.Migrated.{DropsBy}
 use Rattle.review_tables.proofs.migrating.drop_table.Goals as goal
 
 pub returns-clause-ran : goal.returns-clause-ran

@@ -1,8 +1,8 @@
 use Rattle.std.proofs.Common.{[]}
 use Rattle.sqlite.specs.Held.{state}
 use Rattle.review_statements.proofs.TextsOfMoves.{fills}
-use Rattle.review_tables.specs.Migrated.{FillsBy}
 use Rattle.review_tables.proofs.Sequences.{one}
+use Rattle.review_tables.specs.Migrated.{FillsBy}
 use Rattle.review_tables.proofs.migrating.fill.Goals as goal
 
 pub returns-clause-ran : goal.returns-clause-ran

@@ -1,8 +1,7 @@
 use Rattle.sqlite.specs.Held.{state}
+use Rattle.review_tables.proofs.{Migrated.migrates_first, Sequences.follow, Sequences.retold}
 use Rattle.review_tables.specs.Migrated.{Migrates}
 use Rattle.review_tables.specs.declared.versions.EarlierVersion.TheVariants as earlier
-use Rattle.review_tables.proofs.Sequences.{follow, retold}
-use Rattle.review_tables.proofs.Migrated.{migrates_first}
 use Rattle.review_tables.proofs.migrating.migrate_first.Goals as goal
 
 pub returns-clause-ran : goal.returns-clause-ran

@@ -1,8 +1,7 @@
 use Rattle.sqlite.specs.Held.{state}
 use Rattle.review_statements.specs.Moved.{answers_move}
+use Rattle.review_tables.proofs.{Migrated.moves_answers, Sequences.follow, Sequences.settled_as}
 use Rattle.review_tables.specs.Migrated.{Moves}
-use Rattle.review_tables.proofs.Sequences.{follow, settled_as}
-use Rattle.review_tables.proofs.Migrated.{moves_answers}
 use Rattle.review_tables.proofs.migrating.move_answers.Goals as goal
 
 pub returns-clause-ran : goal.returns-clause-ran

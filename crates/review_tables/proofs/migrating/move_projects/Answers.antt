@@ -1,8 +1,7 @@
 use Rattle.sqlite.specs.Held.{state}
 use Rattle.review_statements.specs.Moved.{projects_move}
+use Rattle.review_tables.proofs.{Migrated.moves_projects, Sequences.follow, Sequences.settled_as}
 use Rattle.review_tables.specs.Migrated.{Moves}
-use Rattle.review_tables.proofs.Sequences.{follow, settled_as}
-use Rattle.review_tables.proofs.Migrated.{moves_projects}
 use Rattle.review_tables.proofs.migrating.move_projects.Goals as goal
 
 pub returns-clause-ran : goal.returns-clause-ran

@@ -1,6 +1,5 @@
 use Rattle.std.proofs.Common.{Vec, Global, rules, ◌≡◌, ◌∙◌, ap, Ok}
-use Rattle.sqlite.specs.Held.{state}
-use Rattle.sqlite.specs.declared.rows.Row.{Row}
+use Rattle.sqlite.specs.{Held.state, declared.rows.Row.Row}
 use Rattle.sqlite_trees.specs.Tree.{Trees}
 use Rattle.review_statements.specs.Search.{only, Finds}
 use Rattle.review_tables.proofs.Found.{look_on, one_found}

@@ -1,6 +1,5 @@
 use Rattle.std.proofs.Common.{Vec, Global, rules, ◌≡◌, subst, option_map, Ok}
-use Rattle.sqlite.specs.Held.{state}
-use Rattle.sqlite.specs.declared.rows.Row.{Row}
+use Rattle.sqlite.specs.{Held.state, declared.rows.Row.Row}
 use Rattle.sqlite_trees.specs.Tree.{Trees}
 use Rattle.review_statements.specs.Search.{Finds, WereRead}
 use Rattle.review_tables.proofs.Found.{look_on, all_found}

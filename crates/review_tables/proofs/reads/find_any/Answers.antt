@@ -1,9 +1,7 @@
 use Rattle.std.proofs.Common.{Vec, Global, rules, ◌≡◌, ◌∙◌, ap, subst, sym, Ok}
-use Rattle.sqlite.specs.Held.{state}
-use Rattle.sqlite.specs.declared.rows.Row.{Row}
+use Rattle.sqlite.specs.{Held.state, declared.rows.Row.Row}
 use Rattle.sqlite_trees.specs.Tree.{Trees}
-use Rattle.review_statements.specs.Greatest.{first_as, HasOne}
-use Rattle.review_statements.specs.Search.{Finds}
+use Rattle.review_statements.specs.{Greatest.first_as, Greatest.HasOne, Search.Finds}
 use Rattle.review_tables.proofs.Found.{look_on, any_found}
 use Rattle.review_tables.proofs.reads.find_any.Goals as goal
 

@@ -2,10 +2,8 @@ use Rattle.std.proofs.Common.{◌≡◌, ◌∙◌, ◌+◌, ◌&&◌, suc, take
 use Rattle.std.specs.Bool.{Decides}
 use Rattle.sqlite.specs.Held.{state}
 use Rattle.sqlite_trees.specs.Tree.{Trees}
-use Rattle.review_statements.specs.Desk.{desk_tables, table_at}
-use Rattle.review_statements.specs.Ran.{Looks}
-use Rattle.review_tables.proofs.Found.{look_on, look_both}
-use Rattle.review_tables.proofs.Ids.{Apart, decides_more}
+use Rattle.review_statements.specs.{Desk.desk_tables, Desk.table_at, Ran.Looks}
+use Rattle.review_tables.proofs.{Found.look_on, Found.look_both, Ids.Apart, Ids.decides_more}
 use Rattle.review_tables.proofs.rowids.are_all_apart.Goals as goal
 
 pub loop-at-init : goal.loop-at-init

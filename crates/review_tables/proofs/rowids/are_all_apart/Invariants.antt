@@ -1,8 +1,6 @@
-use Rattle.std.proofs.Common.{◌≡◌, ◌≤◌, take, Ok}
-use Rattle.std.specs.Bool.{Decides}
+use Rattle.std.{proofs.Common.◌≡◌, proofs.Common.◌≤◌, proofs.Common.take, proofs.Common.Ok, specs.Bool.Decides}
 use Rattle.sqlite.specs.Held.{state}
-use Rattle.review_statements.specs.Desk.{desk_tables}
-use Rattle.review_statements.specs.Ran.{Looks}
+use Rattle.review_statements.specs.{Desk.desk_tables, Ran.Looks}
 use Rattle.review_tables.proofs.Ids.{Apart}
 use Rattle.review_tables.proofs.rowids.are_all_apart.Given as goal
 

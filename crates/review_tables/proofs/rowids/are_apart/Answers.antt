@@ -1,15 +1,10 @@
 use Rattle.std.proofs.Common.{Vec, Global, [], rules, ◌≡◌, subst, Ok}
-use Rattle.std.specs.Bool.{Decides}
-use Rattle.std.specs.List.{AllByRecursion}
-use Rattle.sqlite.specs.Held.{state}
-use Rattle.sqlite.specs.declared.rows.Row.{Row}
+use Rattle.std.specs.{Bool.Decides, List.AllByRecursion}
+use Rattle.sqlite.specs.{Held.state, declared.rows.Row.Row}
 use Rattle.sqlite_trees.specs.Tree.{Trees}
-use Rattle.review_statements.specs.Desk.{table_at}
-use Rattle.review_statements.specs.Search.{FindsIds}
-use Rattle.review_statements.proofs.TextsOfTables.{ids_at}
+use Rattle.review_statements.{proofs.TextsOfTables.ids_at, specs.Desk.table_at, specs.Search.FindsIds}
+use Rattle.review_tables.proofs.{Found.look_on, Ids.decides_at}
 use Rattle.review_tables.specs.Rowids.{AreOwn, firsts}
-use Rattle.review_tables.proofs.Found.{look_on}
-use Rattle.review_tables.proofs.Ids.{decides_at}
 use Rattle.review_tables.proofs.rowids.are_apart.Goals as goal
 
 pub returns-clause-looks : goal.returns-clause-looks

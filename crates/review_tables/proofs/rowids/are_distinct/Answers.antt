@@ -1,7 +1,5 @@
 use Rattle.std.proofs.Common.{rules, ◌≡◌, nat_eq, length, subst₂, sym}
-use Rattle.std.specs.Bool.{Decides}
-use Rattle.std.specs.List.{IsDistinct}
-use Rattle.std.specs.Ordering.{int_eq}
+use Rattle.std.specs.{Bool.Decides, List.IsDistinct, Ordering.int_eq}
 use Rattle.review_tables.proofs.Ids.{differ}
 use Rattle.review_tables.proofs.rowids.are_distinct.Goals as goal
 

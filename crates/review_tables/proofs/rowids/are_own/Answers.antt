@@ -1,6 +1,6 @@
 use Rattle.std.proofs.Common.{rules, Some, None}
-use Rattle.review_tables.specs.Rowids.{AreIds}
 use Rattle.review_tables.proofs.Ids.{decides_own, not_own}
+use Rattle.review_tables.specs.Rowids.{AreIds}
 use Rattle.review_tables.proofs.rowids.are_own.Goals as goal
 
 pub returns-in-Some : goal.returns-in-Some

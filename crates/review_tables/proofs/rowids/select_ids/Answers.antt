@@ -1,9 +1,6 @@
-use Rattle.std.proofs.Common.{[], sym, subst}
-use Rattle.std.specs.List.{AllByRecursion}
+use Rattle.std.{proofs.Common.[], proofs.Common.sym, proofs.Common.subst, specs.List.AllByRecursion}
 use Rattle.sqlite.specs.Held.{state}
-use Rattle.review_statements.specs.Search.{FindsIds}
-use Rattle.review_statements.proofs.Meaning.{asked_ids}
-use Rattle.review_statements.proofs.TextsOfTables.{ids_at}
+use Rattle.review_statements.{proofs.Meaning.asked_ids, proofs.TextsOfTables.ids_at, specs.Search.FindsIds}
 use Rattle.review_tables.proofs.Sequences.{look}
 use Rattle.review_tables.proofs.rowids.select_ids.Goals as goal
 

@@ -1,6 +1,5 @@
 use Rattle.std.proofs.Common.{◌≡◌, ◌∙◌}
-use Rattle.sqlite.specs.Held.{state}
-use Rattle.sqlite.specs.Values.{bound}
+use Rattle.sqlite.specs.{Held.state, Values.bound}
 use Rattle.review_statements.proofs.Changes.{inserted}
 use Rattle.review_tables.proofs.Sequences.{one_inside, opened}
 use Rattle.review_tables.proofs.table.insert.Goals as goal

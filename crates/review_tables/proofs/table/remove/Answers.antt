@@ -1,8 +1,6 @@
 use Rattle.std.proofs.Common.{◌≡◌, ◌∙◌}
-use Rattle.sqlite.specs.Held.{state}
-use Rattle.sqlite.specs.Values.{bound}
-use Rattle.review_statements.specs.Texts.{values_of}
-use Rattle.review_statements.proofs.Changes.{deleted}
+use Rattle.sqlite.specs.{Held.state, Values.bound}
+use Rattle.review_statements.{proofs.Changes.deleted, specs.Texts.values_of}
 use Rattle.review_tables.proofs.Sequences.{one_inside, opened}
 use Rattle.review_tables.proofs.table.remove.Goals as goal
 

@@ -1,7 +1,6 @@
 use Rattle.std.proofs.Common.{◌≤◌, length, ap, sym, ◌∙◌, arith}
-use Rattle.review_terms.specs.Lexemes.{balanced}
-use Rattle.review_terms.specs.Scanned.{lexemes}
 use Rattle.review_terms.proofs.Moves.{unbalanced}
+use Rattle.review_terms.specs.{Lexemes.balanced, Scanned.lexemes}
 use Rattle.review_terms.proofs.lexemes.cut.Goals as goal
 
 pub returns-then-not-is_balanced-clause-fault : goal.returns-then-not-is_balanced-clause-fault

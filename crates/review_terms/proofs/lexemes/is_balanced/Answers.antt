@@ -1,9 +1,8 @@
 use Rattle.std.proofs.Common.{◌≡◌, ◌≤◌, ◌+◌, suc, drop, sym, ◌∙◌, ap, arith}
-use Rattle.review_terms.specs.Lexemes.{balanced}
-use Rattle.review_terms.specs.Scanned.{lexemes}
 use Rattle.review_terms.proofs.Moves.{piece_front, none_closes, one_closes, none_left}
-use Rattle.review_terms.proofs.lexemes.is_balanced.Goals as goal
 use Rattle.review_terms.proofs.lexemes.is_balanced.Goals.{in-Word, in-Open, in-Close+else-unclosed-eq0}
+use Rattle.review_terms.specs.{Lexemes.balanced, Scanned.lexemes}
+use Rattle.review_terms.proofs.lexemes.is_balanced.Goals as goal
 
 pub returns-then-unclosed-eq0 : goal.returns-then-unclosed-eq0
 returns-then-unclosed-eq0 c = λ text.

@@ -1,6 +1,5 @@
 use Rattle.std.proofs.Common.{◌≡◌, ◌≤◌, ℕ, List, drop}
-use Rattle.review_terms.specs.Lexemes.{balanced}
-use Rattle.review_terms.specs.Scanned.{lexemes}
+use Rattle.review_terms.specs.{Lexemes.balanced, Scanned.lexemes}
 use Rattle.review_terms.proofs.lexemes.is_balanced.Given as goal
 
 abbrev pub invariant-loop-piece : goal.invariant-loop-piece

@@ -1,5 +1,4 @@
-use Rattle.std.proofs.Common.{◌≡◌, sym, ◌∙◌, arith, length}
-use Rattle.std.proofs.lemmas.List.{map-append}
+use Rattle.std.proofs.{Common.◌≡◌, Common.sym, Common.◌∙◌, Common.arith, Common.length, lemmas.List.map-append}
 use Rattle.review_terms.proofs.Moves.{at_end, cut_of, uncut, unclosed, closed, between}
 use Rattle.review_terms.proofs.lexemes.scanned.Goals as goal
 

@@ -1,5 +1,4 @@
-use Rattle.std.proofs.Common.{◌≡◌, drop}
-use Rattle.std.specs.List.{All}
+use Rattle.std.{proofs.Common.◌≡◌, proofs.Common.drop, specs.List.All}
 use Rattle.review_terms.specs.Scan.{scan, put, Between}
 use Rattle.review_terms.specs.Scanned.{lexemes, mode_of, IsBehind, IsWithin}
 use Rattle.review_terms.proofs.lexemes.scanned.Given as goal

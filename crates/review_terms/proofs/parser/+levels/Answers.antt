@@ -1,8 +1,8 @@
 use Rattle.std.proofs.Common.{◌-◌, ap, ◌∙◌, sym, option_map, Some}
 use Rattle.std.proofs.lemmas.Result.{err_from_is_err_and}
+use Rattle.review_terms.proofs.Steps.{unary_zero, members_zero, at_not, at_minus, at_none, at_last, at_next, at_failing, fails_map, negated_read}
 use Rattle.review_terms.specs.Reading.{members}
 use Rattle.review_terms.specs.Views.{seen, seen_all, with_join, run_view, toks, Sums, join}
-use Rattle.review_terms.proofs.Steps.{unary_zero, members_zero, at_not, at_minus, at_none, at_last, at_next, at_failing, fails_map, negated_read}
 use Rattle.review_terms.proofs.parser.+levels.Goals as goal
 
 pub unary-returns-then-fuel-eq0 : goal.unary-returns-then-fuel-eq0

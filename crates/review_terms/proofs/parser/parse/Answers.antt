@@ -1,7 +1,6 @@
-use Rattle.std.proofs.Common.{◌∙◌, arith}
-use Rattle.std.proofs.lemmas.List.{length-map}
-use Rattle.review_terms.specs.Views.{toks, run_view, tok}
+use Rattle.std.proofs.{Common.◌∙◌, Common.arith, lemmas.List.length-map}
 use Rattle.review_terms.proofs.Verdicts.{none_fails, none_left, found}
+use Rattle.review_terms.specs.Views.{toks, run_view, tok}
 use Rattle.review_terms.proofs.parser.parse.Goals as goal
 
 pub returns-in-Err-Grammar-clause-fault : goal.returns-in-Err-Grammar-clause-fault

@@ -1,8 +1,8 @@
 use Rattle.std.proofs.Common.{◌≡◌, ◌+◌, ◌∷◌, ◌++◌, [], ◌∙◌, ap, sym, drop, length, map, arith}
 use Rattle.std.proofs.lemmas.List.{at_drop_more, length-append, length-map}
 use Rattle.review_changes.specs.Threads.{shown_comment}
-use Rattle.review_threads.specs.Gathered.{place_of, put_in, thread_so_far}
 use Rattle.review_threads.proofs.InThreads.{all_gathered, gathered}
+use Rattle.review_threads.specs.Gathered.{place_of, put_in, thread_so_far}
 use Rattle.review_threads.proofs.gathering.gather.Goals as goal
 
 pub loop-comment-init : goal.loop-comment-init

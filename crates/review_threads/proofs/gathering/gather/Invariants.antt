@@ -1,7 +1,7 @@
 use Rattle.std.proofs.Common.{◌≡◌, drop, length, map}
 use Rattle.review_changes.specs.Threads.{threads}
-use Rattle.review_threads.specs.Gathered.{thread_so_far}
 use Rattle.review_threads.proofs.InThreads.{gathered}
+use Rattle.review_threads.specs.Gathered.{thread_so_far}
 use Rattle.review_threads.proofs.gathering.gather.Given as goal
 
 abbrev pub invariant-loop-comment : goal.invariant-loop-comment

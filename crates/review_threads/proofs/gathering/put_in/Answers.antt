@@ -1,7 +1,7 @@
 use Rattle.std.proofs.Common.{arith, ◌≤◌, ◌∷◌, ◌++◌, [], ◌∙◌, ap, sym, subst, map, length, refl}
 use Rattle.std.proofs.lemmas.List.{length-map, map-append}
-use Rattle.review_threads.specs.Gathered.{thread_so_far}
 use Rattle.review_threads.proofs.InThreads.{put_past, put_set}
+use Rattle.review_threads.specs.Gathered.{thread_so_far}
 use Rattle.review_threads.proofs.gathering.put_in.Goals as goal
 
 pub returns-then-place-len : goal.returns-then-place-len

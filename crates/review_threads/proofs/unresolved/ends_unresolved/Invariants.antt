@@ -1,10 +1,6 @@
 use Rattle.std.proofs.Common.{◌≡◌, ℕ, List, ◌++◌, ◌==◌, false}
-use Rattle.std.specs.BTreeSet.{contains}
-use Rattle.std.specs.List.{list_any}
-use Rattle.std.specs.Ordering.{nat_cmp}
-use Rattle.std.specs.Vec.{vec_len}
-use Rattle.review_changes.specs.Change.{has_unresolved}
-use Rattle.review_changes.specs.declared.rows.Post.{Post}
+use Rattle.std.specs.{BTreeSet.contains, List.list_any, Ordering.nat_cmp, Vec.vec_len}
+use Rattle.review_changes.specs.{Change.has_unresolved, declared.rows.Post.Post}
 use Rattle.review_threads.proofs.unresolved.ends_unresolved.Given as goal
 
 -- those that are taken off the end leave no thread unresolved, and their threads were seen

@@ -1,7 +1,7 @@
 use Rattle.sqlite.specs.Held.{state}
 use Rattle.review_tables.proofs.Sequences.{follow, retold}
-use Rattle.review_transactions.specs.First.{MakesDesk}
 use Rattle.review_transactions.proofs.Begin.{makes_desk}
+use Rattle.review_transactions.specs.First.{MakesDesk}
 use Rattle.review_transactions.proofs.creating.make.Goals as goal
 
 pub returns-clause-ran : goal.returns-clause-ran

@@ -1,9 +1,8 @@
 use Rattle.std.proofs.Common.{rules, refl, ◌≡◌, ◌∙◌, sym, ap, not, subst, IsTrue, Err}
-use Rattle.sqlite.specs.Held.{Held, state}
-use Rattle.sqlite.proofs.StateLemmas.{clean_if_open}
-use Rattle.review_transactions.specs.Commits.{Commits}
+use Rattle.sqlite.{proofs.StateLemmas.clean_if_open, specs.Held.Held, specs.Held.state}
 use Rattle.review_statements.specs.Ran.{Transacts}
 use Rattle.review_tables.proofs.Sequences.{failed, ended}
+use Rattle.review_transactions.specs.Commits.{Commits}
 use Rattle.review_transactions.proofs.writing.transact.Goals as goal
 
 pub returns-in_err-write-clause-acts : goal.returns-in_err-write-clause-acts

@@ -1,7 +1,7 @@
 use Rattle.sqlite.specs.Held.{state}
 use Rattle.review_tables.proofs.Sequences.{next, retold}
-use Rattle.review_transactions.specs.Commits.{Commits}
 use Rattle.review_transactions.proofs.Commit.{commits}
+use Rattle.review_transactions.specs.Commits.{Commits}
 use Rattle.review_transactions.proofs.writing.write.Goals as goal
 
 pub returns-clause-ran : goal.returns-clause-ran

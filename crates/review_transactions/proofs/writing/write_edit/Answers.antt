@@ -1,8 +1,7 @@
 use Rattle.std.proofs.Common.{rules, ◌≡◌, Ok, subst}
 use Rattle.sqlite.specs.Held.{state}
-use Rattle.review_tables.specs.Fronts.{SetsParts}
 use Rattle.review_statements.specs.Ran.{Inside}
-use Rattle.review_tables.proofs.Sequences.{next}
+use Rattle.review_tables.{proofs.Sequences.next, specs.Fronts.SetsParts}
 use Rattle.review_change_records.specs.Forms.{calls, comments, patches, roles, votes}
 use Rattle.review_transactions.proofs.writing.write_edit.Goals as goal
 

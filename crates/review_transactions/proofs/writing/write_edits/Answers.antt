@@ -1,9 +1,7 @@
 use Rattle.std.proofs.Common.{rules, ◌≡◌, ◌∙◌, ◌-◌, ◌+◌, ◌++◌, suc, drop, take, get_or, ◌∷◌, [], Ok, subst, sym, ap, arith}
-use Rattle.std.proofs.Math.Seq.{drop-cons}
-use Rattle.std.proofs.lemmas.List.{take_more}
+use Rattle.std.proofs.{Math.Seq.drop-cons, lemmas.List.take_more}
 use Rattle.sqlite.specs.Held.{state}
-use Rattle.review_statements.specs.Content.{Then}
-use Rattle.review_statements.specs.Ran.{Inside}
+use Rattle.review_statements.specs.{Content.Then, Ran.Inside}
 use Rattle.review_tables.proofs.Sequences.{next}
 use Rattle.review_transactions.specs.Changes.{SetsEdits, SetsUnless, is_named}
 use Rattle.review_transactions.proofs.writing.write_edits.Goals as goal

@@ -1,7 +1,6 @@
 use Rattle.std.proofs.Common.{rules, ◌≡◌, Ok, subst}
 use Rattle.sqlite.specs.Held.{state}
-use Rattle.review_statements.specs.Ran.{Inside}
-use Rattle.review_statements.specs.Search.{SetsRows}
+use Rattle.review_statements.specs.{Ran.Inside, Search.SetsRows}
 use Rattle.review_tables.proofs.Sequences.{next}
 use Rattle.review_records.specs.Forms.{accounts, members}
 use Rattle.review_transactions.proofs.writing.write_unowned.Goals as goal

@@ -1,7 +1,6 @@
 use Rattle.std.proofs.Common.{rules, refl, Err, IsTrue, true, ap, inl, inr, subst, sym, ◌∙◌}
 use Rattle.sqlite.specs.Held.{state}
-use Rattle.review_sql.specs.declared.faults.DeskFault.{DeskFault}
-use Rattle.review_sql.specs.Migrated.{IsNotMigrated, IsUnfit}
+use Rattle.review_sql.specs.{Migrated.IsNotMigrated, Migrated.IsUnfit, declared.faults.DeskFault.DeskFault}
 use Rattle.review_work.proofs.working.migrate.Goals as goal
 
 pub returns-in-Ok-clause-migrated : goal.returns-in-Ok-clause-migrated

@@ -1,7 +1,6 @@
 use Rattle.std.proofs.Common.{rules, refl, Err, IsTrue, ap, inl, inr, subst, sym, ◌∙◌}
 use Rattle.sqlite.specs.Held.{state}
-use Rattle.review_sql.specs.declared.faults.DeskFault.{DeskFault}
-use Rattle.review_sql.specs.Opened.{IsRefused}
+use Rattle.review_sql.specs.{Opened.IsRefused, declared.faults.DeskFault.DeskFault}
 use Rattle.review_work.proofs.working.work.Goals as goal
 
 pub returns-in-Ok-clause-done : goal.returns-in-Ok-clause-done

@@ -1,5 +1,4 @@
-use Rattle.review_writing.proofs.CopyWords.{copy_minus}
-use Rattle.review_writing.proofs.RequirementWords.{requirement_minus}
+use Rattle.review_writing.proofs.{CopyWords.copy_minus, RequirementWords.requirement_minus}
 use Rattle.review_writing.proofs.word_laws.minus_is_no_term.Goals as goal
 
 pub returns : goal.returns

@@ -1,5 +1,4 @@
-use Rattle.review_changes.specs.Change.{begun}
-use Rattle.review_changes.specs.Seen.{seen}
+use Rattle.review_changes.specs.{Change.begun, Seen.seen}
 use Rattle.review_core.proofs.Kept.{sound_as}
 use Rattle.review_core.proofs.file.ChangeFile.begin.Goals as goal
 

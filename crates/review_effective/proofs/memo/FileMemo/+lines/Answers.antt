@@ -1,9 +1,7 @@
 use Rattle.std.proofs.Common.{rules, ◌∷◌, ◌∙◌, ap, map}
-use Rattle.std.specs.Ordering.{nat_cmp}
-use Rattle.std.specs.Cmp.Lexicographic.{slice_cmp}
+use Rattle.std.specs.{Cmp.Lexicographic.slice_cmp, Ordering.nat_cmp}
 use Rattle.review_table.specs.Rows.{row_in, rows_of}
-use Rattle.review_effective.proofs.Effective.{above_failed, own_failed}
-use Rattle.review_effective.proofs.Keeping.{keeps}
+use Rattle.review_effective.proofs.{Effective.above_failed, Effective.own_failed, Keeping.keeps}
 use Rattle.review_effective.proofs.memo.FileMemo.+lines.Goals as goal
 
 pub read-returns-in_err-read-clause-fault : goal.read-returns-in_err-read-clause-fault

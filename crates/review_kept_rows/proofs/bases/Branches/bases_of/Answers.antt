@@ -1,10 +1,10 @@
 use Rattle.std.proofs.Common.{◌≡◌, ◌+◌, ◌∙◌, ◌++◌, ◌∷◌, [], ap, sym, subst, arith}
 use Rattle.std.specs.Option.{is_some}
 use Rattle.review_table.specs.Rows.{rows_of}
-use Rattle.review_kept_rows.specs.Bases.{BranchesView, base_at}
 use Rattle.review_kept_rows.proofs.Based.{seen_at, none_of}
-use Rattle.review_kept_rows.proofs.Options.{copied_some}
 use Rattle.review_kept_rows.proofs.BasesPlaced.{AreUpTo, up_to_more, all_listed, gap, zero_taken}
+use Rattle.review_kept_rows.proofs.Options.{copied_some}
+use Rattle.review_kept_rows.specs.Bases.{BranchesView, base_at}
 use Rattle.review_kept_rows.proofs.bases.Branches.bases_of.Goals as goal
 
 pub returns-then-is_some-clause-gap : goal.returns-then-is_some-clause-gap

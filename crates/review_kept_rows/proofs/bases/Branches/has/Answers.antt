@@ -1,13 +1,9 @@
 use Rattle.std.proofs.Common.{◌≡◌, ◌∙◌, ap, cond, Option, Some, None, map, not, ◌&&◌, [], arith}
-use Rattle.std.proofs.lemmas.Grind.{common_steps}
-use Rattle.std.specs.Map.Iter.{deref_pair}
-use Rattle.std.specs.Ordering.{is_le, is_lt}
+use Rattle.std.{proofs.lemmas.Grind.common_steps, specs.Map.Iter.deref_pair, specs.Ordering.is_le, specs.Ordering.is_lt}
 use Rattle.review_table.specs.Rows.{row_in, rows_of}
-use Rattle.review_rows.specs.declared.rows.PlaceKey.{PlaceKey}
-use Rattle.review_kept_rows.specs.declared.keys.CommitKey.{CommitKey}
-use Rattle.review_rows.specs.Rows.{place_cmp}
-use Rattle.review_kept_rows.specs.Bases.{BranchesView, commit_cmp}
+use Rattle.review_rows.specs.{Rows.place_cmp, declared.rows.PlaceKey.PlaceKey}
 use Rattle.review_kept_rows.proofs.BasesPlaced.{between_places}
+use Rattle.review_kept_rows.specs.{Bases.BranchesView, Bases.commit_cmp, declared.keys.CommitKey.CommitKey}
 use Rattle.review_kept_rows.proofs.bases.Branches.has.Goals as goal
 
 pub loop-key-init : goal.loop-key-init

@@ -1,5 +1,4 @@
-use Rattle.std.proofs.Common.{ap, sym}
-use Rattle.std.specs.Option.{option_map}
+use Rattle.std.{proofs.Common.ap, proofs.Common.sym, specs.Option.option_map}
 use Rattle.review_kept_rows.specs.Bases.{commit_at}
 use Rattle.review_kept_rows.proofs.bases.Branches.listed_at.Goals as goal
 

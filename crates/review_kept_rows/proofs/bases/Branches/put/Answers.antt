@@ -1,19 +1,12 @@
 use Rattle.std.proofs.Common.{◌≡◌, ◌≤◌, ◌+◌, ◌∙◌, ◌∷◌, [], List, ℕ, Some, ap, ◌<◌, sym, subst, arith}
-use Rattle.std.specs.Option.{is_some, option_map}
+use Rattle.std.specs.{Cmp.Lexicographic.slice_cmp, List.All, Option.is_some, Option.option_map, Option.IsSome}
 use Rattle.std.specs.Ordering.{nat_cmp}
-use Rattle.std.specs.Cmp.Lexicographic.{slice_cmp}
-use Rattle.review_table.specs.Rows.{rows_of, row_in, changed}
+use Rattle.review_table.specs.{Rows.rows_of, Rows.row_in, Rows.changed, declared.table.Change.Change}
 use Rattle.review_rows.specs.Rows.{branch_cmp, place_cmp}
-use Rattle.review_rows.specs.declared.rows.BranchKey.{BranchKey}
-use Rattle.review_kept_rows.specs.Bases.{BranchesView, IsPut, IsLastPlace, commit_cmp, commit_at, last_in, total_in, greatest_place}
+use Rattle.review_rows.specs.declared.rows.{BranchKey.BranchKey, PlaceKey.PlaceKey, Put.Put}
 use Rattle.review_kept_rows.proofs.Based.{WithRow, IsGreater, with_row, last_more, last_unique, greater_of, still_listed, total_more, total_is, one_has}
-use Rattle.review_kept_rows.proofs.BasesListed.{listed_more}
-use Rattle.review_kept_rows.proofs.Options.{some_mapped_is}
-use Rattle.std.specs.List.{All}
-use Rattle.review_table.specs.declared.table.Change.{Change}
-use Rattle.std.specs.Option.{IsSome}
-use Rattle.review_rows.specs.declared.rows.PlaceKey.{PlaceKey}
-use Rattle.review_rows.specs.declared.rows.Put.{Put}
+use Rattle.review_kept_rows.proofs.{BasesListed.listed_more, Options.some_mapped_is}
+use Rattle.review_kept_rows.specs.Bases.{BranchesView, IsPut, IsLastPlace, commit_cmp, commit_at, last_in, total_in, greatest_place}
 use Rattle.review_kept_rows.specs.declared.keys.CommitKey.{CommitKey}
 use Rattle.review_kept_rows.proofs.bases.Branches.put.Goals as goal
 

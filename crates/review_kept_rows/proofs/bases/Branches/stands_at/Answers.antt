@@ -1,7 +1,7 @@
 use Rattle.std.proofs.Common.{◌∙◌, ap, sym}
 use Rattle.review_table.specs.Rows.{rows_of}
-use Rattle.review_kept_rows.specs.Bases.{BranchesView}
 use Rattle.review_kept_rows.proofs.Based.{seen_at}
+use Rattle.review_kept_rows.specs.Bases.{BranchesView}
 use Rattle.review_kept_rows.proofs.bases.Branches.stands_at.Goals as goal
 
 pub returns : goal.returns

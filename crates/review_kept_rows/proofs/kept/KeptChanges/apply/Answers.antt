@@ -1,12 +1,9 @@
 use Rattle.std.proofs.Common.{◌∙◌, ap, refl, subst, sym}
-use Rattle.std.specs.Prelude.{flat_map}
-use Rattle.std.specs.Ordering.{nat_cmp}
+use Rattle.std.specs.{Ordering.nat_cmp, Prelude.flat_map}
 use Rattle.review_table.specs.Rows.{rows_of, row_in, changed}
+use Rattle.review_kept_rows.proofs.{Made.made_by, Made.all_some, Placed.placed_after, Placed.by_puts as places_put}
+use Rattle.review_kept_rows.proofs.{Puts.all_put, Sent.listed_after, Sent.by_puts}
 use Rattle.review_kept_rows.specs.Kept.{place_cmp, placed_in, sent_by, sent_cmp, AreNumbered, ArePlaceKeys, KeptView, HasRoomFor, IsFullBut, PutAllEdited}
-use Rattle.review_kept_rows.proofs.Made.{made_by, all_some}
-use Rattle.review_kept_rows.proofs.Placed.{placed_after, by_puts as places_put}
-use Rattle.review_kept_rows.proofs.Puts.{all_put}
-use Rattle.review_kept_rows.proofs.Sent.{listed_after, by_puts}
 use Rattle.review_kept_rows.proofs.kept.KeptChanges.apply.Goals as goal
 
 pub invariant_of-self : goal.invariant_of-self

@@ -1,15 +1,11 @@
 use Rattle.std.proofs.Common.{◌≡◌, ◌∙◌, ap, cond, Option, Some, None, map, not, ◌&&◌, [], arith, subst, sym, true}
-use Rattle.std.specs.Prelude.{MatchBool}
 use Rattle.std.proofs.lemmas.Grind.{common_steps}
-use Rattle.std.specs.Map.Iter.{deref_pair}
-use Rattle.std.specs.Ordering.{is_le, is_lt, nat_cmp}
+use Rattle.std.specs.{Map.Iter.deref_pair, Ordering.is_le, Ordering.is_lt, Ordering.nat_cmp, Prelude.MatchBool}
 use Rattle.review_table.specs.Rows.{row_in, rows_of}
-use Rattle.review_kept_rows.specs.declared.kept.SentKey.{SentKey}
-use Rattle.review_kept_rows.specs.Kept.{is_sent, sent_cmp, IsSentAs, KeptView}
-use Rattle.review_kept_rows.proofs.Sending.{between, listed_is}
+use Rattle.review_kept_rows.proofs.{Left.still_left, Merged.sent_of, Sending.between, Sending.listed_is}
 use Rattle.review_kept_rows.proofs.Sent.{exact_sent}
-use Rattle.review_kept_rows.proofs.Left.{still_left}
-use Rattle.review_kept_rows.proofs.Merged.{sent_of}
+use Rattle.review_kept_rows.specs.Kept.{is_sent, sent_cmp, IsSentAs, KeptView}
+use Rattle.review_kept_rows.specs.declared.kept.SentKey.{SentKey}
 use Rattle.review_kept_rows.proofs.kept.KeptChanges.find_sent.Goals as goal
 
 pub loop-key-init : goal.loop-key-init

@@ -1,6 +1,5 @@
 use Rattle.std.proofs.Common.{◌≡◌, ℕ, Some, map}
-use Rattle.std.specs.Map.Iter.{deref_pair}
-use Rattle.std.specs.Ordering.{nat_cmp}
+use Rattle.std.specs.{Map.Iter.deref_pair, Ordering.nat_cmp}
 use Rattle.review_table.specs.Rows.{row_in, rows_of}
 use Rattle.review_kept_rows.specs.Kept.{sent_cmp, IsSentAs}
 use Rattle.review_kept_rows.proofs.kept.KeptChanges.find_sent.Given as goal

@@ -1,6 +1,5 @@
 use Rattle.std.proofs.Common.{ap, subst, sym, ◌∙◌}
-use Rattle.std.specs.Prelude.{MatchBool}
-use Rattle.std.specs.Ordering.{nat_cmp}
+use Rattle.std.specs.{Ordering.nat_cmp, Prelude.MatchBool}
 use Rattle.review_table.specs.Rows.{row_in, rows_of}
 use Rattle.review_kept_rows.specs.Kept.{IsSentAs, KeptView}
 use Rattle.review_kept_rows.proofs.kept.KeptChanges.has_sent.Goals as goal

@@ -1,11 +1,9 @@
 use Rattle.std.proofs.Common.{◌≡◌, ◌∙◌, ap, map, [], arith, subst, sym}
-use Rattle.std.proofs.lemmas.Grind.{common_steps}
-use Rattle.std.specs.Map.Iter.{deref_pair}
-use Rattle.review_table.specs.Rows.{row_in, rows_of}
-use Rattle.review_table.proofs.Lasts.{between}
+use Rattle.std.{proofs.lemmas.Grind.common_steps, specs.Map.Iter.deref_pair}
+use Rattle.review_table.{proofs.Lasts.between, specs.Rows.row_in, specs.Rows.rows_of}
 use Rattle.review_rows.specs.Known.{HaveJoined}
-use Rattle.review_kept_rows.specs.Kept.{place_cmp, row_of, KeptView}
 use Rattle.review_kept_rows.proofs.Listed.{joined_done, joined_first, joined_more, AreJoinedSoFar}
+use Rattle.review_kept_rows.specs.Kept.{place_cmp, row_of, KeptView}
 use Rattle.review_kept_rows.proofs.kept.KeptChanges.joined.Goals as goal
 
 pub loop-key-init : goal.loop-key-init

@@ -1,8 +1,7 @@
-use Rattle.std.proofs.Common.{map}
-use Rattle.std.specs.Map.Iter.{deref_pair}
+use Rattle.std.{proofs.Common.map, specs.Map.Iter.deref_pair}
 use Rattle.review_table.specs.Rows.{rows_of}
-use Rattle.review_kept_rows.specs.Kept.{row_of}
 use Rattle.review_kept_rows.proofs.Listed.{AreJoinedSoFar}
+use Rattle.review_kept_rows.specs.Kept.{row_of}
 use Rattle.review_kept_rows.proofs.kept.KeptChanges.joined.Given as goal
 
 abbrev pub invariant-loop-key : goal.invariant-loop-key

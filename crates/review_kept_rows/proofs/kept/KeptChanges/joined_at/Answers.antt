@@ -1,8 +1,7 @@
-use Rattle.std.proofs.Common.{ap, sym, ◌∙◌}
-use Rattle.std.specs.Ordering.{nat_cmp}
+use Rattle.std.{proofs.Common.ap, proofs.Common.sym, proofs.Common.◌∙◌, specs.Ordering.nat_cmp}
 use Rattle.review_table.specs.Rows.{row_in, rows_of}
-use Rattle.review_kept_rows.specs.Kept.{KeptView}
 use Rattle.review_kept_rows.proofs.Listed.{not_kept}
+use Rattle.review_kept_rows.specs.Kept.{KeptView}
 use Rattle.review_kept_rows.proofs.kept.KeptChanges.joined_at.Goals as goal
 
 pub returns-in_default : goal.returns-in_default

@@ -1,14 +1,11 @@
 use Rattle.std.proofs.Common.{ap, sym, subst, ◌<◌, inr}
-use Rattle.std.specs.Option.{option_map, IsSome}
+use Rattle.std.specs.{Cmp.nat_cmp_is, Option.option_map, Option.IsSome, Ordering.nat_cmp}
 use Rattle.std.specs.declared.cmp.Ordering.TheVariants.{Less}
-use Rattle.std.specs.Ordering.{nat_cmp}
-use Rattle.std.specs.Cmp.{nat_cmp_is}
 use Rattle.review_table.specs.Rows.{row_in, rows_of}
 use Rattle.review_changes.specs.Parts.{TheHeader}
-use Rattle.review_rows.specs.Rows.{APart}
-use Rattle.review_rows.specs.Known.{IsLast, header_key}
-use Rattle.review_kept_rows.specs.Kept.{part_where, row_of, KeptView}
+use Rattle.review_rows.specs.{Known.IsLast, Known.header_key, Rows.APart}
 use Rattle.review_kept_rows.proofs.Heads.{header_there}
+use Rattle.review_kept_rows.specs.Kept.{part_where, row_of, KeptView}
 use Rattle.review_kept_rows.proofs.kept.KeptChanges.last.Goals as goal
 
 pub returns-in-Some : goal.returns-in-Some

@@ -1,11 +1,9 @@
 use Rattle.std.proofs.Common.{◌∙◌, ap, subst, sym}
-use Rattle.std.specs.declared.ops.Bound.TheVariants.{Included}
-use Rattle.std.specs.BTreeMap.Range.{range_contains}
-use Rattle.std.specs.Ordering.{nat_cmp}
+use Rattle.std.specs.{BTreeMap.Range.range_contains, Ordering.nat_cmp, declared.ops.Bound.TheVariants.Included}
 use Rattle.review_table.specs.Rows.{row_in, rows_of}
 use Rattle.review_rows.specs.Known.{IsLastJoined}
-use Rattle.review_kept_rows.specs.Kept.{is_placed, place_cmp, row_of, KeptView}
 use Rattle.review_kept_rows.proofs.Joined.{last_joined, none_joined}
+use Rattle.review_kept_rows.specs.Kept.{is_placed, place_cmp, row_of, KeptView}
 use Rattle.review_kept_rows.proofs.kept.KeptChanges.last_joined.Goals as goal
 
 pub returns-in_default : goal.returns-in_default

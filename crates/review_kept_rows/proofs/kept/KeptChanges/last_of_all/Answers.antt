@@ -1,12 +1,10 @@
 use Rattle.std.proofs.Common.{◌≡◌, ◌∙◌, ap, cond, None, map, [], arith, subst, sym, refl, inl, inr}
 use Rattle.std.proofs.lemmas.Grind.{common_steps}
-use Rattle.std.specs.Map.Iter.{deref_pair}
-use Rattle.std.specs.declared.ops.Bound.TheVariants.{Included}
-use Rattle.std.specs.BTreeMap.Range.{range_contains}
+use Rattle.std.specs.{BTreeMap.Range.range_contains, Map.Iter.deref_pair, declared.ops.Bound.TheVariants.Included}
 use Rattle.review_table.specs.Rows.{row_in, rows_of}
 use Rattle.review_rows.specs.Known.{IsAtPlace}
-use Rattle.review_kept_rows.specs.Kept.{place_cmp, row_of, KeptView}
 use Rattle.review_kept_rows.proofs.Joined.{key_at, last_done, last_more, place_between, place_listed}
+use Rattle.review_kept_rows.specs.Kept.{place_cmp, row_of, KeptView}
 use Rattle.review_kept_rows.proofs.kept.KeptChanges.last_of_all.Goals as goal
 
 pub loop-key-init : goal.loop-key-init

@@ -1,9 +1,8 @@
-use Rattle.std.proofs.Common.{sym, ◌∙◌, ap}
-use Rattle.std.specs.Ordering.{nat_cmp}
+use Rattle.std.{proofs.Common.sym, proofs.Common.◌∙◌, proofs.Common.ap, specs.Ordering.nat_cmp}
 use Rattle.review_table.specs.Rows.{row_in, rows_of}
 use Rattle.review_change_rows.proofs.Shown.{passed}
-use Rattle.review_kept_rows.specs.Kept.{IsUnread, KeptView}
 use Rattle.review_kept_rows.proofs.Shown.{has_none, unread}
+use Rattle.review_kept_rows.specs.Kept.{IsUnread, KeptView}
 use Rattle.review_kept_rows.proofs.kept.KeptChanges.load.Goals as goal
 
 pub returns-in_err-copied_rows-in-Some-clause-fault : goal.returns-in_err-copied_rows-in-Some-clause-fault

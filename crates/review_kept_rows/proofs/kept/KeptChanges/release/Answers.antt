@@ -1,5 +1,4 @@
-use Rattle.std.proofs.Common.{subst, sym}
-use Rattle.std.specs.Ordering.{nat_cmp}
+use Rattle.std.{proofs.Common.subst, proofs.Common.sym, specs.Ordering.nat_cmp}
 use Rattle.review_table.specs.Rows.{is_named, HasEmptyOnly}
 use Rattle.review_kept_rows.specs.Kept.{place_cmp, sent_cmp, IsFullBut}
 use Rattle.review_kept_rows.proofs.kept.KeptChanges.release.Goals as goal

@@ -1,7 +1,7 @@
 use Rattle.std.proofs.Common.{false, subst}
 use Rattle.review_table.specs.Rows.{rows_of}
-use Rattle.review_kept_rows.specs.Kept.{IsFoundSent}
 use Rattle.review_kept_rows.proofs.Merged.{no_sender}
+use Rattle.review_kept_rows.specs.Kept.{IsFoundSent}
 use Rattle.review_kept_rows.proofs.kept.KeptChanges.sender.Goals as goal
 
 pub returns-in-None : goal.returns-in-None

@@ -1,6 +1,6 @@
 use Rattle.std.proofs.Common.{Bool, subst}
-use Rattle.review_lines.specs.Lines.{GavePart}
 use Rattle.review_lines.proofs.Begun.{part_consumed, longer, still, last}
+use Rattle.review_lines.specs.Lines.{GavePart}
 use Rattle.review_lines.proofs.lines.Lines.next_line.Goals as goal
 
 pub returns-then-not-branch : goal.returns-then-not-branch

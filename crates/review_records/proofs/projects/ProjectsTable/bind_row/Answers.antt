@@ -1,6 +1,5 @@
 use Rattle.std.proofs.Common.{◌≡◌, true, subst}
-use Rattle.std.specs.Str.{is_utf8}
-use Rattle.std.proofs.lemmas.Bool.{and_from}
+use Rattle.std.{proofs.lemmas.Bool.and_from, specs.Str.is_utf8}
 use Rattle.review_records.proofs.projects.ProjectsTable.bind_row.Goals as goal
 
 pub returns-clause-good : goal.returns-clause-good

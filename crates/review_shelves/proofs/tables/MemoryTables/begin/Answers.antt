@@ -1,9 +1,8 @@
 use Rattle.std.proofs.Common.{sym, subst}
 use Rattle.review_table.specs.Rows.{rows_of}
-use Rattle.review_shelves.specs.declared.tables.MemoryTables.{MemoryTables}
+use Rattle.review_shelves.proofs.{Applied.room_stored, Applied.spare_stored, Spare.on_ok}
 use Rattle.review_shelves.specs.Desk.{AreIndexed, HasRoom, HasRoomOnlyFor}
-use Rattle.review_shelves.proofs.Applied.{room_stored, spare_stored}
-use Rattle.review_shelves.proofs.Spare.{on_ok}
+use Rattle.review_shelves.specs.declared.tables.MemoryTables.{MemoryTables}
 use Rattle.review_shelves.proofs.tables.MemoryTables.begin.Goals as goal
 
 pub returns-clause-listed : goal.returns-clause-listed

@@ -1,10 +1,9 @@
 use Rattle.std.proofs.Common.{◌∙◌, sym, subst}
-use Rattle.std.specs.Ordering.{nat_cmp}
-use Rattle.std.specs.Cmp.Lexicographic.{slice_cmp}
+use Rattle.std.specs.{Cmp.Lexicographic.slice_cmp, Ordering.nat_cmp}
 use Rattle.review_table.specs.Rows.{HasEmptyOnly, rows_of}
 use Rattle.review_rows.specs.Rows.{member_cmp}
-use Rattle.review_shelves.specs.Desk.{is_removed}
 use Rattle.review_shelves.proofs.Spare.{file_stays}
+use Rattle.review_shelves.specs.Desk.{is_removed}
 use Rattle.review_shelves.proofs.tables.MemoryTables.release_removed.Goals as goal
 
 pub returns-clause-same : goal.returns-clause-same

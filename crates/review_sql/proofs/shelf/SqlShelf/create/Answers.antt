@@ -1,10 +1,8 @@
 use Rattle.std.proofs.Common.{rules, ◌≡◌, ◌∙◌, true, ap, not, IsTrue, sym, subst}
-use Rattle.review_sql.specs.Created.{IsCreated}
-use Rattle.review_sql.specs.Shelf.{Holds}
-use Rattle.sqlite.proofs.StateLemmas.{clean_if_open}
-use Rattle.sqlite.specs.Held.{state}
+use Rattle.sqlite.{proofs.StateLemmas.clean_if_open, specs.Held.state}
 use Rattle.review_database.specs.Tables.{tables_at}
 use Rattle.review_sql.proofs.Made.{holds_made, is_created, unmade}
+use Rattle.review_sql.specs.{Created.IsCreated, Shelf.Holds}
 use Rattle.review_sql.proofs.shelf.SqlShelf.create.Goals as goal
 
 pub returns-in-Ok-true-clause-not_empty : goal.returns-in-Ok-true-clause-not_empty

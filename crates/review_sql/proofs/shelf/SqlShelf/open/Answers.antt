@@ -1,11 +1,9 @@
 use Rattle.std.proofs.Common.{rules, ◌≡◌, false}
 use Rattle.sqlite.specs.Held.{state}
 use Rattle.review_database.specs.Tables.{tables_at}
-use Rattle.review_sql.specs.Shelf.{Holds}
-use Rattle.review_sql.proofs.Again.{goes_on, refused_again}
-use Rattle.review_sql.proofs.Left.{refused_left}
+use Rattle.review_sql.proofs.{Again.goes_on, Again.refused_again, Left.refused_left}
 use Rattle.review_sql.proofs.Made.{empty_refused, is_opened, none_seen, not_ours}
-use Rattle.review_sql.specs.declared.faults.DeskFault.TheVariants.{NotOurs}
+use Rattle.review_sql.specs.{Shelf.Holds, declared.faults.DeskFault.TheVariants.NotOurs}
 use Rattle.review_sql.proofs.shelf.SqlShelf.open.Goals as goal
 
 pub invariant_of-result : goal.invariant_of-result

@@ -1,18 +1,14 @@
 use Rattle.std.proofs.Common.{rules, ◌≡◌, ◌∙◌, Ok, Result, IfOk, ap, not, subst, sym, IsTrue}
-use Rattle.sqlite.specs.State.{HasCleanDisk}
-use Rattle.sqlite.specs.Held.{Held, state}
-use Rattle.sqlite.proofs.StateLemmas.{clean_if_open}
-use Rattle.review_rows.specs.Known.{AreAsked, Agrees}
-use Rattle.review_rows.specs.Rows.{Tables}
-use Rattle.review_rows.specs.Shelf.{BlamesTables, KeepsTables, LeavesBy, Shows, cause_of}
-use Rattle.review_rows.specs.declared.rows.Rows.{Rows}
-use Rattle.review_rows.specs.declared.shelf.ShelfFault.{ShelfFault}
+use Rattle.sqlite.{proofs.StateLemmas.clean_if_open, specs.Held.Held, specs.Held.state, specs.State.HasCleanDisk}
 use Rattle.review_statements.specs.Ran.{Serves}
+use Rattle.review_rows.specs.{Known.AreAsked, Known.Agrees, Rows.Tables}
+use Rattle.review_rows.specs.Shelf.{BlamesTables, KeepsTables, LeavesBy, Shows, cause_of}
+use Rattle.review_rows.specs.declared.{rows.Rows.Rows, shelf.ShelfFault.ShelfFault}
 use Rattle.review_database.specs.Tables.{tables_at}
-use Rattle.review_sql.specs.Loading.{AreLoadedBounded}
-use Rattle.review_sql.specs.Shelf.{ShelfView, answer_of, tables_of, stops_of}
 use Rattle.review_sql.proofs.Loaded.{blames_loaded, keeps_loaded, knows_loaded, load_served, shows_loaded, tables_kept, was_asked}
 use Rattle.review_sql.proofs.Shown.{desk_if_open, holds_read, holds_still, leaves, stops_read, clean_still, stops_still}
+use Rattle.review_sql.specs.Loading.{AreLoadedBounded}
+use Rattle.review_sql.specs.Shelf.{ShelfView, answer_of, tables_of, stops_of}
 use Rattle.review_sql.proofs.shelf.SqlShelfShelf.load.Goals as goal
 
 pub invariant_of-self : goal.invariant_of-self

@@ -1,7 +1,6 @@
 use Rattle.std.proofs.Common.{◌∙◌, ap, sym}
+use Rattle.review_table.proofs.{Empty.applied, Empty.full_applied, Places.all_placed}
 use Rattle.review_table.specs.Rows.{row_at, change_of, changed, place_at}
-use Rattle.review_table.proofs.Places.{all_placed}
-use Rattle.review_table.proofs.Empty.{applied, full_applied}
 use Rattle.review_table.proofs.table.Table.apply.Goals as goal
 
 pub returns-clause-all : goal.returns-clause-all

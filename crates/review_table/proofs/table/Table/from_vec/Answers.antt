@@ -1,6 +1,6 @@
 use Rattle.std.proofs.Common.{◌∙◌, ap, sym, arith}
-use Rattle.review_table.specs.Rows.{flat}
 use Rattle.review_table.proofs.Places.{distinct_by_length, length_by_distinct, map_place, flat_some, never_empty}
+use Rattle.review_table.specs.Rows.{flat}
 use Rattle.review_table.proofs.table.Table.from_vec.Goals as goal
 
 pub returns-then-len-count-clause-double : goal.returns-then-len-count-clause-double

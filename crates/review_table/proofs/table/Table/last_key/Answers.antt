@@ -1,9 +1,7 @@
 use Rattle.std.proofs.Common.{◌≡◌, ◌∙◌, ap, sym, subst, ◌++◌, ◌∷◌, []}
-use Rattle.std.specs.Option.{IsSome}
-use Rattle.std.specs.Map.{keys_of}
-use Rattle.std.specs.List.Sorted.{IsStrictlySortedBy}
-use Rattle.review_table.specs.Rows.{rows_of, row_in}
+use Rattle.std.specs.{List.Sorted.IsStrictlySortedBy, Map.keys_of, Option.IsSome}
 use Rattle.review_table.proofs.Places.{rows_of_skipped, rows_of_ended, not_empty, last_there, past_last}
+use Rattle.review_table.specs.Rows.{rows_of, row_in}
 use Rattle.review_table.proofs.table.Table.last_key.Goals as goal
 
 -- the row of the key that is returned is the last

@@ -1,9 +1,8 @@
 use Rattle.std.proofs.Common.{◌∙◌, ap, sym}
 use Rattle.std.specs.BTreeMap.Range.{range_contains, entries_between}
-use Rattle.std.specs.List.{filter}
-use Rattle.std.specs.declared.ops.Bound.TheVariants.{Included}
-use Rattle.review_table.specs.Rows.{rows_of}
+use Rattle.std.specs.{List.filter, declared.ops.Bound.TheVariants.Included}
 use Rattle.review_table.proofs.Places.{rows_of_filtered, rows_of_skipped, rows_of_ended}
+use Rattle.review_table.specs.Rows.{rows_of}
 use Rattle.review_table.proofs.table.Table.last_ordered.Goals as goal
 
 pub loop-key-init : goal.loop-key-init

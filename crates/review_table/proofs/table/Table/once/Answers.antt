@@ -1,9 +1,6 @@
-use Rattle.std.proofs.Common.{subst}
-use Rattle.std.specs.Map.{keys_of}
-use Rattle.std.specs.List.Sorted.{IsStrictlySortedBy}
-use Rattle.std.proofs.lemmas.Map.Keys.{IsDistinct-from_sorted}
-use Rattle.review_table.proofs.Places.{row_among, rows_sorted}
-use Rattle.review_table.proofs.Empty.{as_many}
+use Rattle.std.proofs.{Common.subst, lemmas.Map.Keys.IsDistinct-from_sorted}
+use Rattle.std.specs.{List.Sorted.IsStrictlySortedBy, Map.keys_of}
+use Rattle.review_table.proofs.{Empty.as_many, Places.row_among, Places.rows_sorted}
 use Rattle.review_table.proofs.table.Table.once.Goals as goal
 
 pub returns : goal.returns

@@ -1,6 +1,5 @@
 use Rattle.std.proofs.Common.{◌≡◌, Some, cond, take}
-use Rattle.std.specs.Prelude.{option_map}
-use Rattle.std.specs.List.{All}
+use Rattle.std.specs.{List.All, Prelude.option_map}
 use Rattle.review_table.specs.Rows.{rows_of, is_named, place_at, row_at, IsEmptyPlace}
 use Rattle.review_table.proofs.table.Table.release.Given as goal
 

@@ -1,9 +1,8 @@
 use Rattle.std.proofs.Common.{◌∙◌, ap, cond, Some, subst, sym, take, arith}
+use Rattle.std.proofs.lemmas.List.{take_all, Elements.All-more, Elements.All-weaker, Elements.All-same}
 use Rattle.std.specs.BTreeMap.{is_at}
-use Rattle.std.proofs.lemmas.List.Elements.{All-more, All-weaker, All-same}
-use Rattle.std.proofs.lemmas.List.{take_all}
-use Rattle.review_table.specs.Rows.{HasPlace, is_named, place_at, row_at}
 use Rattle.review_table.proofs.Empty.{named_more, named_whole, reserve_more, reserved, unnamed_front}
+use Rattle.review_table.specs.Rows.{HasPlace, is_named, place_at, row_at}
 use Rattle.review_table.proofs.table.Table.reserve_all.Goals as goal
 
 pub loop-change-preserved : goal.loop-change-preserved

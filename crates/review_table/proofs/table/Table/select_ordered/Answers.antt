@@ -1,10 +1,8 @@
 use Rattle.std.proofs.Common.{◌≡◌, ◌∙◌, ap, sym, ◌++◌, map, append-nil}
-use Rattle.std.specs.Map.Iter.{deref_pair}
-use Rattle.std.specs.List.{filter}
 use Rattle.std.specs.BTreeMap.Range.{range_contains, entries_between}
-use Rattle.std.specs.declared.ops.Bound.TheVariants.{Included}
-use Rattle.review_table.specs.Rows.{rows_of, row_in}
+use Rattle.std.specs.{List.filter, Map.Iter.deref_pair, declared.ops.Bound.TheVariants.Included}
 use Rattle.review_table.proofs.Places.{rows_of_filtered, row_between}
+use Rattle.review_table.specs.Rows.{rows_of, row_in}
 use Rattle.review_table.proofs.table.Table.select_ordered.Goals as goal
 
 pub loop-key-init : goal.loop-key-init

@@ -1,9 +1,7 @@
 use Rattle.std.proofs.Common.{◌∙◌, ap, sym, cond, ◌&&◌}
-use Rattle.std.specs.BTreeMap.{is_at}
-use Rattle.std.specs.Prelude.{option_map}
+use Rattle.std.specs.{BTreeMap.is_at, Prelude.option_map}
+use Rattle.review_table.proofs.{Empty.set_more, Places.placed_pushed}
 use Rattle.review_table.specs.Rows.{row_at, place_at, placed, changed}
-use Rattle.review_table.proofs.Places.{placed_pushed}
-use Rattle.review_table.proofs.Empty.{set_more}
 use Rattle.review_table.proofs.table.Table.set_all.Goals as goal
 
 pub loop-change-preserved : goal.loop-change-preserved

@@ -1,5 +1,4 @@
-use Rattle.std.proofs.Common.{◌≡◌, vec_len}
-use Rattle.std.specs.Prelude.{option_map}
+use Rattle.std.{proofs.Common.◌≡◌, proofs.Common.vec_len, specs.Prelude.option_map}
 use Rattle.review_table.specs.Rows.{row_at, has_place, place_at, placed, changed}
 use Rattle.review_table.proofs.table.Table.set_all.Given as goal
 

@@ -1,9 +1,8 @@
 use Rattle.std.proofs.Common.{◌≡◌, ◌∙◌, ◌+◌, ◌<◌, ◌≤◌, ◌++◌, ◌∷◌, [], List, ℕ, take, length, sym, ap, arith, slice_set}
-use Rattle.std.proofs.lemmas.List.{length-map, length-take-le, map-append, take_more_set}
 use Rattle.std.proofs.Math.ListN.{length-set}
-use Rattle.sqlite_value.specs.declared.value.ValueRef.{ValueRef}
-use Rattle.sqlite_value.specs.Order.{Row}
+use Rattle.std.proofs.lemmas.List.{length-map, length-take-le, map-append, take_more_set}
 use Rattle.sqlite.specs.Values.{bound}
+use Rattle.sqlite_value.specs.{Order.Row, declared.value.ValueRef.ValueRef}
 use Rattle.review_tables.proofs.bound.Bound.with.Goals as goal
 
 counted : (vs : List ValueRef) (n : ℕ) (row : Row) → n ≤ length vs → bound (take n vs) ≡ row → length row ≡ n

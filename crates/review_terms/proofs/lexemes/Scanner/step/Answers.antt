@@ -1,6 +1,6 @@
 use Rattle.std.proofs.Common.{sym, ◌∙◌}
-use Rattle.review_terms.specs.Scanned.{lexemes}
 use Rattle.review_terms.proofs.Moves.{in_quote, in_word}
+use Rattle.review_terms.specs.Scanned.{lexemes}
 use Rattle.review_terms.proofs.lexemes.Scanner.step.Goals as goal
 
 pub returns-then-self-clause-moved : goal.returns-then-self-clause-moved

@@ -1,9 +1,7 @@
 use Rattle.std.proofs.Common.{◌≡◌, ◌<◌, refl, sym, ◌∙◌, ap, true, false}
-use Rattle.std.specs.List.{All, list_any}
-use Rattle.std.proofs.lemmas.List.{drop_all}
+use Rattle.std.{proofs.lemmas.List.drop_all, specs.List.All, specs.List.list_any}
+use Rattle.review_terms.proofs.{Alike.whole_of, Lists.found_at, Lists.not_at}
 use Rattle.review_terms.specs.Patterns.{IsHeld, matches_whole}
-use Rattle.review_terms.proofs.Alike.{whole_of}
-use Rattle.review_terms.proofs.Lists.{found_at, not_at}
 use Rattle.review_terms.proofs.pattern.Pattern.matches_any.Goals as goal
 
 pub loop-path-init : goal.loop-path-init

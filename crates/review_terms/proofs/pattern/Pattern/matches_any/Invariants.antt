@@ -1,5 +1,4 @@
-use Rattle.std.proofs.Common.{◌≡◌, drop}
-use Rattle.std.specs.List.{list_any}
+use Rattle.std.{proofs.Common.◌≡◌, proofs.Common.drop, specs.List.list_any}
 use Rattle.regex.specs.Strings.{matcher_pattern}
 use Rattle.review_terms.specs.Patterns.{matches_whole}
 use Rattle.review_terms.proofs.pattern.Pattern.matches_any.Given as goal

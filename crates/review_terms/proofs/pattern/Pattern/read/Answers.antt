@@ -1,7 +1,6 @@
-use Rattle.std.proofs.Common.{rules, ◌≡◌}
-use Rattle.std.proofs.lemmas.Result.{err_from_is_err_and}
-use Rattle.review_terms.specs.Patterns.{anchored}
+use Rattle.std.proofs.{Common.rules, Common.◌≡◌, lemmas.Result.err_from_is_err_and}
 use Rattle.review_terms.proofs.Refused.{both_read, lawful_alone, lawful_whole}
+use Rattle.review_terms.specs.Patterns.{anchored}
 use Rattle.review_terms.proofs.pattern.Pattern.read.Goals as goal
 
 pub returns-in_err-alone_taken-clause-fault : goal.returns-in_err-alone_taken-clause-fault
