@@ -8,7 +8,7 @@ use Rattle.review_changes.specs.Change.{Change, is_open}
 use Rattle.review_rows.proofs.Asked.{change_comes, come_stays, file_comes, first_comes, to_file}
 use Rattle.review_rows.specs.{Files.File, Known.known, Known.change_in, Lines.most_depth, Links.links_in}
 use Rattle.review_rows.specs.Steps.{Topic, OfCommand, HasComeTo, MayGoOn, MayGoOnFor, change_wants, file_wants, first_wants, last_wants, line_steps, next, next_of, or_next, parent_of, steps, unknown}
-use Rattle.review_rows.specs.declared.{rows.Rows.Rows, rows.Want.Want}
+use Rattle.review_rows.specs.declared.rows.{Rows.Rows, Want.Want}
 use Rattle.review_needs.specs.{Asked.IsAsked, Walks.IsWalkIn}
 use Rattle.review_rows.specs.declared.rows.Want.TheVariants as want
 use Rattle.review_rows.specs.declared.step.Step.TheVariants as step

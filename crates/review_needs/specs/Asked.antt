@@ -1,6 +1,7 @@
 -- What is asked next.
 use Rattle.std.specs.Prelude.{ℕ, ◌≡◌, List, Option}
-use Rattle.review_rows.specs.{Files.File, Steps.Topic, Steps.ComesTo, Steps.next, declared.rows.Rows.Rows, declared.rows.Want.Want, declared.step.Step.Step}
+use Rattle.review_rows.specs.{Files.File, Steps.Topic, Steps.ComesTo, Steps.next}
+use Rattle.review_rows.specs.declared.{rows.Rows.Rows, rows.Want.Want, step.Step.Step}
 
 -- these look-ups are what is asked next, and once they are made asking has come to this step
 abbrev pub IsAsked : Option File → Rows → ℕ → Topic → List Want → Step → Type 0

@@ -541,8 +541,8 @@ come_stays file rows more both caller topic step.Above added h =
     (left_none rows more both (first_wants caller topic) (first_wants caller topic) added refl h.0, left_none rows more both (change_wants rows topic) (change_wants both topic) added (same_wants rows more both caller topic added h.0) h.1)
 come_stays file rows more both caller topic step.ByFile added h = (
   left_none rows more both (first_wants caller topic) (first_wants caller topic) added refl h.0,
-  left_none rows more both (change_wants rows topic) (change_wants both topic) added (same_wants rows more both caller topic added h.0) h.1.0,
-  ap (λ p. next_of both (line_steps both most_depth p)) (parents_stay rows more both caller topic added h.0 h.1.0) ∙ line_left rows more both most_depth (parent_of rows topic) added h.1.1,
+  left_none rows more both (change_wants rows topic) (change_wants both topic) added (same_wants rows more both caller topic added h.0) h.1,
+  ap (λ p. next_of both (line_steps both most_depth p)) (parents_stay rows more both caller topic added h.0 h.1) ∙ line_left rows more both most_depth (parent_of rows topic) added h.2,
 )
 come_stays file rows more both caller topic (step.Last w) added h = (
   none_left_later rows more both added (steps file rows caller topic) (steps file both caller topic) (steps_stay file rows more both caller topic added) h.0,
@@ -571,12 +571,12 @@ pub to_file : (file : Option File) (rows : Rows) (caller : ℕ) (topic : Topic) 
 to_file file rows caller topic h =
     let line = line_steps rows most_depth (parent_of rows topic) in
     let rest = next_of rows (line ++ file_wants file caller topic ∷ []) in
-    ap (λ l. or_next l (or_next (unknown rows (change_wants rows topic)) rest)) h.0 ∙ (ap (λ l. or_next l rest) h.1.0 ∙ last_joins rows line (file_wants file caller topic) h.1.1)
+    ap (λ l. or_next l (or_next (unknown rows (change_wants rows topic)) rest)) h.0 ∙ (ap (λ l. or_next l rest) h.1 ∙ last_joins rows line (file_wants file caller topic) h.2)
 
 -- and where those are made that are asked by the file, it has come to the last
 pub file_comes : (file : Option File) (rows : Rows) (caller : ℕ) (topic : Topic) (ws : List Want) → HasComeTo file rows caller topic step.ByFile → unknown rows (file_wants file caller topic) ≡ ws →
     ComesTo file rows caller topic ws (step.Last None)
 file_comes file rows caller topic ws h is = λ more both all added. (
-    to_file file both caller topic (come_stays file rows more both caller topic step.ByFile added h) ∙ ap (λ l. or_next l []) (left_after rows more both (file_wants file caller topic) (file_wants file caller topic) ws added refl is all),
-    tt,
-  )
+  to_file file both caller topic (come_stays file rows more both caller topic step.ByFile added h) ∙ ap (λ l. or_next l []) (left_after rows more both (file_wants file caller topic) (file_wants file caller topic) ws added refl is all),
+  tt,
+)
