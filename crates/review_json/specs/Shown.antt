@@ -101,15 +101,12 @@ comment_data comment =
 abbrev pub comments_data : List ShownComment → Items
 comments_data comments = items_of (map comment_data comments)
 
--- the members of a thread behind its comments
-abbrev pub ending_members : Thread → Members
-ending_members thread =
-    member (codes "root") (number_data thread.root)
-    (member (codes "unresolved") (boolean thread.unresolved) no_members)
-
 -- a thread
 abbrev pub thread_data : Thread → Data
-thread_data thread = object (member (codes "comments") (array (comments_data thread.comments)) (ending_members thread))
+thread_data thread =
+    object (member (codes "comments") (array (comments_data thread.comments))
+    (member (codes "root") (number_data thread.root)
+    (member (codes "unresolved") (boolean thread.unresolved) no_members)))
 
 -- threads in their order
 abbrev pub threads_data : List Thread → Items

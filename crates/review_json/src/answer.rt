@@ -1,20 +1,18 @@
 //! The JSON text of a reply.
-ghost use Rattle.std.specs.Prelude.{◌≡◌, IfOk, OnOk, false, string_bytes};
-ghost use Rattle.serde_json.specs.Data.{no_members, object};
-ghost use Rattle.serde_json.specs.{View.view, View.items_view, View.members_view, Written.compact_text};
-ghost use Rattle.review_words.specs.declared.reply.Answer.TheVariants.{Attention, Branch, Change, Patch, Requirements, Reviewed, Submitted};
-ghost use Rattle.review_json.specs.Answer.{are_threads, tells_threads, cause_name, answer_data, bad_file_data, refusal_data, reply_data, unsatisfied_data};
-ghost use Rattle.review_json.specs.Values.{texts_data, numbers_data};
+ghost use Rattle.std.specs.Prelude.{◌≡◌, ◌++◌, IfOk, OnOk, codes, map, string_bytes};
+ghost use Rattle.serde_json.specs.Data.{array, member, no_members, object, string};
+ghost use Rattle.serde_json.specs.{View.items_of, Written.compact_text};
+ghost use Rattle.review_words.specs.declared.faults.FileFault.TheVariants.{Expr};
+ghost use Rattle.review_words.specs.declared.reply.Answer.TheVariants.{Branch, Change, Patch};
+ghost use Rattle.review_json.specs.Answer.{cause_name, answer_data, bad_file_data, refusal_data, reply_data, unsatisfied_data};
+ghost use Rattle.review_json.specs.Tokens.{value_tokens};
+ghost use Rattle.review_json.specs.Values.{number_data};
 
-use crate::shown::{
-    call_values, change_value, joined_values, put_number, put_text, requirement_values,
-};
-use crate::threads::threads_text;
+use crate::text::{JsonText, Written};
 use review_words::{
-    Answer, Bases, ChangeNo, CommentNo, CommitName, FileFault, JoinedChange, LabelName, NotTaken,
-    PatchNo, Refusal, Reply, ShownCall, ShownRequirement,
+    Answer, Bases, ChangeNo, ExprFault, FileFault, JoinedChange, LabelName, NotTaken, PatchNo,
+    Refusal, Reply,
 };
-use serde_json::{Map, Value, json};
 use std::alloc::{AllocError, Global};
 
 fn cause_name(cause: NotTaken) -> &'static str
@@ -29,191 +27,186 @@ fn cause_name(cause: NotTaken) -> &'static str
     }
 }
 
-fn commit_values(alloc: Global, commits: &[CommitName]) -> Result<Vec<Value>, AllocError>
-    ensures { IfOk result (λ v. items_view v.items ≡ texts_data commits.now) }
+/// Writes an object of one text.
+fn write_text_alone(text: &mut JsonText, name: &str, value: &str) -> Result<(), AllocError>
+    ensures { OnOk result (text.new ≡ text.old ++ value_tokens (object (member name.now (string value.now) no_members))) }
 {
-    let mut values = Vec::new(alloc);
-    for commit in commits {
-        let value = Value::try_from_str(alloc, commit.as_str())?;
-        values.push(value)?;
-    }
-    Ok(values)
+    text.begin_object()?;
+    text.put_text(name, value)?;
+    text.end_object()
 }
 
-fn comment_values(alloc: Global, comments: &[CommentNo]) -> Result<Vec<Value>, AllocError>
-    ensures { IfOk result (λ v. items_view v.items ≡ numbers_data comments.now) }
+/// Writes an object of one number.
+fn write_number_alone(text: &mut JsonText, name: &str, n: u64) -> Result<(), AllocError>
+    ensures { OnOk result (text.new ≡ text.old ++ value_tokens (object (member name.now (number_data n) no_members))) }
 {
-    let mut values = Vec::new(alloc);
-    for comment in comments {
-        values.push(Value::from(comment.get()))?;
-    }
-    Ok(values)
+    text.begin_object()?;
+    text.put_number(name, n)?;
+    text.end_object()
 }
 
-fn change_numbers(alloc: Global, changes: &[ChangeNo]) -> Result<Vec<Value>, AllocError>
-    ensures { IfOk result (λ v. items_view v.items ≡ numbers_data changes.now) }
+/// Writes an object of one list.
+fn write_list_alone<T: Written>(
+    text: &mut JsonText,
+    name: &str,
+    items: &[T],
+) -> Result<(), AllocError>
+    ensures { OnOk result (text.new ≡ text.old ++ value_tokens (object (member name.now (array (items_of (map T.value_of items.now))) no_members))) }
 {
-    let mut values = Vec::new(alloc);
-    for change in changes {
-        values.push(Value::from(change.get()))?;
-    }
-    Ok(values)
+    text.begin_object()?;
+    text.put_list(name, items)?;
+    text.end_object()
 }
 
-fn empty_object(alloc: Global) -> Value
-    ensures { view result ≡ object no_members }
+fn write_nothing(text: &mut JsonText) -> Result<(), AllocError>
+    ensures { OnOk result (text.new ≡ text.old ++ value_tokens (object no_members)) }
 {
-    Value::Object(Map::new(alloc))
+    text.begin_object()?;
+    text.end_object()
 }
 
-fn submitted_value(alloc: Global, changes: &[ChangeNo]) -> Result<Value, AllocError>
-    ensures { IfOk result (λ v. view v ≡ answer_data (Submitted changes.now)) }
+fn write_new_change(text: &mut JsonText, change: ChangeNo, first: PatchNo) -> Result<(), AllocError>
+    ensures { OnOk result (text.new ≡ text.old ++ value_tokens (answer_data (Change change first))) }
 {
-    let numbers = change_numbers(alloc, changes)?;
-    json!(in alloc; {"joined": numbers})
+    text.begin_object()?;
+    text.put_number("change", change.get() as u64)?;
+    text.put_number("patch_set", first.get() as u64)?;
+    text.end_object()
 }
 
-fn branch_value(alloc: Global, bases: &Bases, joined: &[JoinedChange]) -> Result<Value, AllocError>
-    ensures { IfOk result (λ v. view v ≡ answer_data (Branch bases.now joined.now)) }
-{
-    let commits = commit_values(alloc, bases.as_slice())?;
-    let changes = joined_values(alloc, joined)?;
-    json!(in alloc; {"bases": commits, "joined": changes})
-}
-
-fn new_change_value(alloc: Global, change: ChangeNo, patch: PatchNo) -> Result<Value, AllocError>
-    ensures { IfOk result (λ v. view v ≡ answer_data (Change change patch)) }
-{
-    json!(in alloc; {"change": change.get(), "patch_set": patch.get()})
-}
-
-fn new_patch_value(
-    alloc: Global,
+fn write_new_patch(
+    text: &mut JsonText,
     change: ChangeNo,
     patch: PatchNo,
     copied: u64,
     outdated: u64,
-) -> Result<Value, AllocError>
-    ensures { IfOk result (λ v. view v ≡ answer_data (Patch change patch copied outdated)) }
-{
-    json!(in alloc; {
-        "change": change.get(),
-        "copied": copied,
-        "outdated": outdated,
-        "patch_set": patch.get(),
-    })
-}
-
-fn reviewed_value(alloc: Global, comments: &[CommentNo]) -> Result<Value, AllocError>
-    ensures { IfOk result (λ v. view v ≡ answer_data (Reviewed comments.now)) }
-{
-    let numbers = comment_values(alloc, comments)?;
-    json!(in alloc; {"comments": numbers})
-}
-
-fn requirements_value(alloc: Global, requirements: &[ShownRequirement]) -> Result<Value, AllocError>
-    ensures { IfOk result (λ v. view v ≡ answer_data (Requirements requirements.now)) }
-{
-    let values = requirement_values(alloc, requirements)?;
-    json!(in alloc; values)
-}
-
-fn attention_value(alloc: Global, calls: &[ShownCall]) -> Result<Value, AllocError>
-    ensures { IfOk result (λ v. view v ≡ answer_data (Attention calls.now)) }
-{
-    let values = call_values(alloc, calls)?;
-    json!(in alloc; values)
-}
-
-/// The value of an answer but threads, whose text is written at once.
-fn answer_value(alloc: Global, answer: &Answer) -> Result<Value, AllocError>
-    requires { are_threads answer.now ≡ false }
-    ensures { IfOk result (λ v. view v ≡ answer_data answer.now) }
-{
-    match answer {
-        Answer::Account(account) => json!(in alloc; {"account": account.get()}),
-        Answer::Nothing => Ok(empty_object(alloc)),
-        Answer::Change { change, patch } => new_change_value(alloc, *change, *patch),
-        Answer::Patch {
-            change,
-            patch,
-            copied,
-            outdated,
-        } => new_patch_value(alloc, *change, *patch, *copied, *outdated),
-        Answer::Reviewed(comments) => reviewed_value(alloc, comments.as_slice()),
-        Answer::Submitted(changes) => submitted_value(alloc, changes.as_slice()),
-        Answer::Branch { bases, joined } => branch_value(alloc, bases, joined.as_slice()),
-        Answer::Shown(change) => change_value(alloc, change),
-        Answer::Requirements(listed) => requirements_value(alloc, listed.as_slice()),
-        Answer::Threads(_) => unreachable!(),
-        Answer::Attention(calls) => attention_value(alloc, calls.as_slice()),
-    }
-}
-
-fn put_bad_file(
-    members: &mut Map<String, Value>,
-    alloc: Global,
-    fault: FileFault,
 ) -> Result<(), AllocError>
-    requires { members_view members.now.entries ≡ no_members }
-    ensures { OnOk result (object (members_view members.new.entries) ≡ bad_file_data fault) }
+    ensures { OnOk result (text.new ≡ text.old ++ value_tokens (answer_data (Patch change patch copied outdated))) }
 {
-    put_number(members, alloc, "number", 26)?;
-    put_text(members, alloc, "reason", fault.name())?;
-    put_text(members, alloc, "refused", "BAD_FILE")?;
-    if let FileFault::Expr(expr) = fault {
-        put_text(members, alloc, "expr", expr.code.name())?;
-        put_number(members, alloc, "place", expr.place as u64)?;
+    text.begin_object()?;
+    text.put_number("change", change.get() as u64)?;
+    text.put_number("copied", copied)?;
+    text.put_number("outdated", outdated)?;
+    text.put_number("patch_set", patch.get() as u64)?;
+    text.end_object()
+}
+
+fn write_branch(
+    text: &mut JsonText,
+    bases: &Bases,
+    joined: &[JoinedChange],
+) -> Result<(), AllocError>
+    ensures { OnOk result (text.new ≡ text.old ++ value_tokens (answer_data (Branch bases.now joined.now))) }
+{
+    text.begin_object()?;
+    text.put_list("bases", bases.as_slice())?;
+    text.put_list("joined", joined)?;
+    text.end_object()
+}
+
+impl Written for Answer {
+    ghost value_of = { answer_data };
+
+    fn write_to(&self, text: &mut JsonText) -> Result<(), AllocError> {
+        match self {
+            Answer::Account(account) => write_number_alone(text, "account", account.get() as u64),
+            Answer::Nothing => write_nothing(text),
+            Answer::Change { change, patch } => write_new_change(text, *change, *patch),
+            Answer::Patch {
+                change,
+                patch,
+                copied,
+                outdated,
+            } => write_new_patch(text, *change, *patch, *copied, *outdated),
+            Answer::Reviewed(comments) => write_list_alone(text, "comments", comments.as_slice()),
+            Answer::Submitted(changes) => write_list_alone(text, "joined", changes.as_slice()),
+            Answer::Branch { bases, joined } => write_branch(text, bases, joined.as_slice()),
+            Answer::Shown(change) => change.write_to(text),
+            Answer::Requirements(listed) => text.list(listed.as_slice()),
+            Answer::Threads(threads) => text.list(threads.as_slice()),
+            Answer::Attention(calls) => text.list(calls.as_slice()),
+        }
     }
-    Ok(())
 }
 
-fn bad_file_value(alloc: Global, fault: FileFault) -> Result<Value, AllocError>
-    ensures { IfOk result (λ v. view v ≡ bad_file_data fault) }
+/// Writes that a file is refused, for an expression's fault.
+fn write_bad_expression(text: &mut JsonText, fault: ExprFault) -> Result<(), AllocError>
+    ensures { OnOk result (text.new ≡ text.old ++ value_tokens (bad_file_data (Expr fault))) }
 {
-    let mut members = Map::new(alloc);
-    put_bad_file(&mut members, alloc, fault)?;
-    Ok(Value::Object(members))
+    text.begin_object()?;
+    text.put_text("expr", fault.code.name())?;
+    text.put_number("number", 26)?;
+    text.put_number("place", fault.place as u64)?;
+    text.put_text("reason", "EXPR")?;
+    text.put_text("refused", "BAD_FILE")?;
+    text.end_object()
 }
 
-fn unsatisfied_value(
-    alloc: Global,
+/// Writes that a file is refused.
+fn write_bad_file(text: &mut JsonText, fault: FileFault) -> Result<(), AllocError>
+    ensures { OnOk result (text.new ≡ text.old ++ value_tokens (bad_file_data fault)) }
+{
+    if let FileFault::Expr(expr) = fault {
+        return write_bad_expression(text, expr);
+    }
+    text.begin_object()?;
+    text.put_number("number", 26)?;
+    text.put_text("reason", fault.name())?;
+    text.put_text("refused", "BAD_FILE")?;
+    text.end_object()
+}
+
+fn write_unsatisfied(
+    text: &mut JsonText,
     change: ChangeNo,
     requirement: &LabelName,
-) -> Result<Value, AllocError>
-    ensures { IfOk result (λ v. view v ≡ unsatisfied_data change requirement.now) }
+) -> Result<(), AllocError>
+    ensures { OnOk result (text.new ≡ text.old ++ value_tokens (unsatisfied_data change requirement.now)) }
 {
-    json!(in alloc; {
-        "change": change.get(),
-        "number": 23u32,
-        "refused": "REQUIREMENT_UNSATISFIED",
-        "requirement": requirement.as_str(),
-    })
+    text.begin_object()?;
+    text.put_number("change", change.get() as u64)?;
+    text.put_number("number", 23)?;
+    text.put_text("refused", "REQUIREMENT_UNSATISFIED")?;
+    text.put_text("requirement", requirement.as_str())?;
+    text.end_object()
 }
 
-fn refusal_value(alloc: Global, refusal: &Refusal) -> Result<Value, AllocError>
-    ensures { IfOk result (λ v. view v ≡ refusal_data refusal.now) }
+/// Writes a refusal's number and name.
+fn write_numbered(text: &mut JsonText, number: u64, name: &str) -> Result<(), AllocError>
+    ensures { OnOk result (text.new ≡ text.old ++ value_tokens (object (member (codes "number") (number_data number) (member (codes "refused") (string name.now) no_members)))) }
 {
-    match refusal {
-        Refusal::BadFile(fault) => bad_file_value(alloc, *fault),
-        Refusal::RequirementUnsatisfied {
-            change,
-            requirement,
-        } => unsatisfied_value(alloc, *change, requirement),
-        _ => json!(in alloc; {"number": refusal.number(), "refused": refusal.name()}),
+    text.begin_object()?;
+    text.put_number("number", number)?;
+    text.put_text("refused", name)?;
+    text.end_object()
+}
+
+impl Written for Refusal {
+    ghost value_of = { refusal_data };
+
+    fn write_to(&self, text: &mut JsonText) -> Result<(), AllocError> {
+        match self {
+            Refusal::BadFile(fault) => write_bad_file(text, *fault),
+            Refusal::RequirementUnsatisfied {
+                change,
+                requirement,
+            } => write_unsatisfied(text, *change, requirement),
+            _ => write_numbered(text, self.number() as u64, self.name()),
+        }
     }
 }
 
-fn reply_value(alloc: Global, reply: &Reply) -> Result<Value, AllocError>
-    requires { tells_threads reply.now ≡ false }
-    ensures { IfOk result (λ v. view v ≡ reply_data reply.now) }
-{
-    match reply {
-        Reply::Done(answer) => answer_value(alloc, answer),
-        Reply::Refused(refusal) => refusal_value(alloc, refusal),
-        Reply::IdentityReused => json!(in alloc; {"refused": "IDENTITY_REUSED"}),
-        Reply::EpochClosed => json!(in alloc; {"refused": "EPOCH_CLOSED"}),
-        Reply::NotTaken(cause) => json!(in alloc; {"not_taken": cause_name(*cause)}),
+impl Written for Reply {
+    ghost value_of = { reply_data };
+
+    fn write_to(&self, text: &mut JsonText) -> Result<(), AllocError> {
+        match self {
+            Reply::Done(answer) => answer.write_to(text),
+            Reply::Refused(refusal) => refusal.write_to(text),
+            Reply::IdentityReused => write_text_alone(text, "refused", "IDENTITY_REUSED"),
+            Reply::EpochClosed => write_text_alone(text, "refused", "EPOCH_CLOSED"),
+            Reply::NotTaken(cause) => write_text_alone(text, "not_taken", cause_name(*cause)),
+        }
     }
 }
 
@@ -226,16 +219,7 @@ fn reply_value(alloc: Global, reply: &Reply) -> Result<Value, AllocError>
 pub fn answer_text(alloc: Global, reply: &Reply) -> Result<String, AllocError>
     ensures { IfOk result (λ text. string_bytes text ≡ compact_text (reply_data reply.now)) }
 {
-    match reply {
-        Reply::Done(Answer::Threads(threads)) => threads_text(alloc, threads.as_slice()),
-        _ => value_text(alloc, reply),
-    }
-}
-
-fn value_text(alloc: Global, reply: &Reply) -> Result<String, AllocError>
-    requires { tells_threads reply.now ≡ false }
-    ensures { IfOk result (λ text. string_bytes text ≡ compact_text (reply_data reply.now)) }
-{
-    let value = reply_value(alloc, reply)?;
-    value.to_string(alloc)
+    let mut text = JsonText::new(alloc)?;
+    reply.write_to(&mut text)?;
+    Ok(text.into_string())
 }

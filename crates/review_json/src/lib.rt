@@ -10,11 +10,12 @@
 #![tactic(auto)]
 
 pub mod answer;
+mod items;
 pub mod laws;
 pub mod line;
 pub mod routes;
-pub mod shown;
-pub mod threads;
+mod shown;
+mod text;
 
 pub use answer::answer_text;
 pub use laws::comments_go_by_place;
