@@ -1,7 +1,7 @@
 -- The tokens of which the text of a value is made.
 use Rattle.std.specs.Prelude.{◌≡◌, ℕ, List, ◌∷◌, ◌++◌}
-use Rattle.json.specs.{Token.Token, Token.key, Tree.json_tokens, Tree.members_tokens}
-use Rattle.serde_json.specs.{Data.Data, Data.Members, Written.outline, Written.members_outline}
+use Rattle.json.specs.{Token.Token, Token.key, Tree.json_tokens}
+use Rattle.serde_json.specs.{Data.Data, Written.outline}
 
 -- the tokens of a value
 abbrev pub value_tokens : Data → List Token
@@ -11,7 +11,6 @@ value_tokens value = json_tokens (outline value)
 abbrev pub member_tokens : List ℕ → Data → List Token
 member_tokens name value = key name ∷ value_tokens value
 
--- with any members behind them, the new tokens are the old ones with further members in front of those
-abbrev pub HasPut : List Token → List Token → (Members → Members) → Type 0
-HasPut old new in_front =
-    (rest : Members) → new ++ members_tokens (members_outline rest) ≡ old ++ members_tokens (members_outline (in_front rest))
+-- tokens were put behind the old ones
+pub record HasPut (old new put : List Token) : Type 0 where
+  pub whole : new ≡ old ++ put

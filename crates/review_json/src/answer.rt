@@ -1,17 +1,18 @@
 //! The JSON text of a reply.
 ghost use Rattle.std.specs.Prelude.{◌≡◌, ◌++◌, IfOk, OnOk, codes, map, string_bytes};
-ghost use Rattle.serde_json.specs.Data.{array, member, no_members, object, string};
-ghost use Rattle.serde_json.specs.{View.items_of, Written.compact_text};
+ghost use Rattle.serde_json.specs.Data.{member, no_members, object, string};
+ghost use Rattle.serde_json.specs.Written.{compact_text};
+ghost use Rattle.review_words.specs.Faults.{code_name};
 ghost use Rattle.review_words.specs.declared.faults.FileFault.TheVariants.{Expr};
 ghost use Rattle.review_words.specs.declared.reply.Answer.TheVariants.{Branch, Change, Patch};
-ghost use Rattle.review_json.specs.Answer.{cause_name, answer_data, bad_file_data, refusal_data, reply_data, unsatisfied_data};
-ghost use Rattle.review_json.specs.Tokens.{value_tokens};
+ghost use Rattle.review_json.specs.Answer.{cause_name, answer_data, bad_file_data, named_fault_data, refusal_data, reply_data, unsatisfied_data};
+ghost use Rattle.review_json.specs.Tokens.{HasPut, value_tokens};
 ghost use Rattle.review_json.specs.Values.{number_data};
 
 use crate::text::{JsonText, Written};
 use review_words::{
-    Answer, Bases, ChangeNo, ExprFault, FileFault, JoinedChange, LabelName, NotTaken, PatchNo,
-    Refusal, Reply,
+    Answer, Bases, ChangeNo, ExprCode, ExprFault, FileFault, JoinedChange, LabelName, Listed,
+    NotTaken, PatchNo, Refusal, Reply,
 };
 use std::alloc::{AllocError, Global};
 
@@ -27,51 +28,50 @@ fn cause_name(cause: NotTaken) -> &'static str
     }
 }
 
+impl Written for ExprCode {
+    ghost value_of = { λ code. string (code_name code) };
+
+    fn write_to(&self, text: &mut JsonText) -> Result<(), AllocError> {
+        text.text(self.name())
+    }
+}
+
 /// Writes an object of one text.
 fn write_text_alone(text: &mut JsonText, name: &str, value: &str) -> Result<(), AllocError>
-    ensures { OnOk result (text.new ≡ text.old ++ value_tokens (object (member name.now (string value.now) no_members))) }
+    ensures { OnOk result (HasPut text.old text.new (value_tokens (object (member name.now (string value.now) no_members)))) }
 {
     text.begin_object()?;
     text.put_text(name, value)?;
-    text.end_object()
+    text.end_object()?;
+    Ok(())
 }
 
-/// Writes an object of one number.
-fn write_number_alone(text: &mut JsonText, name: &str, n: u64) -> Result<(), AllocError>
-    ensures { OnOk result (text.new ≡ text.old ++ value_tokens (object (member name.now (number_data n) no_members))) }
+/// Writes an object of one member.
+fn write_alone<T: Written>(text: &mut JsonText, name: &str, value: &T) -> Result<(), AllocError>
+    ensures { OnOk result (HasPut text.old text.new (value_tokens (object (member name.now (T.value_of value.now) no_members)))) }
 {
     text.begin_object()?;
-    text.put_number(name, n)?;
-    text.end_object()
-}
-
-/// Writes an object of one list.
-fn write_list_alone<T: Written>(
-    text: &mut JsonText,
-    name: &str,
-    items: &[T],
-) -> Result<(), AllocError>
-    ensures { OnOk result (text.new ≡ text.old ++ value_tokens (object (member name.now (array (items_of (map T.value_of items.now))) no_members))) }
-{
-    text.begin_object()?;
-    text.put_list(name, items)?;
-    text.end_object()
+    text.put(name, value)?;
+    text.end_object()?;
+    Ok(())
 }
 
 fn write_nothing(text: &mut JsonText) -> Result<(), AllocError>
-    ensures { OnOk result (text.new ≡ text.old ++ value_tokens (object no_members)) }
+    ensures { OnOk result (HasPut text.old text.new (value_tokens (object no_members))) }
 {
     text.begin_object()?;
-    text.end_object()
+    text.end_object()?;
+    Ok(())
 }
 
 fn write_new_change(text: &mut JsonText, change: ChangeNo, first: PatchNo) -> Result<(), AllocError>
-    ensures { OnOk result (text.new ≡ text.old ++ value_tokens (answer_data (Change change first))) }
+    ensures { OnOk result (HasPut text.old text.new (value_tokens (answer_data (Change change first)))) }
 {
     text.begin_object()?;
-    text.put_number("change", change.get() as u64)?;
-    text.put_number("patch_set", first.get() as u64)?;
-    text.end_object()
+    text.put("change", &change)?;
+    text.put("patch_set", &first)?;
+    text.end_object()?;
+    Ok(())
 }
 
 fn write_new_patch(
@@ -81,27 +81,29 @@ fn write_new_patch(
     copied: u64,
     outdated: u64,
 ) -> Result<(), AllocError>
-    ensures { OnOk result (text.new ≡ text.old ++ value_tokens (answer_data (Patch change patch copied outdated))) }
+    ensures { OnOk result (HasPut text.old text.new (value_tokens (answer_data (Patch change patch copied outdated)))) }
 {
     text.begin_object()?;
-    text.put_number("change", change.get() as u64)?;
-    text.put_number("copied", copied)?;
-    text.put_number("outdated", outdated)?;
-    text.put_number("patch_set", patch.get() as u64)?;
-    text.end_object()
+    text.put("change", &change)?;
+    text.put("copied", &copied)?;
+    text.put("outdated", &outdated)?;
+    text.put("patch_set", &patch)?;
+    text.end_object()?;
+    Ok(())
 }
 
 fn write_branch(
     text: &mut JsonText,
     bases: &Bases,
-    joined: &[JoinedChange],
+    joined: &Listed<JoinedChange>,
 ) -> Result<(), AllocError>
-    ensures { OnOk result (text.new ≡ text.old ++ value_tokens (answer_data (Branch bases.now joined.now))) }
+    ensures { OnOk result (HasPut text.old text.new (value_tokens (answer_data (Branch bases.now joined.now)))) }
 {
     text.begin_object()?;
-    text.put_list("bases", bases.as_slice())?;
-    text.put_list("joined", joined)?;
-    text.end_object()
+    text.put("bases", bases)?;
+    text.put("joined", joined)?;
+    text.end_object()?;
+    Ok(())
 }
 
 impl Written for Answer {
@@ -109,7 +111,7 @@ impl Written for Answer {
 
     fn write_to(&self, text: &mut JsonText) -> Result<(), AllocError> {
         match self {
-            Answer::Account(account) => write_number_alone(text, "account", account.get() as u64),
+            Answer::Account(account) => write_alone(text, "account", account),
             Answer::Nothing => write_nothing(text),
             Answer::Change { change, patch } => write_new_change(text, *change, *patch),
             Answer::Patch {
@@ -118,42 +120,50 @@ impl Written for Answer {
                 copied,
                 outdated,
             } => write_new_patch(text, *change, *patch, *copied, *outdated),
-            Answer::Reviewed(comments) => write_list_alone(text, "comments", comments.as_slice()),
-            Answer::Submitted(changes) => write_list_alone(text, "joined", changes.as_slice()),
-            Answer::Branch { bases, joined } => write_branch(text, bases, joined.as_slice()),
+            Answer::Reviewed(comments) => write_alone(text, "comments", comments),
+            Answer::Submitted(changes) => write_alone(text, "joined", changes),
+            Answer::Branch { bases, joined } => write_branch(text, bases, joined),
             Answer::Shown(change) => change.write_to(text),
-            Answer::Requirements(listed) => text.list(listed.as_slice()),
-            Answer::Threads(threads) => text.list(threads.as_slice()),
-            Answer::Attention(calls) => text.list(calls.as_slice()),
+            Answer::Requirements(listed) => listed.write_to(text),
+            Answer::Threads(threads) => threads.write_to(text),
+            Answer::Attention(calls) => calls.write_to(text),
         }
     }
 }
 
 /// Writes that a file is refused, for an expression's fault.
 fn write_bad_expression(text: &mut JsonText, fault: ExprFault) -> Result<(), AllocError>
-    ensures { OnOk result (text.new ≡ text.old ++ value_tokens (bad_file_data (Expr fault))) }
+    ensures { OnOk result (HasPut text.old text.new (value_tokens (bad_file_data (Expr fault)))) }
 {
     text.begin_object()?;
-    text.put_text("expr", fault.code.name())?;
-    text.put_number("number", 26)?;
-    text.put_number("place", fault.place as u64)?;
+    text.put("expr", &fault.code)?;
+    text.put("number", &26u64)?;
+    text.put("place", &(fault.place as u64))?;
     text.put_text("reason", "EXPR")?;
     text.put_text("refused", "BAD_FILE")?;
-    text.end_object()
+    text.end_object()?;
+    Ok(())
 }
 
-/// Writes that a file is refused.
-fn write_bad_file(text: &mut JsonText, fault: FileFault) -> Result<(), AllocError>
-    ensures { OnOk result (text.new ≡ text.old ++ value_tokens (bad_file_data fault)) }
+/// Writes that a file is refused, for a fault of this name.
+fn write_named_fault(text: &mut JsonText, fault: &str) -> Result<(), AllocError>
+    ensures { OnOk result (HasPut text.old text.new (value_tokens (named_fault_data fault.now))) }
 {
-    if let FileFault::Expr(expr) = fault {
-        return write_bad_expression(text, expr);
-    }
     text.begin_object()?;
-    text.put_number("number", 26)?;
-    text.put_text("reason", fault.name())?;
+    text.put("number", &26u64)?;
+    text.put_text("reason", fault)?;
     text.put_text("refused", "BAD_FILE")?;
-    text.end_object()
+    text.end_object()?;
+    Ok(())
+}
+
+fn write_bad_file(text: &mut JsonText, fault: FileFault) -> Result<(), AllocError>
+    ensures { OnOk result (HasPut text.old text.new (value_tokens (bad_file_data fault))) }
+{
+    match fault {
+        FileFault::Expr(expr) => write_bad_expression(text, expr),
+        _ => write_named_fault(text, fault.name()),
+    }
 }
 
 fn write_unsatisfied(
@@ -161,24 +171,26 @@ fn write_unsatisfied(
     change: ChangeNo,
     requirement: &LabelName,
 ) -> Result<(), AllocError>
-    ensures { OnOk result (text.new ≡ text.old ++ value_tokens (unsatisfied_data change requirement.now)) }
+    ensures { OnOk result (HasPut text.old text.new (value_tokens (unsatisfied_data change requirement.now))) }
 {
     text.begin_object()?;
-    text.put_number("change", change.get() as u64)?;
-    text.put_number("number", 23)?;
+    text.put("change", &change)?;
+    text.put("number", &23u64)?;
     text.put_text("refused", "REQUIREMENT_UNSATISFIED")?;
-    text.put_text("requirement", requirement.as_str())?;
-    text.end_object()
+    text.put("requirement", requirement)?;
+    text.end_object()?;
+    Ok(())
 }
 
 /// Writes a refusal's number and name.
 fn write_numbered(text: &mut JsonText, number: u64, name: &str) -> Result<(), AllocError>
-    ensures { OnOk result (text.new ≡ text.old ++ value_tokens (object (member (codes "number") (number_data number) (member (codes "refused") (string name.now) no_members)))) }
+    ensures { OnOk result (HasPut text.old text.new (value_tokens (object (member (codes "number") (number_data number) (member (codes "refused") (string name.now) no_members))))) }
 {
     text.begin_object()?;
-    text.put_number("number", number)?;
+    text.put("number", &number)?;
     text.put_text("refused", name)?;
-    text.end_object()
+    text.end_object()?;
+    Ok(())
 }
 
 impl Written for Refusal {

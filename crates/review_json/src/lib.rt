@@ -10,12 +10,12 @@
 #![tactic(auto)]
 
 pub mod answer;
-mod items;
 pub mod laws;
 pub mod line;
 pub mod routes;
 mod shown;
 mod text;
+mod values;
 
 pub use answer::answer_text;
 pub use laws::comments_go_by_place;

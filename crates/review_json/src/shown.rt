@@ -1,9 +1,9 @@
 //! What questions about a change or a branch are told, as JSON.
-ghost use Rattle.std.specs.Prelude.{◌≡◌, ◌++◌, OnOk};
+ghost use Rattle.std.specs.Prelude.{◌≡◌, OnOk, Some};
 ghost use Rattle.json.specs.Tree.{members_tokens};
-ghost use Rattle.serde_json.specs.Written.{members_outline};
-ghost use Rattle.review_json.specs.Shown.{state_name, status_name, vote_data, first_members, last_members, change_data, joined_change_data, requirement_data, with_answered, comment_data, thread_data, call_data};
+ghost use Rattle.serde_json.specs.{Data.string, Written.members_outline};
 ghost use Rattle.review_json.specs.Tokens.{HasPut};
+ghost use Rattle.review_json.specs.Shown.{state_name, status_name, vote_data, first_members, last_members, change_data, joined_change_data, requirement_data, with_answered, words_members, comment_data, thread_data, call_data};
 
 use crate::text::{JsonText, Written};
 use review_words::{
@@ -22,6 +22,14 @@ fn state_name(state: State) -> &'static str
     }
 }
 
+impl Written for State {
+    ghost value_of = { λ state. string (state_name state) };
+
+    fn write_to(&self, text: &mut JsonText) -> Result<(), AllocError> {
+        text.text(state_name(*self))
+    }
+}
+
 fn status_name(status: Status) -> &'static str
     ensures { result.now ≡ status_name status }
 {
@@ -33,43 +41,55 @@ fn status_name(status: Status) -> &'static str
     }
 }
 
+impl Written for Status {
+    ghost value_of = { λ status. string (status_name status) };
+
+    fn write_to(&self, text: &mut JsonText) -> Result<(), AllocError> {
+        text.text(status_name(*self))
+    }
+}
+
 impl Written for ShownVote {
     ghost value_of = { vote_data };
 
     fn write_to(&self, text: &mut JsonText) -> Result<(), AllocError> {
         text.begin_object()?;
-        text.put_number("account", self.account.get() as u64)?;
-        text.put_text("label", self.label.as_str())?;
-        text.put_integer("value", self.value as i64)?;
-        text.end_object()
+        text.put("account", &self.account)?;
+        text.put("label", &self.label)?;
+        text.put("value", &self.value)?;
+        text.end_object()?;
+        Ok(())
     }
-}
-
-/// Puts the first members of a change.
-fn put_first_members(text: &mut JsonText, shown: &ShownChange) -> Result<(), AllocError>
-    ensures { OnOk result (HasPut text.old text.new (first_members shown.now)) }
-{
-    text.put_text("branch", shown.branch.as_str())?;
-    text.put_list("ccs", shown.ccs.as_slice())?;
-    text.put_number("change", shown.change.get() as u64)?;
-    text.put_text("commit", shown.commit.as_str())?;
-    text.put_number("current_patch_set", shown.patch.get() as u64)?;
-    text.put_number("owner", shown.owner.get() as u64)?;
-    text.put_text("project", shown.project.as_str())
 }
 
 /// Puts the last members of a change, and ends it.
 fn put_last_members(text: &mut JsonText, shown: &ShownChange) -> Result<(), AllocError>
-    ensures { OnOk result (text.new ≡ text.old ++ members_tokens (members_outline (last_members shown.now))) }
+    ensures { OnOk result (HasPut text.old text.new (members_tokens (members_outline (last_members shown.now)))) }
 {
-    text.put_list("reviewers", shown.reviewers.as_slice())?;
-    text.put_text("status", state_name(shown.state))?;
-    text.put_text("subject", shown.subject.as_str())?;
-    text.put_number("updated", shown.updated)?;
-    text.put_number("uploader", shown.uploader.get() as u64)?;
-    text.put_list("votes", shown.votes.as_slice())?;
-    text.put_flag("work_in_progress", shown.wip)?;
-    text.end_object()
+    text.put("reviewers", &shown.reviewers)?;
+    text.put("status", &shown.state)?;
+    text.put("subject", &shown.subject)?;
+    text.put("updated", &shown.updated)?;
+    text.put("uploader", &shown.uploader)?;
+    text.put("votes", &shown.votes)?;
+    text.put("work_in_progress", &shown.wip)?;
+    text.end_object()?;
+    Ok(())
+}
+
+/// Puts the members of a change, and ends it.
+fn put_members(text: &mut JsonText, shown: &ShownChange) -> Result<(), AllocError>
+    ensures { OnOk result (HasPut text.old text.new (members_tokens (members_outline (first_members shown.now (last_members shown.now))))) }
+{
+    text.put("branch", &shown.branch)?;
+    text.put("ccs", &shown.ccs)?;
+    text.put("change", &shown.change)?;
+    text.put("commit", &shown.commit)?;
+    text.put("current_patch_set", &shown.patch)?;
+    text.put("owner", &shown.owner)?;
+    text.put("project", &shown.project)?;
+    put_last_members(text, shown)?;
+    Ok(())
 }
 
 impl Written for ShownChange {
@@ -77,8 +97,7 @@ impl Written for ShownChange {
 
     fn write_to(&self, text: &mut JsonText) -> Result<(), AllocError> {
         text.begin_object()?;
-        put_first_members(text, self)?;
-        put_last_members(text, self)
+        put_members(text, self)
     }
 }
 
@@ -87,9 +106,10 @@ impl Written for JoinedChange {
 
     fn write_to(&self, text: &mut JsonText) -> Result<(), AllocError> {
         text.begin_object()?;
-        text.put_number("change", self.change.get() as u64)?;
-        text.put_text("commit", self.commit.as_str())?;
-        text.end_object()
+        text.put("change", &self.change)?;
+        text.put("commit", &self.commit)?;
+        text.end_object()?;
+        Ok(())
     }
 }
 
@@ -98,19 +118,46 @@ impl Written for ShownRequirement {
 
     fn write_to(&self, text: &mut JsonText) -> Result<(), AllocError> {
         text.begin_object()?;
-        text.put_text("name", self.name.as_str())?;
-        text.put_text("status", status_name(self.status))?;
-        text.end_object()
+        text.put("name", &self.name)?;
+        text.put("status", &self.status)?;
+        text.end_object()?;
+        Ok(())
     }
 }
 
-/// Puts the comment that is answered, if one is.
-fn put_answered(text: &mut JsonText, answered: Option<CommentNo>) -> Result<(), AllocError>
-    ensures { OnOk result (HasPut text.old text.new (with_answered answered)) }
+/// Puts the last members of a comment, and ends it.
+fn put_words(text: &mut JsonText, comment: &ShownComment) -> Result<(), AllocError>
+    ensures { OnOk result (HasPut text.old text.new (members_tokens (members_outline (words_members comment.now)))) }
 {
-    match answered {
-        Some(comment) => text.put_number("in_reply_to", comment.get() as u64),
-        None => Ok(()),
+    text.put("line", &comment.line)?;
+    text.put("message", &comment.message)?;
+    text.put("patch_set", &comment.patch)?;
+    text.put("path", &comment.path)?;
+    text.put("unresolved", &comment.unresolved)?;
+    text.end_object()?;
+    Ok(())
+}
+
+/// Puts the comment that is answered, and what stands behind that.
+fn put_reply(
+    text: &mut JsonText,
+    answered: CommentNo,
+    comment: &ShownComment,
+) -> Result<(), AllocError>
+    ensures { OnOk result (HasPut text.old text.new (members_tokens (members_outline (with_answered (Some answered) (words_members comment.now))))) }
+{
+    text.put("in_reply_to", &answered)?;
+    put_words(text, comment)?;
+    Ok(())
+}
+
+/// Puts the comment that is answered, if one is, and what stands behind that.
+fn put_answered(text: &mut JsonText, comment: &ShownComment) -> Result<(), AllocError>
+    ensures { OnOk result (HasPut text.old text.new (members_tokens (members_outline (with_answered comment.now.answers (words_members comment.now))))) }
+{
+    match comment.answers {
+        Some(answered) => put_reply(text, answered, comment),
+        None => put_words(text, comment),
     }
 }
 
@@ -119,15 +166,9 @@ impl Written for ShownComment {
 
     fn write_to(&self, text: &mut JsonText) -> Result<(), AllocError> {
         text.begin_object()?;
-        text.put_number("author", self.author.get() as u64)?;
-        text.put_number("id", self.number.get() as u64)?;
-        put_answered(text, self.answers)?;
-        text.put_number("line", self.line as u64)?;
-        text.put_text("message", self.message.as_str())?;
-        text.put_number("patch_set", self.patch.get() as u64)?;
-        text.put_text("path", self.path.as_str())?;
-        text.put_flag("unresolved", self.unresolved)?;
-        text.end_object()
+        text.put("author", &self.author)?;
+        text.put("id", &self.number)?;
+        put_answered(text, self)
     }
 }
 
@@ -136,10 +177,11 @@ impl Written for Thread {
 
     fn write_to(&self, text: &mut JsonText) -> Result<(), AllocError> {
         text.begin_object()?;
-        text.put_list("comments", self.comments.as_slice())?;
-        text.put_number("root", self.root.get() as u64)?;
-        text.put_flag("unresolved", self.unresolved)?;
-        text.end_object()
+        text.put("comments", &self.comments)?;
+        text.put("root", &self.root)?;
+        text.put("unresolved", &self.unresolved)?;
+        text.end_object()?;
+        Ok(())
     }
 }
 
@@ -148,9 +190,10 @@ impl Written for ShownCall {
 
     fn write_to(&self, text: &mut JsonText) -> Result<(), AllocError> {
         text.begin_object()?;
-        text.put_number("account", self.account.get() as u64)?;
-        text.put_text("reason", self.reason.as_str())?;
-        text.put_number("request", self.request)?;
-        text.end_object()
+        text.put("account", &self.account)?;
+        text.put("reason", &self.reason)?;
+        text.put("request", &self.request)?;
+        text.end_object()?;
+        Ok(())
     }
 }

@@ -4,7 +4,7 @@ ghost use Rattle.json.specs.Print.{print};
 ghost use Rattle.json.specs.Token.{begin_array, begin_object, end_array, end_object, key};
 ghost use Rattle.serde_json.specs.Data.{Data, array, boolean, number, string};
 ghost use Rattle.serde_json.specs.{Find.of_integer, View.items_of};
-ghost use Rattle.review_json.specs.{Tokens.member_tokens, Tokens.value_tokens, Values.number_data};
+ghost use Rattle.review_json.specs.{Tokens.HasPut, Tokens.member_tokens, Tokens.value_tokens, Values.number_data};
 
 use json::Writer;
 use std::alloc::{AllocError, Global};
@@ -38,7 +38,7 @@ pub trait Written {
 
     /// Writes the value.
     fn write_to(&self, text: &mut JsonText) -> Result<(), AllocError>
-        ensures { OnOk result (text.new ≡ text.old ++ value_tokens (value_of self.now)) };
+        ensures { OnOk result (HasPut text.old text.new (value_tokens (value_of self.now))) };
 }
 
 impl JsonText {
@@ -63,96 +63,86 @@ impl JsonText {
         }
     }
 
-    /// Writes a number.
-    pub fn number(&mut self, n: u64) -> Result<(), AllocError>
-        ensures { OnOk result (self.new ≡ self.old ++ value_tokens (number_data n)) }
-    {
-        self.writer.u64(n)
-    }
-
-    /// Writes a text.
-    pub fn text(&mut self, text: &str) -> Result<(), AllocError>
-        ensures { OnOk result (self.new ≡ self.old ++ value_tokens (string text.now)) }
-    {
-        self.writer.string(text)
-    }
-
     /// Begins an object.
     pub fn begin_object(&mut self) -> Result<(), AllocError>
-        ensures { OnOk result (self.new ≡ self.old ++ begin_object ∷ []) }
+        ensures { OnOk result (HasPut self.old self.new (begin_object ∷ [])) }
     {
         self.writer.begin_object()
     }
 
     /// Ends an object.
     pub fn end_object(&mut self) -> Result<(), AllocError>
-        ensures { OnOk result (self.new ≡ self.old ++ end_object ∷ []) }
+        ensures { OnOk result (HasPut self.old self.new (end_object ∷ [])) }
     {
         self.writer.end_object()
     }
 
-    /// Puts a member that is a text.
-    pub fn put_text(&mut self, name: &str, text: &str) -> Result<(), AllocError>
-        ensures { OnOk result (self.new ≡ self.old ++ member_tokens name.now (string text.now)) }
-    {
-        self.writer.key(name)?;
-        self.writer.string(text)
-    }
-
-    /// Puts a member that is a number.
-    pub fn put_number(&mut self, name: &str, n: u64) -> Result<(), AllocError>
-        ensures { OnOk result (self.new ≡ self.old ++ member_tokens name.now (number_data n)) }
-    {
-        self.writer.key(name)?;
-        self.writer.u64(n)
-    }
-
-    /// Puts a member that is a number with a sign.
-    #[tactic(auto, using(crate::proofs::Texts::integer_text))]
-    pub fn put_integer(&mut self, name: &str, n: i64) -> Result<(), AllocError>
-        ensures { OnOk result (self.new ≡ self.old ++ member_tokens name.now (number (of_integer n))) }
-    {
-        self.writer.key(name)?;
-        self.writer.i64(n)
-    }
-
-    /// Puts a member that is true or false.
-    pub fn put_flag(&mut self, name: &str, flag: bool) -> Result<(), AllocError>
-        ensures { OnOk result (self.new ≡ self.old ++ member_tokens name.now (boolean flag)) }
-    {
-        self.writer.key(name)?;
-        self.writer.boolean(flag)
-    }
-
-    /// Puts a member that is a list.
-    pub fn put_list<T: Written>(&mut self, name: &str, items: &[T]) -> Result<(), AllocError>
-        ensures { OnOk result (self.new ≡ self.old ++ member_tokens name.now (array (items_of (map T.value_of items.now)))) }
+    /// Puts a member.
+    pub fn put<T: Written>(&mut self, name: &str, value: &T) -> Result<(), AllocError>
+        ensures { OnOk result (HasPut self.old self.new (member_tokens name.now (T.value_of value.now))) }
     {
         self.key(name)?;
-        self.list(items)
+        value.write_to(self)
+    }
+
+    /// Puts a member that is a text.
+    pub fn put_text(&mut self, name: &str, text: &str) -> Result<(), AllocError>
+        ensures { OnOk result (HasPut self.old self.new (member_tokens name.now (string text.now))) }
+    {
+        self.key(name)?;
+        self.text(text)
     }
 
     fn key(&mut self, name: &str) -> Result<(), AllocError>
-        ensures { OnOk result (self.new ≡ self.old ++ key name.now ∷ []) }
+        ensures { OnOk result (HasPut self.old self.new (key name.now ∷ [])) }
     {
         self.writer.key(name)
     }
 
+    /// Writes a text.
+    pub fn text(&mut self, text: &str) -> Result<(), AllocError>
+        ensures { OnOk result (HasPut self.old self.new (value_tokens (string text.now))) }
+    {
+        self.writer.string(text)
+    }
+
+    /// Writes a number.
+    pub fn number(&mut self, n: u64) -> Result<(), AllocError>
+        ensures { OnOk result (HasPut self.old self.new (value_tokens (number_data n))) }
+    {
+        self.writer.u64(n)
+    }
+
+    /// Writes a number with a sign.
+    #[tactic(auto, using(crate::proofs::Texts::integer_text))]
+    pub fn integer(&mut self, n: i64) -> Result<(), AllocError>
+        ensures { OnOk result (HasPut self.old self.new (value_tokens (number (of_integer n)))) }
+    {
+        self.writer.i64(n)
+    }
+
+    /// Writes whether something holds.
+    pub fn flag(&mut self, flag: bool) -> Result<(), AllocError>
+        ensures { OnOk result (HasPut self.old self.new (value_tokens (boolean flag))) }
+    {
+        self.writer.boolean(flag)
+    }
+
     fn begin_array(&mut self) -> Result<(), AllocError>
-        ensures { OnOk result (self.new ≡ self.old ++ begin_array ∷ []) }
+        ensures { OnOk result (HasPut self.old self.new (begin_array ∷ [])) }
     {
         self.writer.begin_array()
     }
 
     fn end_array(&mut self) -> Result<(), AllocError>
-        ensures { OnOk result (self.new ≡ self.old ++ end_array ∷ []) }
+        ensures { OnOk result (HasPut self.old self.new (end_array ∷ [])) }
     {
         self.writer.end_array()
     }
 
     /// Writes a list, item by item.
     pub fn list<T: Written>(&mut self, items: &[T]) -> Result<(), AllocError>
-        ensures { OnOk result (self.new ≡ self.old ++ value_tokens (array (items_of (map T.value_of items.now)))) }
+        ensures { OnOk result (HasPut self.old self.new (value_tokens (array (items_of (map T.value_of items.now))))) }
     {
         self.begin_array()?;
         for item in items {
