@@ -2,9 +2,9 @@
 use Rattle.std.proofs.Common.{◌≡◌, ℤ, pos, negsuc, List, [], ◌++◌, refl, ap, ◌∙◌, append_assoc}
 use Rattle.std.specs.Fmt.{signed_decimal}
 use Rattle.json.specs.{Print.print, Token.Token}
-use Rattle.review_json.specs.Tokens.{HasPut, value_tokens}
 use Rattle.serde_json.proofs.Texts.{print-outline}
 use Rattle.serde_json.specs.{Data.Data, Find.of_integer, Written.compact_text, Written.number_text}
+use Rattle.review_json.specs.Tokens.{HasPut, value_tokens}
 
 -- the text of a whole number as JSON is that number in decimal
 pub integer_text : (z : ℤ) → number_text (of_integer z) ≡ signed_decimal z

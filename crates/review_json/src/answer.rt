@@ -1,13 +1,10 @@
 //! The JSON text of a reply.
 ghost use Rattle.std.specs.Prelude.{◌≡◌, ◌++◌, IfOk, OnOk, codes, map, string_bytes};
-ghost use Rattle.serde_json.specs.Data.{member, no_members, object, string};
-ghost use Rattle.serde_json.specs.Written.{compact_text};
-ghost use Rattle.review_words.specs.Faults.{code_name};
-ghost use Rattle.review_words.specs.declared.faults.FileFault.TheVariants.{Expr};
+ghost use Rattle.serde_json.specs.{Data.member, Data.no_members, Data.object, Data.string, Written.compact_text};
+ghost use Rattle.review_words.specs.{Faults.code_name, declared.faults.FileFault.TheVariants.Expr};
 ghost use Rattle.review_words.specs.declared.reply.Answer.TheVariants.{Branch, Change, Patch};
 ghost use Rattle.review_json.specs.Answer.{cause_name, answer_data, bad_file_data, named_fault_data, refusal_data, reply_data, unsatisfied_data};
-ghost use Rattle.review_json.specs.Tokens.{HasPut, value_tokens};
-ghost use Rattle.review_json.specs.Values.{number_data};
+ghost use Rattle.review_json.specs.{Tokens.HasPut, Tokens.value_tokens, Values.number_data};
 
 use crate::text::{JsonText, Written};
 use review_words::{

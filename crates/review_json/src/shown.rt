@@ -2,8 +2,8 @@
 ghost use Rattle.std.specs.Prelude.{◌≡◌, OnOk, Some};
 ghost use Rattle.json.specs.Tree.{members_tokens};
 ghost use Rattle.serde_json.specs.{Data.string, Written.members_outline};
-ghost use Rattle.review_json.specs.Tokens.{HasPut};
 ghost use Rattle.review_json.specs.Shown.{state_name, status_name, vote_data, first_members, last_members, change_data, joined_change_data, requirement_data, with_answered, words_members, comment_data, thread_data, call_data};
+ghost use Rattle.review_json.specs.Tokens.{HasPut};
 
 use crate::text::{JsonText, Written};
 use review_words::{
