@@ -92,7 +92,8 @@ impl Written for Bases {
     ghost value_of = { λ commits. array (texts_data commits) };
 
     fn write_to(&self, text: &mut JsonText) -> Result<(), AllocError> {
-        text.list(self.as_slice())
+        let commits = self.as_slice();
+        text.list(commits)
     }
 }
 
@@ -100,6 +101,7 @@ impl Written for CommentNumbers {
     ghost value_of = { λ comments. array (numbers_data comments) };
 
     fn write_to(&self, text: &mut JsonText) -> Result<(), AllocError> {
-        text.list(self.as_slice())
+        let numbers = self.as_slice();
+        text.list(numbers)
     }
 }
