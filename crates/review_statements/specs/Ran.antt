@@ -1,5 +1,5 @@
 -- What statements do inside a transaction, and what a whole transaction does.
-use Rattle.std.specs.Prelude.{ℕ, ◌≡◌, Bool, true, false, Result, IsTrue, IfErr, IfOk, OnOk, OnErr}
+use Rattle.std.specs.Prelude.{ℕ, ◌≡◌, Bool, true, false, Result, Ok, Err, IsTrue, IfErr, IfOk, OnOk, OnErr}
 use Rattle.sqlite.specs.Effect.{Database, IsDatabase}
 use Rattle.sqlite.specs.{State.State, State.HasCleanDisk, State.Survives, State.KeepsCommit, declared.error.Error.Error}
 use Rattle.sqlite.specs.declared.error.{Error.TheVariants.SqliteFailure, ErrorCode.ErrorCode, ErrorCode.TheVariants.ConstraintViolation}
@@ -34,6 +34,11 @@ Inside Changes = Within (OnDesk Changes)
 -- where it succeeds, the connection is open
 abbrev pub Opens : {X : Type 0} → State → State → Result X Error → Type 0
 Opens old new result = HasCleanDisk new → IsTrue old.in_transaction → OnOk result (IsTrue new.is_open)
+
+-- how many rows a statement says that it changed
+abbrev pub count_in : {E : Type 0} → Result ℕ E → ℕ
+count_in (Ok count) = count
+count_in (Err e) = 0
 
 -- whether an error says that a row breaks a rule of its table, as that no two rows have one key
 abbrev pub is_of_rules : ErrorCode → Bool
