@@ -65,6 +65,7 @@ impl Lookup for Answers {
 }
 
 /// The identity of a request that is to be stored, in the request. Contracts see the key.
+#[derive(Drop)]
 struct KeptKey<'k> {
     kept: &'k Kept,
 }
@@ -79,6 +80,7 @@ impl<'k> Model for KeptKey<'k> {
 }
 
 /// What is stored of a request beside its identity, in the request. Contracts see the row.
+#[derive(Drop)]
 struct KeptAnswer<'k> {
     kept: &'k Kept,
 }
@@ -93,7 +95,7 @@ impl<'k> Model for KeptAnswer<'k> {
 
 // Requests are put in as they are, and none of their texts is copied.
 impl<'k> Table for KeptAnswer<'k> {
-    ghost use Rattle.std.specs.Prelude.{pos};
+    ghost use Rattle.std.specs.Prelude.{◌≡◌, pos};
     ghost use Rattle.review_statements.proofs.TextsOfChanges.{insert_answer, delete_answer};
     ghost use Rattle.review_statements.specs.declared.texts.TheConstants.{INSERT_ANSWER, DELETE_ANSWER};
     ghost use Rattle.review_records.specs.{Forms.answers, Forms.answer_form, Laws.answer_lawful};
@@ -110,11 +112,15 @@ impl<'k> Table for KeptAnswer<'k> {
 
     ghost form = { answer_form };
 
-    fn insert_text() -> &'static str {
+    fn insert_text() -> &'static str
+        ensures { result.now ≡ INSERT_ANSWER.now }
+    {
         texts::INSERT_ANSWER
     }
 
-    fn delete_text() -> &'static str {
+    fn delete_text() -> &'static str
+        ensures { result.now ≡ DELETE_ANSWER.now }
+    {
         texts::DELETE_ANSWER
     }
 

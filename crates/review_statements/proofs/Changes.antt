@@ -27,7 +27,7 @@ at_place P [] at t all is = absurd (cc)
 at_place P (x ∷ tables) zero t all is = let e : x ≡ t = cc in subst P e all.0
 at_place P (x ∷ tables) (suc at) t all is = at_place P tables at t all.1 is
 
-is_there : (tables : List Table) (at : ℕ) (t : Table) → slice_get tables at ≡ Some t → list_any (λ x. eqb x.tree t.tree) tables ≡ true
+pub is_there : (tables : List Table) (at : ℕ) (t : Table) → slice_get tables at ≡ Some t → list_any (λ x. eqb x.tree t.tree) tables ≡ true
 is_there [] at t is = absurd (cc)
 is_there (x ∷ tables) zero t is = let e : x ≡ t = cc in rw (e, (Decides-eqb t.tree t.tree).1 refl) refl
 is_there (x ∷ tables) (suc at) t is = more (eqb x.tree t.tree) _ (is_there tables at t is)

@@ -1,5 +1,5 @@
 -- No two rows of a table have one UNIQUE key.
-use Rattle.std.proofs.Common.{◌≡◌, ◌∙◌, ◌≤◌, ◌&&◌, inl, inr, ℕ, ℤ, List, [], ◌∷◌, Some, filter, get_or, slice_get, length, map, Bool, true, false, not, Ordering, Less, Equal, Greater, refl, sym, ap, subst, IsTrue, arith}
+use Rattle.std.proofs.Common.{◌≡◌, ◌∙◌, ◌≤◌, ◌&&◌, inl, inr, ℕ, zero, suc, ℤ, List, [], ◌∷◌, Some, filter, get_or, slice_get, length, map, Bool, true, false, not, Ordering, Less, Equal, Greater, refl, sym, ap, subst, IsTrue, arith}
 use Rattle.std.proofs.lemmas.Bool.{and_parts, and_from, cases_Bool, or_parts, both_ways}
 use Rattle.std.specs.{List.AllByRecursion, List.list_any, Ordering.is_eq, Ordering.is_ne}
 use Rattle.sqlite.specs.Effect.{Database}
@@ -11,7 +11,7 @@ use Rattle.sqlite_trees.specs.{Tree.rowid, View.is_int}
 use Rattle.sqlite_value.{proofs.OrderLemmas.value_cmp-Null, specs.Keys.plain, specs.Keys.first_key, specs.Order.Row, specs.Order.column, specs.Order.value_cmp}
 use Rattle.sqlite_value.specs.declared.{keys.Collation.TheVariants.Binary, value.Value.Value}
 use Rattle.sqlite_value.specs.declared.value.Value.TheVariants.{Null, Int, Real, Text, Blob}
-use Rattle.review_statements.proofs.{Lists.eq_back, Meaning.equals, Meaning.told_true}
+use Rattle.review_statements.proofs.{Changes.is_there, Lists.eq_back, Meaning.equals, Meaning.told_true}
 use Rattle.review_statements.specs.Content.{has_key, is_value, AreApart}
 use Rattle.review_statements.specs.{Desk.desk_schema, Desk.is_tree, Ran.IsReady, Search.At, Search.rows_at}
 use Rattle.review_tables.proofs.Keys.{int_is as whole_is, itself, same_value}
@@ -104,6 +104,16 @@ by_unique table n key listed unique order is all db ready =
     (λ row has. subst (λ o. clashes o columns rows row ≡ false) order (keys_are_unique desk_schema db.trees table n columns row sound listed unique has))
     (λ r s keyed too other is it. and_from _ _ (agreeing key r s all is it) (differ_ids s r too keyed other))
     rows (λ x h. h) (ready.apart table.tree is)
+
+listed_at : (tables : List Table) (at : ℕ) (t : Table) → slice_get tables at ≡ Some t → Has tables t
+listed_at [] at t is = absurd (cc)
+listed_at (x ∷ tables) zero t is = inl (let e : x ≡ t = cc in sym e)
+listed_at (x ∷ tables) (suc at) t is = inr (listed_at tables at t is)
+
+-- the same of the first UNIQUE of the table at a place
+pub at_place : (at : ℕ) (table : Table) (key : At) → slice_get desk_schema.tables at ≡ Some table → slice_get table.uniques 0 ≡ Some (map (λ c. c.0) key) → get_or table.orders 0 plain ≡ plain → AreThere key
+    → (db : Database) → IsReady db → length (rows_at key (db.trees table.tree)) ≤ 1
+at_place at table key there unique order all = by_unique table 0 key (listed_at desk_schema.tables at table there) unique order (is_there desk_schema.tables at table there) all
 
 -- a rowid has one row, at most
 pub by_rowid : (tree : ℕ) (id : ℤ) → is_tree tree ≡ true → (db : Database) → IsReady db → length (rows_at ((0, Int id) ∷ []) (db.trees tree)) ≤ 1
