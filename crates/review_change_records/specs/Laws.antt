@@ -17,16 +17,15 @@ use Rattle.review_statements.specs.{Content.has_key, Content.is_value, Search.Is
 use Rattle.review_words.specs.Texts.{role_name, role_named}
 use Rattle.review_words.specs.declared.changes.Role.{Role, TheVariants.Reviewer, TheVariants.Cc}
 use Rattle.review_words.specs.declared.shown.State.{State, TheVariants.New, TheVariants.Merged, TheVariants.Abandoned}
-use Rattle.review_statements.specs.Desk as table
-use Rattle.review_tables.proofs.Single.{at_place}
-use Rattle.review_tables.specs.Single.{IsSingle}
 use Rattle.review_tables.proofs.Keys.{equal_is, itself, same_int, same_text, text_is as stored_text}
-use Rattle.review_tables.specs.{Columns.number_in, Columns.text_in, Fronts.IsExact, Fronts.IsFront}
+use Rattle.review_tables.proofs.Single.{at_place}
+use Rattle.review_tables.specs.{Columns.number_in, Columns.text_in, Fronts.IsExact, Fronts.IsFront, Single.IsSingle}
 use Rattle.review_changes.specs.{Seen.vote_cmp, declared.rows.PatchRow.PatchRow, declared.rows.VoteKey.VoteKey}
 use Rattle.review_records.specs.{Forms.where_is, Keyed.is_number, Keyed.is_small}
 use Rattle.review_records.specs.Laws.{at_number, both_are, keyed_number, numbers_exact, one_number, passed, reads_text}
 use Rattle.review_change_records.specs.Forms.{answered, answers_number, call_form, calls, change_calls, change_comments, change_patches, change_roles, change_votes, comment_form, comments, flag_number, flagged, header_form, headers, is_answer, named, patch_form, patched, patches, sent, role_form, roles, state_name, state_named, vote_form, vote_key, votes}
 use Rattle.review_change_records.specs.Paths.{are_read_back, are_same, paths_in, paths_text, were_read}
+use Rattle.review_statements.specs.Desk as table
 use Rattle.review_names.specs.declared.kinds.ChangeKind.TheVariants as kind
 
 -- ---- no two rows have one key

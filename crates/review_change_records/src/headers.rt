@@ -139,9 +139,9 @@ impl Table for Headers {
 
 impl Rewritten for Headers {
     ghost use Rattle.std.specs.Prelude.{pos};
-    ghost use Rattle.review_change_records.specs.Forms.{state_name, flag_number};
     ghost use Rattle.review_statements.proofs.TextsOfChanges.{update_change};
     ghost use Rattle.review_statements.specs.declared.texts.TheConstants.{UPDATE_CHANGE};
+    ghost use Rattle.review_change_records.specs.Forms.{state_name, flag_number};
 
     ghost update_sql = { UPDATE_CHANGE.now };
 

@@ -8,8 +8,8 @@ use Rattle.review_statements.specs.Content.{is_number_below, is_natural, is_text
 use Rattle.review_statements.specs.Search.{Search, Form, with_rowid, with_number}
 use Rattle.review_words.specs.{Epochs.is_epoch, History.Identity}
 use Rattle.review_tables.specs.Columns.{number_in, text_in}
-use Rattle.review_rows.specs.declared.rows.{Base.Base, BranchKey.BranchKey, Kept.Kept, MemberKey.MemberKey, PlaceKey.PlaceKey}
-use Rattle.review_rows.specs.declared.rows.StoredFile.{StoredFile}
+use Rattle.review_rows.specs.declared.rows.{Base.Base, BranchKey.BranchKey, Kept.Kept, MemberKey.MemberKey}
+use Rattle.review_rows.specs.declared.rows.{PlaceKey.PlaceKey, StoredFile.StoredFile}
 use Rattle.review_records.specs.Keyed.{is_small, account_keyed, member_keyed, project_keyed, base_keyed, answer_keyed, earlier_answer_keyed}
 use Rattle.review_records.specs.declared.rows.{Answered.Answered, DeskRow.DeskRow, RequestKey.RequestKey}
 use Rattle.review_statements.specs.Desk as table

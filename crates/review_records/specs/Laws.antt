@@ -9,13 +9,12 @@ use Rattle.sqlite_value.specs.declared.value.Value.TheVariants.{Null, Int, Real,
 use Rattle.review_names.specs.Forms.{is_commit, is_slashed_name, is_step}
 use Rattle.review_names.specs.Names.{is_word, is_account_number}
 use Rattle.review_statements.specs.{Content.is_value, Search.IsLawful}
-use Rattle.review_statements.specs.Desk as table
-use Rattle.review_tables.proofs.Single.{at_place, by_rowid}
-use Rattle.review_tables.specs.Single.{IsSingle}
 use Rattle.review_tables.proofs.Keys.{equal_is, int_is, itself, same_int, same_text, text_is}
-use Rattle.review_tables.specs.{Columns.number_in, Columns.text_in, Fronts.IsExact, Fronts.IsFront}
+use Rattle.review_tables.proofs.Single.{at_place, by_rowid}
+use Rattle.review_tables.specs.{Columns.number_in, Columns.text_in, Fronts.IsExact, Fronts.IsFront, Single.IsSingle}
 use Rattle.review_records.specs.Forms.{where_is, alone, both, member_parts, group_members, base_parts, branch_bases, accounts, account_form, members, member_form, projects, project_form, stored_parent, parent_text, is_parent, stored_file, bases, base_form, answers, answer_form, epochs, epochs_form, desk, desk_form}
 use Rattle.review_records.specs.Keyed.{is_natural, is_number, is_small, is_text}
+use Rattle.review_statements.specs.Desk as table
 
 -- a value that has a number of a kind is one of that kind
 pub keyed_number : (test : ℕ → Bool) (v : Value) (n : ℕ) → test n ≡ true → is_value v (Int (pos n)) ≡ true → is_number test v ≡ true

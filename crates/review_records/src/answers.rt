@@ -127,7 +127,11 @@ impl<'k> Table for KeptAnswer<'k> {
     fn bind_key<'a>(key: &'a KeptKey<'k>) -> Result<Bound<'a>, Error> {
         let kept = key.kept;
         let values = Bound::new().number(account_number(kept.caller));
-        Ok(values.number(epoch_number(kept.epoch)).text(kept.id.as_str()))
+        Ok(
+            values
+                .number(epoch_number(kept.epoch))
+                .text(kept.id.as_str()),
+        )
     }
 
     fn bind_row<'a>(

@@ -4,12 +4,13 @@ use Rattle.std.{proofs.lemmas.Bool.Decides.Decides-eqb, specs.List.AllByRecursio
 use Rattle.sqlite.proofs.Callers.{command_of}
 use Rattle.sqlite.specs.{Effect.value_rows, Listing.understood, State.State, State.Executes}
 use Rattle.sqlite_rules.specs.{Cast.cast_row, Edit.edit_of, Edit.id_in, declared.error.Rowids.TheVariants.Chosen}
-use Rattle.sqlite_schema.specs.declared.{command.Command.TheVariants.Delete, command.Command.TheVariants.Update, schema.Table.Table}
+use Rattle.sqlite_schema.specs.declared.command.Command.TheVariants.{Delete, Update}
+use Rattle.sqlite_schema.specs.declared.schema.Table.{Table}
 use Rattle.sqlite_sql.specs.Term.{Term, col, eval_all}
 use Rattle.sqlite_trees.specs.Tree.{rowid}
 use Rattle.sqlite_value.specs.{Order.Row, Order.column, declared.value.Value.TheVariants.Int}
-use Rattle.review_statements.proofs.Meaning.{tested, tested_below, plain}
-use Rattle.review_statements.proofs.{Queries.passes, Statements.inserts, Statements.updates, Statements.deletes}
+use Rattle.review_statements.proofs.{Meaning.tested, Meaning.tested_below, Meaning.plain, Queries.passes}
+use Rattle.review_statements.proofs.Statements.{inserts, updates, deletes}
 use Rattle.review_statements.specs.Content.{Adds, Remakes, Removes, RemovesWhere, SparesOthers, has_key, is_number_below, is_natural, is_text}
 use Rattle.review_statements.specs.{Desk.simple, Desk.desk_schema, Ran.IsReady, Search.At}
 use Rattle.review_statements.specs.Texts.{Alters, Deletes, DeletesBelow, Inserts, Updates, changed_terms, over_table, tests_below, tests_from, values_of, new_terms}

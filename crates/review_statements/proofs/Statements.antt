@@ -19,13 +19,14 @@ use Rattle.sqlite_schema.specs.declared.command.Source.{Source, TheVariants.Valu
 use Rattle.sqlite_schema.specs.declared.program.Program.{Program}
 use Rattle.sqlite_schema.specs.declared.schema.{Column.Column, Keys.TheVariants.Enforced, Schema.Schema, Table.Table}
 use Rattle.sqlite_sql.specs.{Program.overlay, Term.Term, Term.col, Term.eval_all}
-use Rattle.sqlite_trees.{proofs.ListLemmas.all-permutation, specs.Tree.Trees, specs.Tree.rowid, specs.Tree.put_row, specs.View.is_int}
+use Rattle.sqlite_trees.proofs.ListLemmas.{all-permutation}
+use Rattle.sqlite_trees.specs.{Tree.Trees, Tree.rowid, Tree.put_row, View.is_int}
 use Rattle.sqlite_value.specs.Order.{Row, column}
 use Rattle.sqlite_value.specs.declared.{keys.Order.Order, value.Value.Value, value.Value.TheVariants.Null}
 use Rattle.review_statements.proofs.Lists.{id_of, added, removed, apart_put, apart_filter}
 use Rattle.review_statements.proofs.Moves.{apart_all, put_in_empty}
-use Rattle.review_statements.proofs.Remade.{numbered_given, all_become, all_to_map, remade}
 use Rattle.review_statements.proofs.Queries.{passes, shows, selects}
+use Rattle.review_statements.proofs.Remade.{numbered_given, all_become, all_to_map, remade}
 use Rattle.review_statements.specs.Content.{has_key, AreApart, IsAdded, Adds, Remakes, SparesOthers}
 use Rattle.review_statements.specs.Desk.{simple, desk_schema, is_tree}
 use Rattle.review_statements.specs.{Moved.columns_of, Ran.IsReady, Texts.over_table}

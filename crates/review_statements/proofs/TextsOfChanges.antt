@@ -2,7 +2,8 @@
 use Rattle.std.proofs.Common.{◌≡◌, ◌∙◌, IsTrue, true, ap, ℕ, ℤ, pos, List, [], ◌∷◌, refl}
 use Rattle.std.proofs.lemmas.Bool.{and_parts}
 use Rattle.sqlite.specs.Listing.{understood}
-use Rattle.sqlite_rules.{proofs.TableLemmas.int_is as table_int_is, specs.Cast.cast, specs.Edit.id_in, specs.Edit.next_rowid}
+use Rattle.sqlite_rules.proofs.TableLemmas.{int_is as table_int_is}
+use Rattle.sqlite_rules.specs.{Cast.cast, Edit.id_in, Edit.next_rowid}
 use Rattle.sqlite_schema.specs.declared.schema.Kind.TheVariants.{Integer}
 use Rattle.sqlite_tied.specs.Compute.{everything}
 use Rattle.sqlite_trees.specs.{Tree.rowid, View.is_int}

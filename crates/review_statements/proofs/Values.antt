@@ -1,5 +1,5 @@
 -- Values that keys have.
-use Rattle.std.proofs.Common.{◌≡◌, ◌∙◌, ℤ, Bool, true, false, Ordering, Less, Equal, Greater, sym, ap}
+use Rattle.std.proofs.Common.{◌≡◌, ◌∙◌, ℤ, true, Ordering, Less, Equal, Greater, refl, sym, ap}
 use Rattle.std.{proofs.lemmas.Cmp.tied_itself, specs.Ordering.is_eq}
 use Rattle.sqlite_keyed.proofs.KeyedLemmas.{same_int as whole}
 use Rattle.sqlite_value.proofs.OrderLemmas.{value_cmp_total, value_cmp-Int}
@@ -9,7 +9,7 @@ use Rattle.review_statements.specs.Content.{is_value}
 
 pub equal_is : (o : Ordering) → is_eq o ≡ true → o ≡ Equal
 equal_is Less h = absurd (cc)
-equal_is Equal h = Rattle.std.proofs.Common.refl
+equal_is Equal h = refl
 equal_is Greater h = absurd (cc)
 
 -- two values that a third equals

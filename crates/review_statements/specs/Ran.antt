@@ -1,8 +1,9 @@
 -- What statements do inside a transaction, and what a whole transaction does.
 use Rattle.std.specs.Prelude.{ℕ, ◌≡◌, Bool, true, false, Result, Ok, Err, IsTrue, IfErr, IfOk, OnOk, OnErr}
 use Rattle.sqlite.specs.Effect.{Database, IsDatabase}
-use Rattle.sqlite.specs.{State.State, State.HasCleanDisk, State.Survives, State.KeepsCommit, declared.error.Error.Error}
-use Rattle.sqlite.specs.declared.error.{Error.TheVariants.SqliteFailure, ErrorCode.ErrorCode, ErrorCode.TheVariants.ConstraintViolation}
+use Rattle.sqlite.specs.State.{State, HasCleanDisk, Survives, KeepsCommit}
+use Rattle.sqlite.specs.declared.error.Error.{Error, TheVariants.SqliteFailure}
+use Rattle.sqlite.specs.declared.error.ErrorCode.{ErrorCode, TheVariants.ConstraintViolation}
 use Rattle.sqlite_trees.specs.Tree.{Trees}
 use Rattle.review_statements.specs.{Content.AreApart, Desk.desk_schema, Desk.is_tree}
 

@@ -7,7 +7,8 @@ use Rattle.sqlite_rules.specs.{Cast.cast_row, Edit.edit_of, Edit.id_in, declared
 use Rattle.sqlite_schema.specs.declared.command.Command.{Command}
 use Rattle.sqlite_schema.specs.declared.command.Command.TheVariants.{Insert, Select, Update, Delete}
 use Rattle.sqlite_schema.specs.declared.{command.Source.TheVariants.Values, schema.Column.Column, schema.Table.Table}
-use Rattle.sqlite_sql.specs.{Query.Query, Query.inner, Query.end, Term.Term, Term.lit, Term.col, Term.op1, Term.op2, Term.holds, Term.eval_all}
+use Rattle.sqlite_sql.specs.Query.{Query, inner, end}
+use Rattle.sqlite_sql.specs.Term.{Term, lit, col, op1, op2, holds, eval_all}
 use Rattle.sqlite_sql.specs.declared.ops.BinaryOp.TheVariants.{Compare}
 use Rattle.sqlite_sql.specs.declared.ops.CompareOp.TheVariants.{Eq, Lt}
 use Rattle.sqlite_sql.specs.declared.ops.UnaryOp.TheVariants.{Not, ToNumeric, TypeOf}

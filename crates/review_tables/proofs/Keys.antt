@@ -7,9 +7,9 @@ use Rattle.sqlite_trees.specs.Tree.{Trees}
 use Rattle.sqlite_value.proofs.OrderLemmas.{value_cmp_total, value_cmp-Text}
 use Rattle.sqlite_value.specs.{Order.Row, Order.value_cmp, declared.value.Value.Value}
 use Rattle.sqlite_value.specs.declared.value.Value.TheVariants.{Null, Int, Real, Text, Blob}
-pub use Rattle.review_statements.proofs.Values.{equal_is, same_value, same_whole, int_is}
 use Rattle.review_statements.specs.Content.{has_key, is_value, IsAdded, Remakes, Removes, Sets, SparesOthers, Then}
 use Rattle.review_statements.specs.Search.{At, Search, reads, only, Form, IsLawful, Puts, SetsRow}
+pub use Rattle.review_statements.proofs.Values.{equal_is, same_value, same_whole, int_is}
 
 pub same_int : (v : Value) (m n : ℕ) → is_value v (Int (pos m)) ≡ true → is_value v (Int (pos n)) ≡ true → m ≡ n
 same_int v m n p q = let e = sym (int_is v (pos m) p) ∙ int_is v (pos n) q in cc

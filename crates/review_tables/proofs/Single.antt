@@ -8,7 +8,8 @@ use Rattle.sqlite_rules.{proofs.TableLemmas.int_is, specs.Edit.is_taken, specs.E
 use Rattle.sqlite_schema.specs.{Rules.agree, Rules.clashes, Rules.equal, Rules.differ, declared.schema.Table.Table}
 use Rattle.sqlite_sql.specs.Ops.{binary, is_null}
 use Rattle.sqlite_trees.specs.{Tree.rowid, View.is_int}
-use Rattle.sqlite_value.{proofs.OrderLemmas.value_cmp-Null, specs.Keys.plain, specs.Keys.first_key, specs.Order.Row, specs.Order.column, specs.Order.value_cmp}
+use Rattle.sqlite_value.{proofs.OrderLemmas.value_cmp-Null, specs.Keys.plain, specs.Keys.first_key}
+use Rattle.sqlite_value.specs.Order.{Row, column, value_cmp}
 use Rattle.sqlite_value.specs.declared.{keys.Collation.TheVariants.Binary, value.Value.Value}
 use Rattle.sqlite_value.specs.declared.value.Value.TheVariants.{Null, Int, Real, Text, Blob}
 use Rattle.review_statements.proofs.{Changes.is_there, Lists.eq_back, Meaning.equals, Meaning.told_true}

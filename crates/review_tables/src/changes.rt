@@ -12,7 +12,10 @@ use std::alloc::Global;
 fn is_violation(error: Error) -> bool
     ensures { result ≡ is_violation error }
 {
-    matches!(error, Error::SqliteFailure(ErrorCode::ConstraintViolation(_)))
+    matches!(
+        error,
+        Error::SqliteFailure(ErrorCode::ConstraintViolation(_))
+    )
 }
 
 // Takes away what the table has at a key, and puts this row in.

@@ -65,7 +65,10 @@ pub fn find_parts<F: Front, S: Alter>(
 }
 
 /// Gives a key of an owner this row, or none.
-pub fn change_part<T: Front + Single + Table<Key = (<T as Lookup>::Key, <T as Front>::Part)>, S: Alter>(
+pub fn change_part<
+    T: Front + Single + Table<Key = (<T as Lookup>::Key, <T as Front>::Part)>,
+    S: Alter,
+>(
     tx: &mut Transaction<'_, S>,
     alloc: Global,
     owner: &<T as Lookup>::Key,
@@ -83,7 +86,10 @@ where
 }
 
 /// Makes the changes of an owner's rows, the last first, so that the first of a key stands.
-pub fn change_parts<T: Front + Single + Table<Key = (<T as Lookup>::Key, <T as Front>::Part)>, S: Alter>(
+pub fn change_parts<
+    T: Front + Single + Table<Key = (<T as Lookup>::Key, <T as Front>::Part)>,
+    S: Alter,
+>(
     tx: &mut Transaction<'_, S>,
     alloc: Global,
     owner: &<T as Lookup>::Key,

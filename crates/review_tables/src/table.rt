@@ -1,8 +1,9 @@
 //! Tables: the texts that look rows up, put them in and take them away, and how rows read and are stored.
 ghost use Rattle.std.specs.Prelude.{◌≡◌, true, IfOk, OnOk};
 ghost use Rattle.sqlite.specs.Held.{state};
-ghost use Rattle.review_statements.specs.{Content.Remakes, Content.Removes, Ran.Inside, Ran.Looks, Ran.Opens, Ran.Refuses, Ran.count_in, Search.Finds, Search.Puts};
-ghost use Rattle.review_statements.specs.Texts.{values_of};
+ghost use Rattle.review_statements.specs.Content.{Remakes, Removes};
+ghost use Rattle.review_statements.specs.Ran.{Inside, Looks, Opens, Refuses, count_in};
+ghost use Rattle.review_statements.specs.{Search.Finds, Search.Puts, Texts.values_of};
 
 use crate::bound::Bound;
 use sqlite::{Alter, Error, Row, Transaction};
