@@ -18,13 +18,32 @@ use Rattle.review_words.specs.Texts.{role_name, role_named}
 use Rattle.review_words.specs.declared.changes.Role.{Role, TheVariants.Reviewer, TheVariants.Cc}
 use Rattle.review_words.specs.declared.shown.State.{State, TheVariants.New, TheVariants.Merged, TheVariants.Abandoned}
 use Rattle.review_tables.proofs.Keys.{equal_is, itself, same_int, same_text, text_is as stored_text}
-use Rattle.review_tables.specs.{Columns.number_in, Columns.text_in, Fronts.IsExact, Fronts.IsFront}
+use Rattle.review_tables.proofs.Single.{at_place}
+use Rattle.review_tables.specs.{Columns.number_in, Columns.text_in, Fronts.IsExact, Fronts.IsFront, Single.IsSingle}
 use Rattle.review_changes.specs.{Seen.vote_cmp, declared.rows.PatchRow.PatchRow, declared.rows.VoteKey.VoteKey}
 use Rattle.review_records.specs.{Forms.where_is, Keyed.is_number, Keyed.is_small}
 use Rattle.review_records.specs.Laws.{at_number, both_are, keyed_number, numbers_exact, one_number, passed, reads_text}
 use Rattle.review_change_records.specs.Forms.{answered, answers_number, call_form, calls, change_calls, change_comments, change_patches, change_roles, change_votes, comment_form, comments, flag_number, flagged, header_form, headers, is_answer, named, patch_form, patched, patches, sent, role_form, roles, state_name, state_named, vote_form, vote_key, votes}
 use Rattle.review_change_records.specs.Paths.{are_read_back, are_same, paths_in, paths_text, were_read}
+use Rattle.review_statements.specs.Desk as table
 use Rattle.review_names.specs.declared.kinds.ChangeKind.TheVariants as kind
+
+-- ---- no two rows have one key
+
+pub patch_single : IsSingle patches
+patch_single db ready p = at_place 4 table.patches (patches.at p) refl refl refl (refl, (refl, tt)) db ready
+
+pub vote_single : IsSingle votes
+vote_single db ready p = at_place 5 table.votes (votes.at p) refl refl refl (refl, (refl, (refl, (refl, tt)))) db ready
+
+pub role_single : IsSingle roles
+role_single db ready p = at_place 6 table.reviewers (roles.at p) refl refl refl (refl, (refl, tt)) db ready
+
+pub comment_single : IsSingle comments
+comment_single db ready p = at_place 7 table.comments (comments.at p) refl refl refl (refl, (refl, tt)) db ready
+
+pub call_single : IsSingle calls
+call_single db ready p = at_place 8 table.attention (calls.at p) refl refl refl (refl, (refl, tt)) db ready
 
 -- ---- values
 

@@ -7,7 +7,7 @@ use review_statements::texts;
 use review_tables::bound::Bound;
 use review_tables::columns::number_at;
 use review_tables::fronts::Front;
-use review_tables::table::{Lookup, Table};
+use review_tables::table::{Lookup, Single, Table};
 use review_words::{AccountNo, ChangeNo};
 use sqlite::{Error, Row};
 use std::alloc::{AllocError, Global};
@@ -107,4 +107,10 @@ impl Table for Calls {
     ghost deletes = { λ p. delete_attention (pos p.0) (pos p.1) };
 
     ghost lawful = { call_lawful };
+}
+
+impl Single for Calls {
+    ghost use Rattle.review_change_records.specs.Laws.{call_single};
+
+    ghost single = { call_single };
 }

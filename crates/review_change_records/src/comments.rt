@@ -10,7 +10,7 @@ use review_statements::texts;
 use review_tables::bound::Bound;
 use review_tables::columns::number_at;
 use review_tables::fronts::Front;
-use review_tables::table::{Lookup, Table};
+use review_tables::table::{Lookup, Single, Table};
 use review_words::{ChangeNo, CommentNo};
 use sqlite::{Error, Row};
 use std::alloc::{AllocError, Global};
@@ -145,4 +145,10 @@ impl Table for Comments {
     ghost deletes = { λ p. delete_comment (pos p.0) (pos p.1) };
 
     ghost lawful = { comment_lawful };
+}
+
+impl Single for Comments {
+    ghost use Rattle.review_change_records.specs.Laws.{comment_single};
+
+    ghost single = { comment_single };
 }

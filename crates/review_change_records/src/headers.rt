@@ -8,7 +8,7 @@ use review_statements::texts;
 use review_tables::bound::Bound;
 use review_tables::columns::number_at;
 use review_tables::greatest::Greatest;
-use review_tables::table::{Lookup, Table};
+use review_tables::table::{Lookup, Rewritten, Table};
 use review_words::ChangeNo;
 use sqlite::{Error, Row};
 use std::alloc::{AllocError, Global};
@@ -111,6 +111,7 @@ impl Table for Headers {
         _buffer: &'a mut String,
     ) -> Result<Bound<'a>, Error>
         ensures values { IfOk result (λ values. values ≡ header_form.values key.now row.now) }
+        ensures formed { OnOk result (header_form.is_key key.now ≡ true) }
         ensures good { OnOk result (header_form.is_good row.now ≡ true) }
         ensures large { IfErr result (λ e. 2 ^ 63 ≤ row.now.updated) }
     {
@@ -134,6 +135,21 @@ impl Table for Headers {
     ghost deletes = { λ number. delete_change (pos number) };
 
     ghost lawful = { header_lawful };
+}
+
+impl Rewritten for Headers {
+    ghost use Rattle.std.specs.Prelude.{pos};
+    ghost use Rattle.review_statements.proofs.TextsOfChanges.{update_change};
+    ghost use Rattle.review_statements.specs.declared.texts.TheConstants.{UPDATE_CHANGE};
+    ghost use Rattle.review_change_records.specs.Forms.{state_name, flag_number};
+
+    ghost update_sql = { UPDATE_CHANGE.now };
+
+    fn update_text() -> &'static str {
+        texts::UPDATE_CHANGE
+    }
+
+    ghost updates = { λ number h. update_change (pos number) h.project h.branch h.subject (pos h.owner) (state_name h.state) (pos (flag_number h.wip)) (pos h.place) (pos h.updated) };
 }
 
 /// The greatest number of a change.

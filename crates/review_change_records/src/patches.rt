@@ -12,7 +12,7 @@ use review_tables::bound::Bound;
 use review_tables::columns::text_at;
 use review_tables::fronts::Front;
 use review_tables::greatest::Greatest;
-use review_tables::table::{Lookup, Table};
+use review_tables::table::{Lookup, Single, Table};
 use review_words::{ChangeNo, PatchNo};
 use sqlite::{Error, Row};
 use std::alloc::{AllocError, Global};
@@ -221,4 +221,10 @@ impl Table for Patches {
     ghost deletes = { λ p. delete_patch (pos p.0) (pos p.1) };
 
     ghost lawful = { patch_lawful };
+}
+
+impl Single for Patches {
+    ghost use Rattle.review_change_records.specs.Laws.{patch_single};
+
+    ghost single = { patch_single };
 }

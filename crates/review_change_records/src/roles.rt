@@ -5,7 +5,7 @@ use review_records::names::{account_at, account_number};
 use review_statements::texts;
 use review_tables::bound::Bound;
 use review_tables::fronts::Front;
-use review_tables::table::{Lookup, Table};
+use review_tables::table::{Lookup, Single, Table};
 use review_words::{AccountNo, ChangeNo, Role};
 use sqlite::{Error, Row};
 use std::alloc::{AllocError, Global};
@@ -105,4 +105,10 @@ impl Table for Roles {
     ghost deletes = { λ p. delete_reviewer (pos p.0) (pos p.1) };
 
     ghost lawful = { role_lawful };
+}
+
+impl Single for Roles {
+    ghost use Rattle.review_change_records.specs.Laws.{role_single};
+
+    ghost single = { role_single };
 }

@@ -6,7 +6,7 @@ use review_records::names::{account_at, account_number, name_at};
 use review_statements::texts;
 use review_tables::bound::Bound;
 use review_tables::fronts::Front;
-use review_tables::table::{Lookup, Table};
+use review_tables::table::{Lookup, Single, Table};
 use review_words::ChangeNo;
 use sqlite::{Error, Row};
 use std::alloc::{AllocError, Global};
@@ -122,4 +122,10 @@ impl Table for Votes {
     ghost deletes = { λ p. delete_vote (pos p.0) (pos p.1.patch) p.1.label (pos p.1.account) };
 
     ghost lawful = { vote_lawful };
+}
+
+impl Single for Votes {
+    ghost use Rattle.review_change_records.specs.Laws.{vote_single};
+
+    ghost single = { vote_single };
 }

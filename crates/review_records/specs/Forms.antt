@@ -1,5 +1,5 @@
 -- The tables that are not of changes: how their rows are looked up and stored.
-use Rattle.std.specs.Prelude.{nat_le, ℕ, pos, ◌&&◌, Bool, List, [], ◌∷◌, Option, Some, None, option_map, if◌then◌else◌}
+use Rattle.std.specs.Prelude.{nat_le, string_bytes, ℕ, pos, ◌&&◌, Bool, List, [], ◌∷◌, Option, Some, None, option_map, if◌then◌else◌}
 use Rattle.std.specs.Str.{is_utf8}
 use Rattle.sqlite_value.specs.Order.{Row, column}
 use Rattle.sqlite_value.specs.declared.value.Value.TheVariants.{Int, Text}
@@ -8,8 +8,8 @@ use Rattle.review_statements.specs.Content.{is_number_below, is_natural, is_text
 use Rattle.review_statements.specs.Search.{Search, Form, with_rowid, with_number}
 use Rattle.review_words.specs.{Epochs.is_epoch, History.Identity}
 use Rattle.review_tables.specs.Columns.{number_in, text_in}
-use Rattle.review_rows.specs.declared.rows.{Base.Base, BranchKey.BranchKey, MemberKey.MemberKey, PlaceKey.PlaceKey}
-use Rattle.review_rows.specs.declared.rows.StoredFile.{StoredFile}
+use Rattle.review_rows.specs.declared.rows.{Base.Base, BranchKey.BranchKey, Kept.Kept, MemberKey.MemberKey}
+use Rattle.review_rows.specs.declared.rows.{PlaceKey.PlaceKey, StoredFile.StoredFile}
 use Rattle.review_records.specs.Keyed.{is_small, account_keyed, member_keyed, project_keyed, base_keyed, answer_keyed, earlier_answer_keyed}
 use Rattle.review_records.specs.declared.rows.{Answered.Answered, DeskRow.DeskRow, RequestKey.RequestKey}
 use Rattle.review_statements.specs.Desk as table
@@ -177,6 +177,10 @@ is_of_lower least r = is_number_below least (column r 2) && (is_natural (column 
 -- the key of an identity
 abbrev pub request_key : Identity → RequestKey
 request_key i = record { caller = i.caller; epoch = i.epoch; id = i.id }
+
+-- what is stored of a request beside its identity
+abbrev pub kept_answer : Kept → Answered
+kept_answer k = record { request = k.request; content = string_bytes k.content; reply = string_bytes k.reply }
 
 -- the epoch of all requests of versions 1 and 2
 abbrev pub first_epoch : ℕ

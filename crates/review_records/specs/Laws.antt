@@ -10,9 +10,11 @@ use Rattle.review_names.specs.Forms.{is_commit, is_slashed_name, is_step}
 use Rattle.review_names.specs.Names.{is_word, is_account_number}
 use Rattle.review_statements.specs.{Content.is_value, Search.IsLawful}
 use Rattle.review_tables.proofs.Keys.{equal_is, int_is, itself, same_int, same_text, text_is}
-use Rattle.review_tables.specs.{Columns.number_in, Columns.text_in, Fronts.IsExact, Fronts.IsFront}
+use Rattle.review_tables.proofs.Single.{at_place, by_rowid}
+use Rattle.review_tables.specs.{Columns.number_in, Columns.text_in, Fronts.IsExact, Fronts.IsFront, Single.IsSingle}
 use Rattle.review_records.specs.Forms.{where_is, alone, both, member_parts, group_members, base_parts, branch_bases, accounts, account_form, members, member_form, projects, project_form, stored_parent, parent_text, is_parent, stored_file, bases, base_form, answers, answer_form, epochs, epochs_form, desk, desk_form}
 use Rattle.review_records.specs.Keyed.{is_natural, is_number, is_small, is_text}
+use Rattle.review_statements.specs.Desk as table
 
 -- a value that has a number of a kind is one of that kind
 pub keyed_number : (test : ℕ → Bool) (v : Value) (n : ℕ) → test n ≡ true → is_value v (Int (pos n)) ≡ true → is_number test v ≡ true
@@ -124,6 +126,23 @@ epochs_lawful = record { keyed = λ u least id. refl; reads_back = λ u least id
 
 pub desk_lawful : IsLawful desk desk_form
 desk_lawful = record { keyed = λ u d id. refl; reads_back = λ u d id good. refl; exact = λ a b r p q. refl; known = λ u r formed has. refl }
+
+-- ---- no two rows have one key
+
+pub account_single : IsSingle accounts
+account_single db ready number = by_rowid table.accounts.tree (pos number) refl db ready
+
+pub member_single : IsSingle members
+member_single db ready m = at_place 1 table.members (members.at m) refl refl refl (refl, (refl, tt)) db ready
+
+pub base_single : IsSingle bases
+base_single db ready b = at_place 2 table.bases (bases.at b) refl refl refl (refl, (refl, (refl, tt))) db ready
+
+pub project_single : IsSingle projects
+project_single db ready project = at_place 10 table.projects_2 (projects.at project) refl refl refl (refl, tt) db ready
+
+pub answer_single : IsSingle answers
+answer_single db ready i = at_place 11 table.answers_3 (answers.at i) refl refl refl (refl, (refl, (refl, tt))) db ready
 
 -- ---- the rows of an owner
 

@@ -5,7 +5,7 @@ use review_statements::texts;
 use review_tables::bound::Bound;
 use review_tables::columns::number_at;
 use review_tables::greatest::Greatest;
-use review_tables::table::{Lookup, Table};
+use review_tables::table::{Lookup, Single, Table};
 use review_words::{AccountName, AccountNo};
 use sqlite::{Error, Row};
 use std::alloc::{AllocError, Global};
@@ -78,7 +78,7 @@ impl Table for Accounts {
         row: &'a AccountName,
         _buffer: &'a mut String,
     ) -> Result<Bound<'a>, Error> {
-        Ok(Bound::new().number(key.get()).text(row.as_str()))
+        Ok(Accounts::bind_key(key)?.text(row.as_str()))
     }
 
     ghost inserts = { λ number name. insert_account (pos number) name };
@@ -86,6 +86,12 @@ impl Table for Accounts {
     ghost deletes = { λ number. delete_account (pos number) };
 
     ghost lawful = { account_lawful };
+}
+
+impl Single for Accounts {
+    ghost use Rattle.review_records.specs.Laws.{account_single};
+
+    ghost single = { account_single };
 }
 
 /// The accounts by their names.

@@ -1,9 +1,9 @@
 //! The stored requests.
-ghost use Rattle.std.specs.Prelude.{◌≡◌, Some, string_bytes, IfOk};
+ghost use Rattle.std.specs.Prelude.{◌≡◌, Some};
 ghost use Rattle.sqlite.specs.Held.{state};
 ghost use Rattle.review_statements.specs.{Content.RemovesWhere, Ran.Inside, Ran.Opens, Search.SetsRow};
 ghost use Rattle.review_rows.specs.Rows.{kept_row};
-ghost use Rattle.review_records.specs.Forms.{answers, is_of_lower, request_key};
+ghost use Rattle.review_records.specs.Forms.{answers, is_of_lower, kept_answer, request_key};
 
 use crate::names::{account_number, epoch_number};
 use crate::rows::{Answered, RequestKey, Text};
@@ -12,10 +12,11 @@ use review_statements::texts;
 use review_tables::bound::Bound;
 use review_tables::changes::set;
 use review_tables::columns::{number_at, text_at};
-use review_tables::table::{Lookup, Table};
+use review_tables::table::{Lookup, Single, Table};
 use review_words::Epoch;
 use sqlite::{Alter, Error, Row, Transaction};
 use std::alloc::{AllocError, Global};
+use std::marker::Model;
 
 /// The stored requests, by their identities.
 pub struct Answers;
@@ -63,15 +64,45 @@ impl Lookup for Answers {
     ghost asks = { λ i. find_answer (pos i.caller) (pos i.epoch) i.id };
 }
 
-impl Table for Answers {
-    ghost use Rattle.std.specs.Prelude.{pos};
+/// The identity of a request that is to be stored, in the request. Contracts see the key.
+#[derive(Drop)]
+struct KeptKey<'k> {
+    kept: &'k Kept,
+}
+
+impl<'k> Model for KeptKey<'k> {
+    ghost use Rattle.review_rows.specs.Rows.{kept_row};
+    ghost use Rattle.review_records.specs.{Forms.request_key, declared.rows.RequestKey.RequestKey};
+
+    ghost Value = { RequestKey };
+
+    ghost view = { λ k. request_key (kept_row k.kept.now).identity };
+}
+
+/// What is stored of a request beside its identity, in the request. Contracts see the row.
+#[derive(Drop)]
+struct KeptAnswer<'k> {
+    kept: &'k Kept,
+}
+
+impl<'k> Model for KeptAnswer<'k> {
+    ghost use Rattle.review_records.specs.{Forms.kept_answer, declared.rows.Answered.Answered};
+
+    ghost Value = { Answered };
+
+    ghost view = { λ a. kept_answer a.kept.now };
+}
+
+// Requests are put in as they are, and none of their texts is copied.
+impl<'k> Table for KeptAnswer<'k> {
+    ghost use Rattle.std.specs.Prelude.{◌≡◌, pos};
     ghost use Rattle.review_statements.proofs.TextsOfChanges.{insert_answer, delete_answer};
     ghost use Rattle.review_statements.specs.declared.texts.TheConstants.{INSERT_ANSWER, DELETE_ANSWER};
     ghost use Rattle.review_records.specs.{Forms.answers, Forms.answer_form, Laws.answer_lawful};
 
-    type Key = RequestKey;
+    type Key = KeptKey<'k>;
 
-    type Item = Answered;
+    type Item = KeptAnswer<'k>;
 
     ghost insert_sql = { INSERT_ANSWER.now };
 
@@ -81,27 +112,37 @@ impl Table for Answers {
 
     ghost form = { answer_form };
 
-    fn insert_text() -> &'static str {
+    fn insert_text() -> &'static str
+        ensures { result.now ≡ INSERT_ANSWER.now }
+    {
         texts::INSERT_ANSWER
     }
 
-    fn delete_text() -> &'static str {
+    fn delete_text() -> &'static str
+        ensures { result.now ≡ DELETE_ANSWER.now }
+    {
         texts::DELETE_ANSWER
     }
 
-    fn bind_key<'a>(key: &'a RequestKey) -> Result<Bound<'a>, Error> {
-        let values = Bound::new().number(account_number(key.caller));
-        Ok(values.number(epoch_number(key.epoch)).text(key.id.as_str()))
+    fn bind_key<'a>(key: &'a KeptKey<'k>) -> Result<Bound<'a>, Error> {
+        let kept = key.kept;
+        let values = Bound::new().number(account_number(kept.caller));
+        Ok(
+            values
+                .number(epoch_number(kept.epoch))
+                .text(kept.id.as_str()),
+        )
     }
 
     fn bind_row<'a>(
         _alloc: Global,
-        key: &'a RequestKey,
-        row: &'a Answered,
+        key: &'a KeptKey<'k>,
+        row: &'a KeptAnswer<'k>,
         _buffer: &'a mut String,
     ) -> Result<Bound<'a>, Error> {
-        let values = Answers::bind(key)?.large(row.request)?;
-        Ok(values.text(row.content.as_str()).text(row.reply.as_str()))
+        let kept = row.kept;
+        let values = KeptAnswer::bind_key(key)?.large(kept.request)?;
+        Ok(values.text(kept.content.as_str()).text(kept.reply.as_str()))
     }
 
     ghost inserts = { λ i a. insert_answer (pos i.caller) (pos i.epoch) i.id (pos a.request) a.content a.reply };
@@ -111,37 +152,19 @@ impl Table for Answers {
     ghost lawful = { answer_lawful };
 }
 
-// The identity of a request that is to be stored.
-fn key_of(alloc: Global, kept: &Kept) -> Result<RequestKey, AllocError>
-    ensures { IfOk result (λ key. key ≡ request_key (kept_row kept.now).identity) }
-{
-    Ok(RequestKey {
-        caller: kept.caller,
-        epoch: kept.epoch,
-        id: kept.id.copy(alloc)?,
-    })
-}
+impl<'k> Single for KeptAnswer<'k> {
+    ghost use Rattle.review_records.specs.Laws.{answer_single};
 
-// The rest of a request that is to be stored.
-fn rest_of(alloc: Global, kept: &Kept) -> Result<Answered, AllocError>
-    ensures { IfOk result (λ row. row ≡ record { request = kept.now.request; content = string_bytes kept.now.content; reply = string_bytes kept.now.reply }) }
-{
-    Ok(Answered {
-        request: kept.request,
-        content: Text::copy(alloc, kept.content.as_str())?,
-        reply: Text::copy(alloc, kept.reply.as_str())?,
-    })
+    ghost single = { answer_single };
 }
 
 /// Stores a request in the place of what its identity has.
 pub fn put<S: Alter>(tx: &mut Transaction<'_, S>, alloc: Global, kept: &Kept) -> Result<(), Error>
     ensures same_reference { tx.new.conn.ghost_name ≡ tx.old.conn.ghost_name }
-    ensures ran { Inside (SetsRow answers (request_key (kept_row kept.now).identity) (Some (record { request = kept.now.request; content = string_bytes kept.now.content; reply = string_bytes kept.now.reply }))) (state S.Store tx.old.conn.now) (state S.Store tx.new.conn.now) result }
+    ensures ran { Inside (SetsRow answers (request_key (kept_row kept.now).identity) (Some (kept_answer kept.now))) (state S.Store tx.old.conn.now) (state S.Store tx.new.conn.now) result }
     ensures open { Opens (state S.Store tx.old.conn.now) (state S.Store tx.new.conn.now) result }
 {
-    let key = key_of(alloc, kept)?;
-    let row = rest_of(alloc, kept)?;
-    set::<Answers, S>(tx, alloc, &key, &row)
+    set::<KeptAnswer, S>(tx, alloc, &KeptKey { kept }, &KeptAnswer { kept })
 }
 
 /// Takes away the stored requests of all identities whose epoch is lower than this one. A row that is of no identity, as one with a negative caller, stays.

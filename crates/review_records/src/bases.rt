@@ -14,7 +14,7 @@ use review_tables::bound::Bound;
 use review_tables::columns::number_at;
 use review_tables::fronts::Front;
 use review_tables::greatest::Greatest;
-use review_tables::table::{Lookup, Table};
+use review_tables::table::{Lookup, Single, Table};
 use review_words::{CommitName, ProjectName};
 use sqlite::{Alter, Error, Row, Transaction};
 use std::alloc::{AllocError, Global};
@@ -92,7 +92,7 @@ impl Table for Bases {
         row: &'a CommitName,
         _buffer: &'a mut String,
     ) -> Result<Bound<'a>, Error> {
-        let values = Bases::bind(key)?;
+        let values = Bases::bind_key(key)?;
         Ok(values.text(row.as_str()))
     }
 
@@ -101,6 +101,12 @@ impl Table for Bases {
     ghost deletes = { λ b. delete_base b.project b.branch (pos b.place) };
 
     ghost lawful = { base_lawful };
+}
+
+impl Single for Bases {
+    ghost use Rattle.review_records.specs.Laws.{base_single};
+
+    ghost single = { base_single };
 }
 
 /// The places of a commit in a branch.

@@ -4,7 +4,7 @@ use crate::rows::DeskRow;
 use review_statements::texts;
 use review_tables::bound::Bound;
 use review_tables::columns::number_at;
-use review_tables::table::{Lookup, Table};
+use review_tables::table::{Lookup, Rewritten, Table};
 use sqlite::{Error, Row};
 use std::alloc::{AllocError, Global};
 
@@ -86,4 +86,18 @@ impl Table for Desk {
     ghost deletes = { λ _. delete_desk };
 
     ghost lawful = { desk_lawful };
+}
+
+impl Rewritten for Desk {
+    ghost use Rattle.std.specs.Prelude.{pos};
+    ghost use Rattle.review_statements.proofs.TextsOfChanges.{update_desk};
+    ghost use Rattle.review_statements.specs.declared.texts.TheConstants.{UPDATE_DESK};
+
+    ghost update_sql = { UPDATE_DESK.now };
+
+    fn update_text() -> &'static str {
+        texts::UPDATE_DESK
+    }
+
+    ghost updates = { λ _ d. update_desk (pos d.version) (pos d.requests) };
 }

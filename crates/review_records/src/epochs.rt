@@ -3,7 +3,7 @@
 use crate::names::{epoch_at, epoch_number};
 use review_statements::texts;
 use review_tables::bound::Bound;
-use review_tables::table::{Lookup, Table};
+use review_tables::table::{Lookup, Rewritten, Table};
 use review_words::Epoch;
 use sqlite::{Error, Row};
 use std::alloc::{AllocError, Global};
@@ -83,4 +83,18 @@ impl Table for Epochs {
     ghost deletes = { λ _. delete_epochs };
 
     ghost lawful = { epochs_lawful };
+}
+
+impl Rewritten for Epochs {
+    ghost use Rattle.std.specs.Prelude.{pos};
+    ghost use Rattle.review_statements.proofs.TextsOfChanges.{update_epochs};
+    ghost use Rattle.review_statements.specs.declared.texts.TheConstants.{UPDATE_EPOCHS};
+
+    ghost update_sql = { UPDATE_EPOCHS.now };
+
+    fn update_text() -> &'static str {
+        texts::UPDATE_EPOCHS
+    }
+
+    ghost updates = { λ _ least. update_epochs (pos least) };
 }

@@ -5,7 +5,7 @@ use review_rows::MemberKey;
 use review_statements::texts;
 use review_tables::bound::Bound;
 use review_tables::fronts::Front;
-use review_tables::table::{Lookup, Table};
+use review_tables::table::{Lookup, Single, Table};
 use review_words::{AccountNo, GroupName};
 use sqlite::{Error, Row};
 use std::alloc::{AllocError, Global};
@@ -83,7 +83,7 @@ impl Table for Members {
         _row: &'a (),
         _buffer: &'a mut String,
     ) -> Result<Bound<'a>, Error> {
-        Members::bind(key)
+        Members::bind_key(key)
     }
 
     ghost inserts = { λ m row. insert_member m.group (pos m.account) };
@@ -91,6 +91,12 @@ impl Table for Members {
     ghost deletes = { λ m. delete_member m.group (pos m.account) };
 
     ghost lawful = { member_lawful };
+}
+
+impl Single for Members {
+    ghost use Rattle.review_records.specs.Laws.{member_single};
+
+    ghost single = { member_single };
 }
 
 /// The members of a group, by their accounts.

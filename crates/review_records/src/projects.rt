@@ -13,7 +13,7 @@ use review_rows::StoredFile;
 use review_statements::texts;
 use review_tables::bound::Bound;
 use review_tables::columns::text_at;
-use review_tables::table::{Lookup, Table};
+use review_tables::table::{Lookup, Single, Table};
 use review_words::{FileText, ProjectName};
 use sqlite::{Alter, Error, Row, Transaction};
 use std::alloc::{AllocError, Global};
@@ -124,6 +124,12 @@ impl Table for Projects {
     ghost deletes = { delete_project };
 
     ghost lawful = { project_lawful };
+}
+
+impl Single for Projects {
+    ghost use Rattle.review_records.specs.Laws.{project_single};
+
+    ghost single = { project_single };
 }
 
 /// The projects without their files.

@@ -3,15 +3,17 @@ use Rattle.std.proofs.Common.{◌≡◌, ◌∙◌, ◌/◌, ℕ, suc, zero, ℤ
 use Rattle.std.{proofs.lemmas.Bool.Decides.Decides-eqb, specs.List.AllByRecursion, specs.List.list_any}
 use Rattle.sqlite.proofs.Callers.{command_of}
 use Rattle.sqlite.specs.{Effect.value_rows, Listing.understood, State.State, State.Executes}
-use Rattle.sqlite_rules.specs.{Edit.edit_of, declared.error.Rowids.TheVariants.Chosen}
-use Rattle.sqlite_schema.specs.declared.{command.Command.TheVariants.Delete, schema.Table.Table}
-use Rattle.sqlite_sql.specs.Term.{Term, col}
+use Rattle.sqlite_rules.specs.{Cast.cast_row, Edit.edit_of, Edit.id_in, declared.error.Rowids.TheVariants.Chosen}
+use Rattle.sqlite_schema.specs.declared.command.Command.TheVariants.{Delete, Update}
+use Rattle.sqlite_schema.specs.declared.schema.Table.{Table}
+use Rattle.sqlite_sql.specs.Term.{Term, col, eval_all}
+use Rattle.sqlite_trees.specs.Tree.{rowid}
 use Rattle.sqlite_value.specs.{Order.Row, Order.column, declared.value.Value.TheVariants.Int}
-use Rattle.review_statements.proofs.Meaning.{tested, tested_below, plain}
-use Rattle.review_statements.proofs.{Queries.passes, Statements.inserts, Statements.deletes}
-use Rattle.review_statements.specs.Content.{Adds, Removes, RemovesWhere, SparesOthers, has_key, is_number_below, is_natural, is_text}
+use Rattle.review_statements.proofs.{Meaning.tested, Meaning.tested_below, Meaning.plain, Queries.passes}
+use Rattle.review_statements.proofs.Statements.{inserts, updates, deletes}
+use Rattle.review_statements.specs.Content.{Adds, Remakes, Removes, RemovesWhere, SparesOthers, has_key, is_number_below, is_natural, is_text}
 use Rattle.review_statements.specs.{Desk.simple, Desk.desk_schema, Ran.IsReady, Search.At}
-use Rattle.review_statements.specs.Texts.{Alters, Deletes, DeletesBelow, Inserts, over_table, tests_below, tests_from, values_of, new_terms}
+use Rattle.review_statements.specs.Texts.{Alters, Deletes, DeletesBelow, Inserts, Updates, changed_terms, over_table, tests_below, tests_from, values_of, new_terms}
 
 -- ---- the tables of a desk
 
@@ -26,7 +28,7 @@ at_place P [] at t all is = absurd (cc)
 at_place P (x ∷ tables) zero t all is = let e : x ≡ t = cc in subst P e all.0
 at_place P (x ∷ tables) (suc at) t all is = at_place P tables at t all.1 is
 
-is_there : (tables : List Table) (at : ℕ) (t : Table) → slice_get tables at ≡ Some t → list_any (λ x. eqb x.tree t.tree) tables ≡ true
+pub is_there : (tables : List Table) (at : ℕ) (t : Table) → slice_get tables at ≡ Some t → list_any (λ x. eqb x.tree t.tree) tables ≡ true
 is_there [] at t is = absurd (cc)
 is_there (x ∷ tables) zero t is = let e : x ≡ t = cc in rw (e, (Decides-eqb t.tree t.tree).1 refl) refl
 is_there (x ∷ tables) (suc at) t is = more (eqb x.tree t.tree) _ (is_there tables at t is)
@@ -67,3 +69,16 @@ module _ (sql : List ℕ) (old new : State) (has : IsReady old.now) (count : ℕ
       let done = inserts t.name t.tree t.columns t.key t.primary t.uniques t.orders sql values old new has it.alters.plain it.alters.at (it.alters.there ∙ ap Some simply) (is_there desk_schema.tables it.alters.at t it.alters.there)
       terms (length terms) it.alters.is count h (stored row.0) news in
       (done.0, (row.0, subst (λ n. Adds n (stored row.0) old.now.trees new.now.trees) it.alters.tree_is done.1))
+
+  -- the rows of a key are given other values
+  pub updated : (tree : ℕ) (key : At) (values : Row) (stored : ℤ → Row) → Updates sql tree key values stored → ((id : ℤ) → has_key key (stored id) ≡ true) → Executes sql values old new (Ok count)
+      → IsReady new.now × Remakes tree key stored count old.now.trees new.now.trees
+  updated tree key values stored it keyed h =
+      let t = it.alters.table in
+      let terms = changed_terms t in
+      let simply = at_place IsSimple desk_schema.tables it.alters.at t are_simple it.alters.there in
+      let is : command_of (understood desk_schema sql) ≡ Update it.alters.at (record { lets = []; body = over_table t.tree (tests_from 0 key) (col 1 0 ∷ terms) [] }) =
+      subst (λ n. command_of (understood desk_schema sql) ≡ Update it.alters.at (record { lets = []; body = over_table n (tests_from 0 key) (col 1 0 ∷ terms) [] })) (sym it.alters.tree_is) it.alters.is in
+      subst (λ n. IsReady new.now × Remakes n key stored count old.now.trees new.now.trees) it.alters.tree_is
+      (updates t.name t.tree t.columns t.key t.primary t.uniques t.orders sql values old new has it.alters.plain it.alters.at (it.alters.there ∙ ap Some simply) (is_there desk_schema.tables it.alters.at t it.alters.there)
+      (tests_from 0 key) terms is (plain old.now.trees t.tree) count h key it.passing stored keyed (λ r has_it has_id. subst (λ x. cast_row x (eval_all terms (values ∷ r ∷ [])) ≡ stored (id_in (rowid r))) simply (it.row r has_it has_id)))

@@ -10,4 +10,6 @@ pub mod TextsOfChanges
 pub mod TextsOfLookups
 pub mod TextsOfMoves
 pub mod Moves
+pub mod Remade
+pub mod Values
 pub mod OneSchema

@@ -22,7 +22,7 @@ put_among row (r ∷ rows) free = go (value_cmp (rowid r) (rowid row)) (or_parts
     go Equal apart more = absurd (cc)
     go Greater apart more = IsPermutation-refl _
 
-free_first : (rows news : List Row) (r : Row) → are_fresh rows (r ∷ news) ≡ true → (is_taken rows r ≡ false) × (are_fresh (put_row r rows) news ≡ true)
+pub free_first : (rows news : List Row) (r : Row) → are_fresh rows (r ∷ news) ≡ true → (is_taken rows r ≡ false) × (are_fresh (put_row r rows) news ≡ true)
 free_first rows news r fresh = let parts = and_parts _ _ fresh in (not-true _ parts.0, parts.1)
 
 -- so do many

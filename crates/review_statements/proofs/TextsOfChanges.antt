@@ -1,13 +1,27 @@
 -- What the texts of changes are understood as.
-use Rattle.std.proofs.Common.{ℕ, ℤ, pos, List, [], ◌∷◌, refl}
+use Rattle.std.proofs.Common.{◌≡◌, ◌∙◌, IsTrue, true, ap, ℕ, ℤ, pos, List, [], ◌∷◌, refl}
+use Rattle.std.proofs.lemmas.Bool.{and_parts}
 use Rattle.sqlite.specs.Listing.{understood}
-use Rattle.sqlite_rules.specs.Edit.{next_rowid}
+use Rattle.sqlite_rules.proofs.TableLemmas.{int_is as table_int_is}
+use Rattle.sqlite_rules.specs.{Cast.cast, Edit.id_in, Edit.next_rowid}
+use Rattle.sqlite_schema.specs.declared.schema.Kind.TheVariants.{Integer}
 use Rattle.sqlite_tied.specs.Compute.{everything}
+use Rattle.sqlite_trees.specs.{Tree.rowid, View.is_int}
+use Rattle.sqlite_value.specs.Order.{Row, column}
 use Rattle.sqlite_value.specs.declared.value.Value.TheVariants.{Null, Int, Text}
-use Rattle.review_statements.proofs.Meaning.{cast_null, cast_int}
+use Rattle.review_statements.proofs.{Meaning.cast_null, Meaning.cast_int, Meaning.tested, Values.int_is}
+use Rattle.review_statements.specs.Content.{has_key}
 use Rattle.review_statements.specs.Desk.{accounts, members, projects_2, bases, changes, patches, votes, reviewers, comments, attention, answers_3, desk, epochs}
-use Rattle.review_statements.specs.Texts.{Deletes, DeletesBelow, Inserts}
-use Rattle.review_statements.specs.declared.texts.TheConstants.{INSERT_ACCOUNT, DELETE_ACCOUNT, INSERT_MEMBER, DELETE_MEMBER, INSERT_PROJECT, DELETE_PROJECT, INSERT_BASE, DELETE_BASE, INSERT_CHANGE, DELETE_CHANGE, INSERT_PATCH, DELETE_PATCH, INSERT_VOTE, DELETE_VOTE, INSERT_REVIEWER, DELETE_REVIEWER, INSERT_COMMENT, DELETE_COMMENT, INSERT_ATTENTION, DELETE_ATTENTION, INSERT_ANSWER, DELETE_ANSWER, INSERT_DESK, DELETE_DESK, INSERT_EPOCHS, DELETE_EPOCHS, DELETE_ANSWERS_BELOW}
+use Rattle.review_statements.specs.Texts.{Deletes, DeletesBelow, Inserts, Updates}
+use Rattle.review_statements.specs.declared.texts.TheConstants.{INSERT_ACCOUNT, DELETE_ACCOUNT, INSERT_MEMBER, DELETE_MEMBER, INSERT_PROJECT, DELETE_PROJECT, INSERT_BASE, DELETE_BASE, INSERT_CHANGE, UPDATE_CHANGE, DELETE_CHANGE, INSERT_PATCH, DELETE_PATCH, INSERT_VOTE, DELETE_VOTE, INSERT_REVIEWER, DELETE_REVIEWER, INSERT_COMMENT, DELETE_COMMENT, INSERT_ATTENTION, DELETE_ATTENTION, INSERT_ANSWER, DELETE_ANSWER, INSERT_DESK, UPDATE_DESK, DELETE_DESK, INSERT_EPOCHS, UPDATE_EPOCHS, DELETE_EPOCHS, DELETE_ANSWERS_BELOW}
+
+-- a rowid stays what it is
+cast_id : (r : Row) → IsTrue (is_int (rowid r)) → cast Integer (column r 0) ≡ Int (id_in (rowid r))
+cast_id r keyed = ap (cast Integer) (table_int_is (rowid r) keyed) ∙ cast_int (id_in (rowid r))
+
+-- so does one that is a number of a key
+cast_number : (r : Row) (number : ℤ) → has_key ((0, Int number) ∷ []) r ≡ true → cast Integer (column r 0) ≡ Int number
+cast_number r number has = ap (cast Integer) (int_is (column r 0) number (and_parts _ _ has).0) ∙ cast_int number
 
 pub insert_account : (number : ℤ) (name : List ℕ) → Inserts INSERT_ACCOUNT.now accounts.tree (Int number ∷ Text name ∷ []) (λ id. Int number ∷ Null ∷ Text name ∷ [])
 unfolding understood everything
@@ -58,6 +72,14 @@ unfolding understood everything
 insert_change number project branch subject owner status wip place updated = record {
   alters = record { table = changes; at = 3; there = refl; tree_is = refl; is = refl; plain = (refl, refl) };
   row = λ db. (pos 0, rw (cast_null, cast_int number, cast_int owner, cast_int wip, cast_int place, cast_int updated) refl);
+}
+
+pub update_change : (number : ℤ) (project : List ℕ) (branch : List ℕ) (subject : List ℕ) (owner : ℤ) (status : List ℕ) (wip : ℤ) (place : ℤ) (updated : ℤ) → Updates UPDATE_CHANGE.now changes.tree ((0, Int number) ∷ []) (Int number ∷ Text project ∷ Text branch ∷ Text subject ∷ Int owner ∷ Text status ∷ Int wip ∷ Int place ∷ Int updated ∷ []) (λ id. Int number ∷ Null ∷ Text project ∷ Text branch ∷ Text subject ∷ Int owner ∷ Text status ∷ Int wip ∷ Int place ∷ Int updated ∷ [])
+unfolding understood everything
+update_change number project branch subject owner status wip place updated = record {
+  alters = record { table = changes; at = 3; there = refl; tree_is = refl; is = refl; plain = (refl, refl) };
+  passing = λ r. tested ((0, Int number) ∷ []) r;
+  row = λ r has keyed. rw (cast_number r number has, cast_null, cast_int owner, cast_int wip, cast_int place, cast_int updated) refl;
 }
 
 pub delete_change : (number : ℤ) → Deletes DELETE_CHANGE.now changes.tree ((0, Int number) ∷ [])
@@ -141,6 +163,14 @@ insert_desk version requests = record {
   row = λ db. (next_rowid (db desk.tree), rw (cast_null, cast_int version, cast_int requests) refl);
 }
 
+pub update_desk : (version : ℤ) (requests : ℤ) → Updates UPDATE_DESK.now desk.tree [] (Int version ∷ Int requests ∷ []) (λ id. Int id ∷ Int version ∷ Int requests ∷ [])
+unfolding understood everything
+update_desk version requests = record {
+  alters = record { table = desk; at = 9; there = refl; tree_is = refl; is = refl; plain = (refl, refl) };
+  passing = λ r. refl;
+  row = λ r has keyed. rw (cast_id r keyed, cast_int version, cast_int requests) refl;
+}
+
 pub delete_desk : Deletes DELETE_DESK.now desk.tree []
 unfolding understood everything
 delete_desk = record { table = desk; at = 9; there = refl; tree_is = refl; is = refl; plain = (refl, refl) }
@@ -150,6 +180,14 @@ unfolding understood everything
 insert_epochs least = record {
   alters = record { table = epochs; at = 12; there = refl; tree_is = refl; is = refl; plain = (refl, refl) };
   row = λ db. (next_rowid (db epochs.tree), rw (cast_null, cast_int least) refl);
+}
+
+pub update_epochs : (least : ℤ) → Updates UPDATE_EPOCHS.now epochs.tree [] (Int least ∷ []) (λ id. Int id ∷ Int least ∷ [])
+unfolding understood everything
+update_epochs least = record {
+  alters = record { table = epochs; at = 12; there = refl; tree_is = refl; is = refl; plain = (refl, refl) };
+  passing = λ r. refl;
+  row = λ r has keyed. rw (cast_id r keyed, cast_int least) refl;
 }
 
 pub delete_epochs : Deletes DELETE_EPOCHS.now epochs.tree []

@@ -49,6 +49,13 @@ pub record Removes (tree : ℕ) (key : List (ℕ × Value)) (old new : Trees) : 
   pub rows : new tree ≡ filter (λ r. not (has_key key r)) (old tree)
   pub others : SparesOthers tree old new
 
+-- the rows of a key, of which there were so many, got other values: a single one is such a row now, with a rowid, and all other rows are as they were
+pub record Remakes (tree : ℕ) (key : List (ℕ × Value)) (stored : ℤ → Row) (count : ℕ) (old new : Trees) : Type 0 where
+  pub none : count ≡ 0 → filter (has_key key) (new tree) ≡ []
+  pub one : count ≡ 1 → (id : ℤ) × IsAdded (stored id) (filter (λ r. not (has_key key r)) (old tree)) (new tree)
+  pub apart : filter (λ r. not (has_key key r)) (new tree) ≡ filter (λ r. not (has_key key r)) (old tree)
+  pub others : SparesOthers tree old new
+
 -- whether a value is an integer that isn't negative
 abbrev pub is_natural : Value → Bool
 is_natural (Int (pos n)) = true

@@ -1,7 +1,9 @@
 -- What statements do inside a transaction, and what a whole transaction does.
-use Rattle.std.specs.Prelude.{ℕ, ◌≡◌, true, Result, IsTrue, IfOk, OnOk, OnErr}
+use Rattle.std.specs.Prelude.{ℕ, ◌≡◌, Bool, true, false, Result, Ok, Err, IsTrue, IfErr, IfOk, OnOk, OnErr}
 use Rattle.sqlite.specs.Effect.{Database, IsDatabase}
-use Rattle.sqlite.specs.{State.State, State.HasCleanDisk, State.Survives, State.KeepsCommit, declared.error.Error.Error}
+use Rattle.sqlite.specs.State.{State, HasCleanDisk, Survives, KeepsCommit}
+use Rattle.sqlite.specs.declared.error.Error.{Error, TheVariants.SqliteFailure}
+use Rattle.sqlite.specs.declared.error.ErrorCode.{ErrorCode, TheVariants.ConstraintViolation}
 use Rattle.sqlite_trees.specs.Tree.{Trees}
 use Rattle.review_statements.specs.{Content.AreApart, Desk.desk_schema, Desk.is_tree}
 
@@ -33,6 +35,24 @@ Inside Changes = Within (OnDesk Changes)
 -- where it succeeds, the connection is open
 abbrev pub Opens : {X : Type 0} → State → State → Result X Error → Type 0
 Opens old new result = HasCleanDisk new → IsTrue old.in_transaction → OnOk result (IsTrue new.is_open)
+
+-- how many rows a statement says that it changed
+abbrev pub count_in : {E : Type 0} → Result ℕ E → ℕ
+count_in (Ok count) = count
+count_in (Err e) = 0
+
+-- whether an error says that a row breaks a rule of its table, as that no two rows have one key
+abbrev pub is_of_rules : ErrorCode → Bool
+is_of_rules (ConstraintViolation rule) = true
+is_of_rules code = false
+
+abbrev pub is_violation : Error → Bool
+is_violation (SqliteFailure code) = is_of_rules code
+is_violation e = false
+
+-- where a rule of the table refused it, nothing has changed, and the transaction goes on
+abbrev pub Refuses : {X : Type 0} → State → State → Result X Error → Type 0
+Refuses old new result = HasCleanDisk new → IsTrue old.in_transaction → IfErr result (λ e. IsTrue (is_violation e) → (new.now ≡ old.now) × IsTrue new.in_transaction)
 
 -- a transaction that leads so from one database to the next, or leaves what was
 pub record Transacts {X : Type 0} (Leads : Database → Database → Type 0) (old new : State) (result : Result X Error) : Type 0 where

@@ -1,21 +1,23 @@
 -- What texts are understood as, by the tables of a desk.
-use Rattle.std.specs.Prelude.{codes, ℕ, ℤ, zero, suc, pos, negsuc, ◌≡◌, ◌+◌, ◌/◌, ◌++◌, false, List, [], ◌∷◌, map, drop, length, Option, None, Some, slice_get}
+use Rattle.std.specs.List.{list_all}
+use Rattle.std.specs.Prelude.{IsTrue, true, codes, ℕ, ℤ, zero, suc, pos, negsuc, ◌≡◌, ◌+◌, ◌/◌, ◌++◌, false, List, [], ◌∷◌, map, drop, length, Option, None, Some, slice_get}
 use Rattle.sqlite.proofs.Callers.{IsPlain, command_of}
 use Rattle.sqlite.specs.{Effect.value_rows, Listing.understood, Listing.reads_listing}
-use Rattle.sqlite_rules.specs.{Edit.edit_of, declared.error.Rowids.TheVariants.Chosen}
+use Rattle.sqlite_rules.specs.{Cast.cast_row, Edit.edit_of, Edit.id_in, declared.error.Rowids.TheVariants.Chosen}
 use Rattle.sqlite_schema.specs.declared.command.Command.{Command}
-use Rattle.sqlite_schema.specs.declared.command.Command.TheVariants.{Insert, Select, Delete}
+use Rattle.sqlite_schema.specs.declared.command.Command.TheVariants.{Insert, Select, Update, Delete}
 use Rattle.sqlite_schema.specs.declared.{command.Source.TheVariants.Values, schema.Column.Column, schema.Table.Table}
-use Rattle.sqlite_sql.specs.{Query.Query, Query.inner, Query.end, Term.Term, Term.lit, Term.col, Term.op1, Term.op2}
+use Rattle.sqlite_sql.specs.Query.{Query, inner, end}
+use Rattle.sqlite_sql.specs.Term.{Term, lit, col, op1, op2, holds, eval_all}
 use Rattle.sqlite_sql.specs.declared.ops.BinaryOp.TheVariants.{Compare}
 use Rattle.sqlite_sql.specs.declared.ops.CompareOp.TheVariants.{Eq, Lt}
 use Rattle.sqlite_sql.specs.declared.ops.UnaryOp.TheVariants.{Not, ToNumeric, TypeOf}
 use Rattle.sqlite_tied.specs.Listing.{counting}
-use Rattle.sqlite_trees.specs.Tree.{Trees}
+use Rattle.sqlite_trees.specs.{Tree.Trees, Tree.rowid, View.is_int}
 use Rattle.sqlite_value.specs.Order.{Row}
 use Rattle.sqlite_value.specs.declared.{keys.Collation.TheVariants.Binary, keys.Key.Key, value.Value.Value}
 use Rattle.sqlite_value.specs.declared.value.Value.TheVariants.{Null, Int, Real, Text, Blob}
-use Rattle.review_statements.specs.{Desk.desk_schema, Search.At}
+use Rattle.review_statements.specs.{Content.has_key, Desk.desk_schema, Search.At}
 
 -- ---- the tests of a WHERE
 
@@ -134,3 +136,13 @@ new_terms table = terms_for table.key table.columns
 pub record Inserts (sql : List ℕ) (tree : ℕ) (values : Row) (stored : ℤ → Row) : Type 0 where
   pub alters : Alters sql tree (λ at table. Insert at (Values (new_terms table) (length (new_terms table))))
   pub row : (db : Trees) → (id : ℤ) × ((edit_of db alters.table [] Chosen 0 (value_rows values (length (new_terms alters.table)) (length (new_terms alters.table) / length (new_terms alters.table)) (new_terms alters.table))).news ≡ stored id ∷ [])
+
+-- for a row that is there its rowid, and then for each column what is bound at its place; the number of a row is its rowid, and stays
+abbrev pub changed_terms : Table → List Term
+changed_terms table = col 1 0 ∷ drop 1 (new_terms table)
+
+-- a text gives the rows of a key these values, each as a row that is stored so with the rowid that it has
+pub record Updates (sql : List ℕ) (tree : ℕ) (key : At) (values : Row) (stored : ℤ → Row) : Type 0 where
+  pub alters : Alters sql tree (λ at table. Update at (record { lets = []; body = over_table tree (tests_from 0 key) (col 1 0 ∷ changed_terms table) [] }))
+  pub passing : (r : Row) → list_all (holds (values ∷ r ∷ [])) (tests_from 0 key) ≡ has_key key r
+  pub row : (r : Row) → has_key key r ≡ true → IsTrue (is_int (rowid r)) → cast_row alters.table (eval_all (changed_terms alters.table) (values ∷ r ∷ [])) ≡ stored (id_in (rowid r))

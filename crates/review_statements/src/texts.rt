@@ -134,6 +134,10 @@ pub const FIND_BASE: &str =
 pub const INSERT_CHANGE: &str =
     "INSERT INTO changes (number, project, branch, subject, owner, status, wip, place, updated) VALUES (?1, ?2, ?3, ?4, ?5, ?6, ?7, ?8, ?9)";
 
+/// All that a change says of itself beside its number.
+pub const UPDATE_CHANGE: &str =
+    "UPDATE changes SET project = ?2, branch = ?3, subject = ?4, owner = ?5, status = ?6, wip = ?7, place = ?8, updated = ?9 WHERE number = ?1 AND typeof(number) = 'integer'";
+
 pub const DELETE_CHANGE: &str =
     "DELETE FROM changes WHERE number = ?1 AND typeof(number) = 'integer'";
 
@@ -205,11 +209,15 @@ pub const FIND_ANSWER_1: &str =
 
 pub const INSERT_DESK: &str = "INSERT INTO desk (version, requests) VALUES (?1, ?2)";
 
+pub const UPDATE_DESK: &str = "UPDATE desk SET version = ?1, requests = ?2";
+
 pub const DELETE_DESK: &str = "DELETE FROM desk";
 
 pub const FIND_DESK: &str = "SELECT version, requests FROM desk";
 
 pub const INSERT_EPOCHS: &str = "INSERT INTO epochs (least) VALUES (?1)";
+
+pub const UPDATE_EPOCHS: &str = "UPDATE epochs SET least = ?1";
 
 pub const DELETE_EPOCHS: &str = "DELETE FROM epochs";
 

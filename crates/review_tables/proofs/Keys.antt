@@ -1,34 +1,15 @@
 -- Rows at keys.
-use Rattle.std.proofs.Common.{◌≡◌, ◌≢◌, ◌∙◌, ◌+◌, ℕ, ℤ, pos, List, [], ◌∷◌, filter, length, Bool, true, false, not, Ordering, Less, Equal, Greater, Some, None, refl, sym, ap, inl, inr, arith}
+use Rattle.std.proofs.Common.{◌≡◌, ◌≢◌, ◌∙◌, ◌+◌, ◌≤◌, ℕ, ℤ, pos, List, [], ◌∷◌, filter, length, Bool, true, false, not, Some, None, refl, sym, ap, subst, inl, inr, arith}
 use Rattle.std.proofs.lemmas.{Bool.cases_Bool, Bool.both_ways, Cmp.tied_itself, Map.Lookups.exact_bytes}
 use Rattle.std.specs.Ordering.{is_eq}
-use Rattle.sqlite_keyed.proofs.{KeyedLemmas.same_int as whole, ListLemmas.filter-filter}
+use Rattle.sqlite_keyed.proofs.ListLemmas.{filter-filter}
 use Rattle.sqlite_trees.specs.Tree.{Trees}
-use Rattle.sqlite_value.proofs.OrderLemmas.{value_cmp_total, value_cmp-Int, value_cmp-Text}
+use Rattle.sqlite_value.proofs.OrderLemmas.{value_cmp_total, value_cmp-Text}
 use Rattle.sqlite_value.specs.{Order.Row, Order.value_cmp, declared.value.Value.Value}
 use Rattle.sqlite_value.specs.declared.value.Value.TheVariants.{Null, Int, Real, Text, Blob}
-use Rattle.review_statements.specs.Content.{has_key, is_value, Adds, Removes, Sets, SparesOthers, Then}
+use Rattle.review_statements.specs.Content.{has_key, is_value, IsAdded, Remakes, Removes, Sets, SparesOthers, Then}
 use Rattle.review_statements.specs.Search.{At, Search, reads, only, Form, IsLawful, Puts, SetsRow}
-
-pub equal_is : (o : Ordering) → is_eq o ≡ true → o ≡ Equal
-equal_is Less h = absurd (cc)
-equal_is Equal h = refl
-equal_is Greater h = absurd (cc)
-
--- two values that a third equals
-pub same_value : (v a b : Value) → is_eq (value_cmp v a) ≡ true → is_eq (value_cmp v b) ≡ true → value_cmp a b ≡ Equal
-same_value v a b p q = sym (value_cmp_total.congr v a b (equal_is _ p)) ∙ equal_is _ q
-
-pub same_whole : (v : Value) (m n : ℤ) → is_eq (value_cmp v (Int m)) ≡ true → is_eq (value_cmp v (Int n)) ≡ true → m ≡ n
-same_whole v m n p q = let e = sym (value_cmp-Int m n) ∙ same_value v (Int m) (Int n) p q in whole m n (ap is_eq e)
-
--- the value that has this integer
-pub int_is : (v : Value) (n : ℤ) → is_value v (Int n) ≡ true → v ≡ Int n
-int_is Null n has = absurd (cc)
-int_is (Int m) n has = ap Int (same_whole (Int m) m n (ap is_eq (tied_itself value_cmp_total (Int m))) has)
-int_is (Real x) n has = absurd (cc)
-int_is (Text t) n has = absurd (cc)
-int_is (Blob b) n has = absurd (cc)
+pub use Rattle.review_statements.proofs.Values.{equal_is, same_value, same_whole, int_is}
 
 pub same_int : (v : Value) (m n : ℕ) → is_value v (Int (pos m)) ≡ true → is_value v (Int (pos n)) ≡ true → m ≡ n
 same_int v m n p q = let e = sym (int_is v (pos m) p) ∙ int_is v (pos n) q in cc
@@ -77,15 +58,25 @@ taken tree key a b gone = record {
   others = gone.others;
 }
 
--- the rows of a key were taken out, and one put in
-pub replaced : (tree : ℕ) (key : At) (row : Row) (a m b : Trees) → has_key key row ≡ true → Removes tree key a m → Adds tree row m b → Sets tree key (row ∷ []) a b
-replaced tree key row a m b has gone come =
-    let first = taken tree key a m gone in
-    record {
-      here = come.rows.first (has_key key) has first.here;
-      there = λ p apart. come.rows.other p (apart row has) ∙ first.there p apart;
-      others = spares_then tree a m b gone.others come.others;
-    }
+-- of the rows but those of a key and one row of the key
+pub has_one : (tree : ℕ) (key : At) (row : Row) (a b : Trees) → has_key key row ≡ true → IsAdded row (filter (λ r. not (has_key key r)) (a tree)) (b tree) → SparesOthers tree a b → Sets tree key (row ∷ []) a b
+has_one tree key row a b has come others = record {
+  here = come.first (has_key key) has (none_left key (a tree));
+  there = λ p apart. come.other p (apart row has) ∙ left_apart key p apart (a tree);
+  others = others;
+}
+
+-- where no row has a key, all rows are others
+all_others : (key : At) (rows : List Row) → filter (has_key key) rows ≡ [] → filter (λ r. not (has_key key r)) rows ≡ rows
+all_others key [] none = refl
+all_others key (r ∷ rows) none = elim (cases_Bool (has_key key r)) [
+  | inl is ↦ absurd (let e = rw is at none in cc)
+  | inr apart ↦ let less : filter (has_key key) rows ≡ [] = rw apart at none in rw apart (ap (λ l. r ∷ l) (all_others key rows less))
+]
+
+empty : (rows : List Row) → length rows ≡ 0 → rows ≡ []
+empty [] none = refl
+empty (r ∷ rows) none = absurd (omega (arith, none))
 
 module _ {A X : Type 0} (s : Search A X) (f : Form A X) (lawful : IsLawful s f) where
   keys_apart : (a b : A) → a ≢ b → (r : Row) → has_key (s.at b) r ≡ true → has_key (s.at a) r ≡ false
@@ -101,20 +92,62 @@ module _ {A X : Type 0} (s : Search A X) (f : Form A X) (lawful : IsLawful s f) 
     others = it.others;
   }
 
-  pub row_put : (key : A) (x : X) (old new : Trees) → f.is_key key ≡ true → f.is_good x ≡ true → Then (Removes s.tree (s.at key)) (Puts s f key x) old new → SetsRow s key (Some x) old new
-  row_put key x old new formed good both =
-      let id = both.2.0 in
-      let row = f.stored key x id in
-      let has = lawful.keyed key x id in
-      let it = replaced s.tree (s.at key) row old both.0 new has both.1 both.2.1 in record {
-        here = ap (only (reads s)) it.here ∙ ap Some (lawful.reads_back key x id good);
-        there = λ a other. ap (only (reads s)) (it.there (has_key (s.at a)) (λ r. keys_apart a key other r));
-        apart = it.there;
+  module _ (key : A) (x : X) (formed : f.is_key key ≡ true) (good : f.is_good x ≡ true) where
+    -- the rows but those of the key, and the row
+    pub row_set : (old new : Trees) (id : ℤ) → IsAdded (f.stored key x id) (filter (λ r. not (has_key (s.at key) r)) (old s.tree)) (new s.tree) → SparesOthers s.tree old new → SetsRow s key (Some x) old new
+    row_set old new id come others =
+        let has = lawful.keyed key x id in
+        let it = has_one s.tree (s.at key) (f.stored key x id) old new has come others in record {
+          here = ap (only (reads s)) it.here ∙ ap Some (lawful.reads_back key x id good);
+          there = λ a other. ap (only (reads s)) (it.there (has_key (s.at a)) (λ r. keys_apart a key other r));
+          apart = it.there;
+          counted = λ p among.
+              let e = left_counted (s.at key) p among (old s.tree) in
+              let more = come.count p (among (f.stored key x id) has) in
+              omega (arith, e, more);
+          formed = λ r at. lawful.known key r formed at;
+          others = it.others;
+        }
+
+    -- what the key had was taken away, and the row put in
+    pub row_put : (old new : Trees) → Then (Removes s.tree (s.at key)) (Puts s f key x) old new → SetsRow s key (Some x) old new
+    row_put old new both = row_set old new both.2.0 (subst (λ l. IsAdded (f.stored key x both.2.0) l (new s.tree)) both.1.rows both.2.1.rows) (spares_then s.tree old both.0 new both.1.others both.2.1.others)
+
+    -- the key had no row, and this one was put in
+    pub row_first : (old new : Trees) → filter (has_key (s.at key)) (old s.tree) ≡ [] → Puts s f key x old new → SetsRow s key (Some x) old new
+    row_first old new none put = row_set old new put.0 (subst (λ l. IsAdded (f.stored key x put.0) l (new s.tree)) (sym (all_others (s.at key) (old s.tree) none)) put.1.rows) put.1.others
+
+    -- the row was put in, and no other row has its key
+    pub row_new : (old new : Trees) → length (filter (has_key (s.at key)) (new s.tree)) ≤ 1 → Puts s f key x old new → SetsRow s key (Some x) old new
+    row_new old new single put =
+        let more = put.1.rows.count (has_key (s.at key)) (lawful.keyed key x put.0) in
+        row_first old new (empty _ (omega (arith, single, more))) put
+
+    -- the rows of the key got other values
+    module _ (old mid : Trees) (count : ℕ) (it : Remakes s.tree (s.at key) (f.stored key x) count old mid) where
+      -- and there was one
+      pub row_remade : count ≡ 1 → SetsRow s key (Some x) old mid
+      row_remade is = let one = it.one is in row_set old mid one.0 one.1 it.others
+
+      beside : (p : Row → Bool) → ((r : Row) → has_key (s.at key) r ≡ true → p r ≡ false) → filter p (mid s.tree) ≡ filter p (old s.tree)
+      beside p apart = sym (left_apart (s.at key) p apart (mid s.tree)) ∙ (ap (filter p) it.apart ∙ left_apart (s.at key) p apart (old s.tree))
+
+      -- and then the key got the row
+      pub row_again : (new : Trees) → SetsRow s key (Some x) mid new → SetsRow s key (Some x) old new
+      row_again new set = record {
+        here = set.here;
+        there = λ a other. set.there a other ∙ ap (only (reads s)) (beside (has_key (s.at a)) (λ r. keys_apart a key other r));
+        apart = λ p apart. set.apart p apart ∙ beside p apart;
         counted = λ p among.
-            let e = left_counted (s.at key) p among (old s.tree) in
-            let n = ap (λ l. length (filter p l)) both.1.rows in
-            let more = both.2.1.rows.count p (among row has) in
-            omega (arith, e, n, more);
-        formed = λ r at. lawful.known key r formed at;
-        others = it.others;
+            let a = left_counted (s.at key) p among (mid s.tree) in
+            let b = left_counted (s.at key) p among (old s.tree) in
+            let c = ap (λ l. length (filter p l)) it.apart in
+            let d = set.counted p among in
+            omega (arith, a, b, c, d);
+        formed = set.formed;
+        others = spares_then s.tree old mid new it.others set.others;
       }
+
+      -- and as there was none, the row was put in
+      pub row_then_first : count ≡ 0 → (new : Trees) → Puts s f key x mid new → SetsRow s key (Some x) old new
+      row_then_first is new put = row_again new (row_first mid new (it.none is) put)

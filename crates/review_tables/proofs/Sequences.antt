@@ -1,14 +1,16 @@
 -- Statements one after the other, and the transaction around them.
 use Rattle.std.proofs.Common.{◌≡◌, ◌∙◌, ◌⊎◌, inl, inr, ℕ, List, true, false, refl, sym, ap, subst, IsTrue, Ok, Err, Result, OnOk, OnErr, IfErr, arith, [], Option, Some, None, IfOk}
+use Rattle.std.proofs.lemmas.Bool.{cases_Bool}
 use Rattle.sqlite.proofs.{Callers.IsPlain, StateLemmas.survives_then}
 use Rattle.sqlite.specs.{Clock.timed, Effect.Database, Listing.understood}
-use Rattle.sqlite.specs.State.{FailsToQuery, FailsToShow, Shown, ShowsRows, IsNotRun, IsTooLate, State, HasCleanDisk, Survives, KeepsCommit, IsUnchanged, IsRolledBack, Executes, ExecutesInside, Shows, KeepsCounts}
+use Rattle.sqlite.specs.State.{RunsCommand, shows_rows, store_error, ExecutesIn, FailsToQuery, FailsToShow, Shown, ShowsRows, IsNotRun, IsTooLate, State, HasCleanDisk, Survives, KeepsCommit, IsUnchanged, IsRolledBack, Executes, ExecutesInside, Shows, KeepsCounts}
 use Rattle.sqlite.specs.{Steps.FailsToCommit, declared.error.Error.Error}
 use Rattle.sqlite_schema.specs.declared.command.Returning.{Returning}
-use Rattle.sqlite_trees.specs.Tree.{Trees}
+use Rattle.sqlite_trees.specs.{Tree.Trees, declared.error.StoreError.StoreError}
+use Rattle.sqlite_trees.specs.declared.error.StoreError.TheVariants.{OutOfMemory, Io, Corrupt, Full, Broken, Unstorable}
 use Rattle.sqlite_value.specs.Order.{Row}
 use Rattle.review_statements.specs.{Content.Then, Desk.desk_schema}
-use Rattle.review_statements.specs.Ran.{IsReady, IsDeskIfOpen, Within, OnDesk, Inside, Transacts, Looks, Serves}
+use Rattle.review_statements.specs.Ran.{count_in, is_violation, IsReady, IsDeskIfOpen, Within, OnDesk, Inside, Transacts, Looks, Serves}
 
 kept_unchanged : (old new : State) → IsUnchanged old new ⊎ IsRolledBack old new → KeepsCommit old new
 kept_unchanged old new (inl same) = record { was_open = λ _. same.0.was_open; committed = λ _. same.0.committed_is }
@@ -46,6 +48,49 @@ pub one_inside : (sql : List ℕ) (params : Row) (old new : State) (r : Result �
     → ((count : ℕ) → IsReady old.now → Executes sql params old new (Ok count) → IsReady new.now × R old.now.trees new.now.trees)
     → (HasCleanDisk new → IsTrue old.in_transaction → ExecutesInside 0 sql params old new r) → Survives old new (λ _. ⊥) → Inside R old new r
 one_inside sql params old new r R does runs survives = one sql params old new r (OnDesk R) (λ count h. record { ready = λ has. (does count has h).0; changes = λ has. (does count has h).1 }) runs survives
+
+-- the same, where it tells how many rows it changed
+pub one_counted : (sql : List ℕ) (params : Row) (old new : State) (r : Result ℕ Error) (R : ℕ → Trees → Trees → Type 0)
+    → ((count : ℕ) → IsReady old.now → Executes sql params old new (Ok count) → IsReady new.now × R count old.now.trees new.now.trees)
+    → (HasCleanDisk new → IsTrue old.in_transaction → ExecutesInside 0 sql params old new r) → Survives old new (λ _. ⊥) → Inside (R (count_in r)) old new r
+one_counted sql params old new r R does runs survives = record {
+  ran = λ clean on. by_result r (runs clean on);
+  kept = λ clean on. keeps sql params old new r (runs clean on);
+  survives = survives;
+}
+  where
+    by_result : (r : Result ℕ Error) → ExecutesInside 0 sql params old new r → OnOk r (OnDesk (R (count_in r)) old.now new.now)
+    by_result (Ok count) h = record { ready = λ has. (does count has h.0).0; changes = λ has. (does count has h.0).1 }
+    by_result (Err e) h = tt
+
+-- a fault of the store is no rule that is broken
+no_rule : (cause : StoreError) (e : Error) → e ≡ store_error cause → IsTrue (is_violation e) → ⊥
+no_rule OutOfMemory e is broken = let f = rw is at broken in cc
+no_rule Io e is broken = let f = rw is at broken in cc
+no_rule Corrupt e is broken = let f = rw is at broken in cc
+no_rule Full e is broken = let f = rw is at broken in cc
+no_rule Broken e is broken = let f = rw is at broken in cc
+no_rule Unstorable e is broken = let f = rw is at broken in cc
+
+unchanged_by_rules : (sql : List ℕ) (params : Row) (old new : State) (e : Error) → IsTrue (is_violation e) → Executes sql params old new (Err e) → IsUnchanged old new
+unfolding ExecutesIn IsNotRun
+unchanged_by_rules sql params old new e broken (inl (inl none)) = none.1
+unchanged_by_rules sql params old new e broken (inl (inr fails)) = absurd (no_rule fails.0 e fails.1 broken)
+unchanged_by_rules sql params old new e broken (inr ran) = elim (cases_Bool (shows_rows false ran.0)) [
+  | inl shows ↦ (rw shows at ran.2).1
+  | inr runs ↦ by_command (rw runs at ran.2)
+]
+  where
+    by_command : RunsCommand old new sql ran.0 (timed params ran.0.formats ran.1.now) (Err e) → IsUnchanged old new
+    by_command (inl refused) = refused.1
+    by_command (inr fails) = absurd (no_rule fails.0 e fails.1 broken)
+
+-- what a rule of the table refused changed nothing
+pub refused : (sql : List ℕ) (params : Row) (old new : State) (r : Result ℕ Error) → IsTrue old.in_transaction → ExecutesInside 0 sql params old new r
+    → IfErr r (λ e. IsTrue (is_violation e) → (new.now ≡ old.now) × IsTrue new.in_transaction)
+refused sql params old new (Ok count) on h = tt
+refused sql params old new (Err e) on (inl ran) = λ broken. let same = unchanged_by_rules sql params old new e broken ran.0 in (same.0.now_is, same.0.mode ∙ on)
+refused sql params old new (Err e) on (inr barred) = λ broken. (barred.2.0.now_is, barred.2.0.mode ∙ on)
 
 -- one database after the other
 abbrev pub Next : (Database → Database → Type 0) → (Database → Database → Type 0) → Database → Database → Type 0
@@ -99,6 +144,22 @@ stop R Q a b e f one = record { ran = λ _ _. tt; kept = λ clean on. ((one.kept
 -- the same, told otherwise
 pub told : {X Y : Type 0} (R Q : Trees → Trees → Type 0) (a b : State) (x : X) (y : Y) → ((old new : Trees) → R old new → Q old new) → Inside R a b (Ok x) → Inside Q a b (Ok y)
 told R Q a b x y f one = record { ran = λ clean on. let it = one.ran clean on in record { ready = it.ready; changes = λ has. f _ _ (it.changes has) }; kept = one.kept; survives = one.survives }
+
+-- the same of what is known of the tables of a desk, told otherwise
+pub told_ready : {X Y : Type 0} (R Q : Trees → Trees → Type 0) (a b : State) (x : X) (y : Y) → ((old new : Database) → IsReady new → R old.trees new.trees → Q old.trees new.trees) → Inside R a b (Ok x) → Inside Q a b (Ok y)
+told_ready R Q a b x y f one = record { ran = λ clean on. let it = one.ran clean on in record { ready = it.ready; changes = λ has. f a.now b.now (it.ready has) (it.changes has) }; kept = one.kept; survives = one.survives }
+
+-- a rule refused the first, and then the second ran
+pub anew : {X Y : Type 0} (R Q : Trees → Trees → Type 0) (a b c : State) (e : Error) (r : Result Y Error) → Inside {X = X} R a b (Err e)
+    → (HasCleanDisk b → IsTrue a.in_transaction → (b.now ≡ a.now) × IsTrue b.in_transaction) → Inside Q b c r → Inside Q a c r
+anew R Q a b c e r one same two = record {
+  ran = λ clean on. let it = same (back clean) on in subst (λ d. OnOk r (OnDesk Q d c.now)) it.0 (two.ran clean it.1);
+  kept = λ clean on. let second = two.kept clean (same (back clean) on).1 in (keeps_then a b c (one.kept (back clean) on).0 second.0, second.1);
+  survives = survives_then a b c _ _ _ (λ _ db h. h) (λ _ db h. h) one.survives two.survives;
+}
+  where
+    back : HasCleanDisk c → HasCleanDisk b
+    back clean = omega (arith, two.survives.clean)
 
 -- the same, told otherwise, however it ended
 pub weaker : {X : Type 0} (R Q : Trees → Trees → Type 0) (a b : State) (r : Result X Error) → ((old new : Trees) → R old new → Q old new) → Inside R a b r → Inside Q a b r

@@ -1,17 +1,21 @@
 -- No two rows of a table have one UNIQUE key.
-use Rattle.std.proofs.Common.{◌≡◌, ◌∙◌, ◌≤◌, inl, inr, ℤ, List, [], ◌∷◌, filter, length, Bool, true, false, not, Ordering, Less, Equal, Greater, refl, sym, ap, subst, IsTrue, arith}
-use Rattle.std.proofs.lemmas.Bool.{cases_Bool, or_parts, both_ways}
-use Rattle.std.specs.{List.list_any, Ordering.is_eq, Ordering.is_ne}
+use Rattle.std.proofs.Common.{◌≡◌, ◌∙◌, ◌≤◌, ◌&&◌, inl, inr, ℕ, zero, suc, ℤ, List, [], ◌∷◌, Some, filter, get_or, slice_get, length, map, Bool, true, false, not, Ordering, Less, Equal, Greater, refl, sym, ap, subst, IsTrue, arith}
+use Rattle.std.proofs.lemmas.Bool.{and_parts, and_from, cases_Bool, or_parts, both_ways}
+use Rattle.std.specs.{List.AllByRecursion, List.list_any, Ordering.is_eq, Ordering.is_ne}
+use Rattle.sqlite.specs.Effect.{Database}
+use Rattle.sqlite_catalog.{proofs.AlterLemmas.keys_are_unique, specs.Listing.IsSound}
 use Rattle.sqlite_rules.{proofs.TableLemmas.int_is, specs.Edit.is_taken, specs.Edit.id_in, specs.Lists.Has}
-use Rattle.sqlite_schema.specs.Rules.{equal, differ}
+use Rattle.sqlite_schema.specs.{Rules.agree, Rules.clashes, Rules.equal, Rules.differ, declared.schema.Table.Table}
 use Rattle.sqlite_sql.specs.Ops.{binary, is_null}
 use Rattle.sqlite_trees.specs.{Tree.rowid, View.is_int}
-use Rattle.sqlite_value.{proofs.OrderLemmas.value_cmp-Null, specs.Order.Row, specs.Order.value_cmp}
+use Rattle.sqlite_value.{proofs.OrderLemmas.value_cmp-Null, specs.Keys.plain, specs.Keys.first_key}
+use Rattle.sqlite_value.specs.Order.{Row, column, value_cmp}
 use Rattle.sqlite_value.specs.declared.{keys.Collation.TheVariants.Binary, value.Value.Value}
 use Rattle.sqlite_value.specs.declared.value.Value.TheVariants.{Null, Int, Real, Text, Blob}
-use Rattle.review_statements.proofs.{Lists.eq_back, Meaning.equals, Meaning.told_true}
-use Rattle.review_statements.specs.Content.{AreApart}
-use Rattle.review_tables.proofs.Keys.{same_value}
+use Rattle.review_statements.proofs.{Changes.is_there, Lists.eq_back, Meaning.equals, Meaning.told_true}
+use Rattle.review_statements.specs.Content.{has_key, is_value, AreApart}
+use Rattle.review_statements.specs.{Desk.desk_schema, Desk.is_tree, Ran.IsReady, Search.At, Search.rows_at}
+use Rattle.review_tables.proofs.Keys.{int_is as whole_is, itself, same_value}
 
 there : (v w : Value) → is_null w ≡ false → is_eq (value_cmp v w) ≡ true → is_null v ≡ false
 there Null w some is = absurd (let e = rw (value_cmp-Null-apart w some) at is in cc)
@@ -67,3 +71,68 @@ module _ (p : Row → Bool) (clash : Row → Row → Bool) (all : List Row) (non
     | inl is ↦ rw (is, none_after r rows (among r (inl refl)) apart.0 is (λ x h. among x (inr h)) apart.2 apart.1) (omega arith)
     | inr other ↦ rw other (one_passes rows (λ x h. among x (inr h)) apart.2)
   ]
+
+-- ---- the tables of a desk
+
+-- no value of a key is missing
+abbrev pub AreThere : At → Type 0
+AreThere key = AllByRecursion (λ c. is_null c.1 ≡ false) key
+
+has_equal : (v w : Value) → is_value v w ≡ true → is_eq (value_cmp v w) ≡ true
+has_equal v Null has = absurd (cc)
+has_equal v (Int n) has = subst (λ u. is_eq (value_cmp u (Int n)) ≡ true) (sym (whole_is v n has)) (itself (Int n))
+has_equal v (Real x) has = absurd (cc)
+has_equal v (Text t) has = has
+has_equal v (Blob b) has = absurd (cc)
+
+-- rows that have one key agree on its columns
+agreeing : (key : At) (r s : Row) → AreThere key → has_key key r ≡ true → has_key key s ≡ true → agree plain (map (λ c. c.0) key) s (map (λ c. c.0) key) r ≡ true
+unfolding first_key
+agreeing [] r s all p q = refl
+agreeing (c ∷ key) r s all p q =
+    let a = and_parts _ _ p in
+    let b = and_parts _ _ q in
+    and_from _ _ (equal_values c.1 (column s c.0) (column r c.0) all.0 (has_equal _ c.1 b.0) (has_equal _ c.1 a.0)) (agreeing key r s all.1 a.1 b.1)
+
+-- a key whose columns a UNIQUE names has one row, at most
+pub by_unique : (table : Table) (n : ℕ) (key : At) → Has desk_schema.tables table → slice_get table.uniques n ≡ Some (map (λ c. c.0) key) → get_or table.orders n plain ≡ plain → is_tree table.tree ≡ true
+    → AreThere key → (db : Database) → IsReady db → length (rows_at key (db.trees table.tree)) ≤ 1
+by_unique table n key listed unique order is all db ready =
+    let rows = db.trees table.tree in
+    let columns = map (λ c. c.0) key in
+    let sound = subst (λ s. IsSound s db.trees) ready.schema ready.sound in
+    one_passes (has_key key) (λ other row. agree plain columns other columns row && differ (rowid other) (rowid row)) rows
+    (λ row has. subst (λ o. clashes o columns rows row ≡ false) order (keys_are_unique desk_schema db.trees table n columns row sound listed unique has))
+    (λ r s keyed too other is it. and_from _ _ (agreeing key r s all is it) (differ_ids s r too keyed other))
+    rows (λ x h. h) (ready.apart table.tree is)
+
+listed_at : (tables : List Table) (at : ℕ) (t : Table) → slice_get tables at ≡ Some t → Has tables t
+listed_at [] at t is = absurd (cc)
+listed_at (x ∷ tables) zero t is = inl (let e : x ≡ t = cc in sym e)
+listed_at (x ∷ tables) (suc at) t is = inr (listed_at tables at t is)
+
+-- the same of the first UNIQUE of the table at a place
+pub at_place : (at : ℕ) (table : Table) (key : At) → slice_get desk_schema.tables at ≡ Some table → slice_get table.uniques 0 ≡ Some (map (λ c. c.0) key) → get_or table.orders 0 plain ≡ plain → AreThere key
+    → (db : Database) → IsReady db → length (rows_at key (db.trees table.tree)) ≤ 1
+at_place at table key there unique order all = by_unique table 0 key (listed_at desk_schema.tables at table there) unique order (is_there desk_schema.tables at table there) all
+
+-- a rowid has one row, at most
+pub by_rowid : (tree : ℕ) (id : ℤ) → is_tree tree ≡ true → (db : Database) → IsReady db → length (rows_at ((0, Int id) ∷ []) (db.trees tree)) ≤ 1
+by_rowid tree id is db ready = one_of (db.trees tree) (ready.apart tree is)
+  where
+    key : At
+    key = (0, Int id) ∷ []
+
+    none_of : (r : Row) (rows : List Row) → has_key key r ≡ true → is_taken rows r ≡ false → filter (has_key key) rows ≡ []
+    none_of r [] has free = refl
+    none_of r (s ∷ rows) has free = elim (cases_Bool (has_key key s)) [
+      | inl too ↦ absurd (let e = same_value (Int id) (rowid s) (rowid r) (eq_back (Int id) (rowid s) ∙ has_equal (rowid s) (Int id) (and_parts _ _ too).0) (eq_back (Int id) (rowid r) ∙ has_equal (rowid r) (Int id) (and_parts _ _ has).0) in both_ways _ (or_parts _ _ free).0 (ap is_eq e))
+      | inr other ↦ rw other (none_of r rows has (or_parts _ _ free).1)
+    ]
+
+    one_of : (rows : List Row) → AreApart rows → length (rows_at key rows) ≤ 1
+    one_of [] apart = omega arith
+    one_of (r ∷ rows) apart = elim (cases_Bool (has_key key r)) [
+      | inl has ↦ rw (has, none_of r rows has apart.1) (omega arith)
+      | inr other ↦ rw other (one_of rows apart.2)
+    ]

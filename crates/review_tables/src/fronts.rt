@@ -6,7 +6,7 @@ ghost use Rattle.review_statements.specs.{Ran.Inside, Ran.Looks, Ran.Opens, Sear
 ghost use Rattle.review_tables.specs.Fronts.{AreParts, WereSorted, SetsParts};
 
 use crate::changes::change;
-use crate::table::{Lookup, Table, select};
+use crate::table::{Lookup, Single, Table, select};
 use review_table::{Change, Key, Table as Rows};
 use sqlite::{Alter, Error, Row, Transaction};
 use std::alloc::{AllocError, Global};
@@ -65,7 +65,10 @@ pub fn find_parts<F: Front, S: Alter>(
 }
 
 /// Gives a key of an owner this row, or none.
-pub fn change_part<T: Front + Table<Key = (<T as Lookup>::Key, <T as Front>::Part)>, S: Alter>(
+pub fn change_part<
+    T: Front + Single + Table<Key = (<T as Lookup>::Key, <T as Front>::Part)>,
+    S: Alter,
+>(
     tx: &mut Transaction<'_, S>,
     alloc: Global,
     owner: &<T as Lookup>::Key,
@@ -83,7 +86,10 @@ where
 }
 
 /// Makes the changes of an owner's rows, the last first, so that the first of a key stands.
-pub fn change_parts<T: Front + Table<Key = (<T as Lookup>::Key, <T as Front>::Part)>, S: Alter>(
+pub fn change_parts<
+    T: Front + Single + Table<Key = (<T as Lookup>::Key, <T as Front>::Part)>,
+    S: Alter,
+>(
     tx: &mut Transaction<'_, S>,
     alloc: Global,
     owner: &<T as Lookup>::Key,

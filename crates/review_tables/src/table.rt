@@ -1,8 +1,9 @@
 //! Tables: the texts that look rows up, put them in and take them away, and how rows read and are stored.
 ghost use Rattle.std.specs.Prelude.{◌≡◌, true, IfOk, OnOk};
 ghost use Rattle.sqlite.specs.Held.{state};
-ghost use Rattle.review_statements.specs.{Content.Removes, Ran.Inside, Ran.Looks, Ran.Opens, Search.Finds, Search.Puts};
-ghost use Rattle.review_statements.specs.Texts.{values_of};
+ghost use Rattle.review_statements.specs.Content.{Remakes, Removes};
+ghost use Rattle.review_statements.specs.Ran.{Inside, Looks, Opens, Refuses, count_in};
+ghost use Rattle.review_statements.specs.{Search.Finds, Search.Puts, Texts.values_of};
 
 use crate::bound::Bound;
 use sqlite::{Alter, Error, Row, Transaction};
@@ -99,6 +100,7 @@ pub trait Table {
         buffer: &'a mut String,
     ) -> Result<Bound<'a>, Error>
         ensures values { IfOk result (λ values. values ≡ form.values key.now row.now) }
+        ensures formed { OnOk result (form.is_key key.now ≡ true) }
         ensures good { OnOk result (form.is_good row.now ≡ true) };
 
     /// The text puts rows in.
@@ -111,6 +113,30 @@ pub trait Table {
     ghost lawful: { IsLawful search form };
 }
 
+/// A table that has one row at a key, at most, since a UNIQUE of it names the columns of keys.
+pub trait Single: Table {
+    ghost use Rattle.review_tables.specs.Single.{IsSingle};
+
+    /// No two of its rows have one key.
+    ghost single: { IsSingle Self.search };
+}
+
+/// A table whose rows mostly get other values: a text gives the rows of a key other ones, each at its place.
+pub trait Rewritten: Table {
+    ghost use Rattle.std.specs.Prelude.{ℕ, List};
+    ghost use Rattle.review_statements.specs.Texts.{Updates};
+
+    /// The text that gives the rows of a key other values.
+    ghost update_sql: { List ℕ };
+
+    /// The text that gives the rows of a key other values.
+    fn update_text() -> &'static str
+        ensures { result.now ≡ update_sql };
+
+    /// The text gives the rows of a key the values with which a row is put in.
+    ghost updates: { (key : Self.Key) (row : Self.Item) → Updates update_sql Self.search.tree (Self.search.at key) (Self.form.values key row) (Self.form.stored key row) };
+}
+
 /// Puts a row in under a key.
 pub fn insert<T: Table, S: Alter>(
     tx: &mut Transaction<'_, S>,
@@ -121,11 +147,31 @@ pub fn insert<T: Table, S: Alter>(
     ensures same_reference { tx.new.conn.ghost_name ≡ tx.old.conn.ghost_name }
     ensures ran { Inside (Puts T.search T.form key.now row.now) (state S.Store tx.old.conn.now) (state S.Store tx.new.conn.now) result }
     ensures open { Opens (state S.Store tx.old.conn.now) (state S.Store tx.new.conn.now) result }
+    ensures refused { Refuses (state S.Store tx.old.conn.now) (state S.Store tx.new.conn.now) result }
+    ensures formed { OnOk result (T.form.is_key key.now ≡ true) }
     ensures good { OnOk result (T.form.is_good row.now ≡ true) }
 {
     let mut buffer = String::new(alloc);
     let values = T::bind_row(alloc, key, row, &mut buffer)?;
     tx.execute(T::insert_text(), values.as_slice())
+}
+
+/// Gives the rows of a key the values of this one, and tells how many there were.
+pub fn update<T: Rewritten, S: Alter>(
+    tx: &mut Transaction<'_, S>,
+    alloc: Global,
+    key: &T::Key,
+    row: &T::Item,
+) -> Result<usize, Error>
+    ensures same_reference { tx.new.conn.ghost_name ≡ tx.old.conn.ghost_name }
+    ensures ran { Inside (Remakes T.search.tree (T.search.at key.now) (T.form.stored key.now row.now) (count_in result)) (state S.Store tx.old.conn.now) (state S.Store tx.new.conn.now) result }
+    ensures open { Opens (state S.Store tx.old.conn.now) (state S.Store tx.new.conn.now) result }
+    ensures formed { OnOk result (T.form.is_key key.now ≡ true) }
+    ensures good { OnOk result (T.form.is_good row.now ≡ true) }
+{
+    let mut buffer = String::new(alloc);
+    let values = T::bind_row(alloc, key, row, &mut buffer)?;
+    tx.execute(T::update_text(), values.as_slice())
 }
 
 /// Takes the rows of a key away.

@@ -1,12 +1,12 @@
 -- What a delta does to the trees, table by table.
 use Rattle.std.specs.List.{list_any}
-use Rattle.std.specs.Prelude.{ℕ, ◌≡◌, ◌==◌, ◌++◌, Bool, true, false, List, [], ◌∷◌, Option, Some, None, string_bytes}
+use Rattle.std.specs.Prelude.{ℕ, ◌≡◌, ◌==◌, ◌++◌, Bool, true, false, List, [], ◌∷◌, Option, Some, None}
 use Rattle.sqlite_trees.specs.Tree.{Trees}
 use Rattle.review_statements.specs.{Content.Then, Content.RemovesWhere, Search.Search, Search.SetsRow, Search.SetsRows}
 use Rattle.review_tables.specs.Fronts.{SetsParts}
 use Rattle.review_rows.specs.{Rows.kept_row, View.tables_version}
 use Rattle.review_rows.specs.declared.rows.{ChangeEdit.ChangeEdit, Delta.Delta, Kept.Kept, Put.Put}
-use Rattle.review_records.specs.Forms.{accounts, members, projects, bases, answers, desk, epochs, is_of_lower, request_key}
+use Rattle.review_records.specs.Forms.{accounts, members, projects, bases, answers, desk, epochs, is_of_lower, kept_answer, request_key}
 use Rattle.review_change_records.specs.Forms.{headers, patches, votes, roles, comments, calls}
 
 -- a row is put, where there is one
@@ -45,7 +45,7 @@ SetsDelta delta = Then (SetsUnowned delta) (SetsEdits [] delta.changes.items)
 
 -- the request is stored
 abbrev pub SetsKept : Kept → Trees → Trees → Type 0
-SetsKept kept = SetsRow answers (request_key (kept_row kept).identity) (Some (record { request = kept.request; content = string_bytes kept.content; reply = string_bytes kept.reply }))
+SetsKept kept = SetsRow answers (request_key (kept_row kept).identity) (Some (kept_answer kept))
 
 -- an epoch is the least open one
 abbrev pub SetsLeast : ℕ → Trees → Trees → Type 0

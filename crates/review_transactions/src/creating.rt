@@ -10,7 +10,7 @@ use review_records::epochs::Epochs;
 use review_records::members::Members;
 use review_records::rows::DeskRow;
 use review_rows::MemberKey;
-use review_tables::changes::{change, set};
+use review_tables::changes::{change, rewrite};
 use review_tables::creating::create_tables;
 use review_tables::versions::TablesVersion;
 use review_words::{AccountNo, Epoch, admin_name, administrators};
@@ -34,8 +34,8 @@ fn put_first<S: Alter>(tx: &mut Transaction<'_, S>, alloc: Global) -> Result<(),
     };
     change::<Accounts, S>(tx, alloc, &first, &name)?;
     change::<Members, S>(tx, alloc, &member, &Some(()))?;
-    set::<Epochs, S>(tx, alloc, &(), &Epoch::first())?;
-    set::<Desk, S>(tx, alloc, &(), &row)
+    rewrite::<Epochs, S>(tx, alloc, &(), &Epoch::first())?;
+    rewrite::<Desk, S>(tx, alloc, &(), &row)
 }
 
 fn make<S: Alter>(tx: &mut Transaction<'_, S>, alloc: Global) -> Result<(), Error>

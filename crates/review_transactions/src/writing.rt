@@ -21,15 +21,15 @@ use review_records::members::Members;
 use review_records::projects::Projects;
 use review_records::rows::DeskRow;
 use review_rows::{ChangeEdit, Delta, Kept, Put};
-use review_tables::changes::{change_all, set};
+use review_tables::changes::{change_all, rewrite, set};
 use review_tables::fronts::change_parts;
-use review_tables::table::Table;
+use review_tables::table::Single;
 use review_words::{ChangeNo, Epoch};
 use sqlite::{Alter, Connection, Error, Transaction};
 use std::alloc::Global;
 
 // Puts a row, where there is one.
-fn put_row<T: Table, S: Alter>(
+fn put_row<T: Single, S: Alter>(
     tx: &mut Transaction<'_, S>,
     alloc: Global,
     put: &Option<Put<T::Key, T::Item>>,
@@ -65,7 +65,7 @@ fn write_edit<S: Alter>(
     ensures same_reference { tx.new.conn.ghost_name ≡ tx.old.conn.ghost_name }
     ensures ran { Inside (SetsEdit edit.now) (state S.Store tx.old.conn.now) (state S.Store tx.new.conn.now) result }
 {
-    set::<Headers, S>(tx, alloc, &edit.change, &edit.header)?;
+    rewrite::<Headers, S>(tx, alloc, &edit.change, &edit.header)?;
     change_parts::<Patches, S>(tx, alloc, &edit.change, &edit.patches)?;
     change_parts::<Votes, S>(tx, alloc, &edit.change, &edit.votes)?;
     change_parts::<Roles, S>(tx, alloc, &edit.change, &edit.roles)?;
@@ -135,7 +135,7 @@ fn close_below<S: Alter>(
     ensures ran { Inside (GivesUp (Some least)) (state S.Store tx.old.conn.now) (state S.Store tx.new.conn.now) result }
 {
     answers::remove_below(tx, least)?;
-    set::<Epochs, S>(tx, alloc, &(), &least)
+    rewrite::<Epochs, S>(tx, alloc, &(), &least)
 }
 
 // The same, if an epoch is named.
@@ -172,7 +172,7 @@ fn write<S: Alter>(
         version: 3,
         requests: numbers.requests + 1,
     };
-    set::<Desk, S>(tx, alloc, &(), &row)
+    rewrite::<Desk, S>(tx, alloc, &(), &row)
 }
 
 /// Writes a delta and a request in one transaction, where the desk said so of itself.

@@ -1,7 +1,7 @@
 use Rattle.std.proofs.Common.{◌≡◌, ◌∙◌}
 use Rattle.sqlite.specs.{Held.state, Values.bound}
 use Rattle.review_statements.proofs.Changes.{inserted}
-use Rattle.review_tables.proofs.Sequences.{one_inside, opened}
+use Rattle.review_tables.proofs.Sequences.{one_inside, opened, refused}
 use Rattle.review_tables.proofs.table.insert.Goals as goal
 
 pub returns-clause-ran : goal.returns-clause-ran
@@ -20,3 +20,9 @@ returns-clause-open g c clean on =
     let old = state g.S.Store c.args.tx.now.conn.now in
     let new = state g.S.Store c.execute.new.self.conn.now in
     opened _ _ old new c.execute.result (c.execute.ensures.runs clean on)
+
+pub returns-clause-refused : goal.returns-clause-refused
+returns-clause-refused g c clean on =
+    let old = state g.S.Store c.args.tx.now.conn.now in
+    let new = state g.S.Store c.execute.new.self.conn.now in
+    refused _ _ old new c.execute.result on (c.execute.ensures.runs clean on)
