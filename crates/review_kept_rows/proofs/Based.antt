@@ -152,13 +152,9 @@ last_unique rows p b m n one other =
     let high = not_above rows p b m n one other in
     omega arith
 
--- what is listed of tables that have the same rows
-pub still_listed : (commits commits_after : List (CommitKey × Unit {0})) (bases after : List (PlaceKey × List ℕ)) (lasts lasts_after : List (BranchKey × ℕ)) → commits ≡ commits_after → bases ≡ after → lasts ≡ lasts_after →
-    AreListed commits bases × AreLast lasts bases → AreListed commits_after after × AreLast lasts_after after
-still_listed commits commits_after bases after lasts lasts_after c b l both = (
-  subst (λ xs. AreListed xs after) c (subst (AreListed commits) b both.0),
-  subst (λ xs. AreLast xs after) l (subst (AreLast lasts) b both.1),
-)
+-- the last places of branches whose bases have the same rows
+pub still_last : (bases after : List (PlaceKey × List ℕ)) (lasts lasts_after : List (BranchKey × ℕ)) → bases ≡ after → lasts ≡ lasts_after → AreLast lasts bases → AreLast lasts_after after
+still_last bases after lasts lasts_after b l all = subst (λ xs. AreLast xs after) l (subst (AreLast lasts) b all)
 
 -- the total of a project that gets a base
 pub total_is : (k known : Bool) (t f old : ℕ) → known ≡ k → f ≡ from_bool (not known) → t ≡ old → t + f ≡ cond k old (old + 1)
