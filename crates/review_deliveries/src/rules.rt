@@ -1,25 +1,24 @@
 //! What decides deliveries.
-use review_chain::Walked;
 use review_file::ProjectFile;
-use review_rows::{Delta, Matter, Need, Rows};
+use review_rows::{Delta, Matter, Need, Rows, Step};
 use review_words::{AccountNo, Command, Epoch, NotTaken, Query, Reply};
 use std::alloc::{AllocError, Global};
 
 /// What a desk is told of commands and questions, from the rows that decide them and the project file by which they are judged. It may
 /// keep what it worked out before, on which no answer may depend.
 pub trait Rules {
-    ghost use Rattle.std.specs.Prelude.{◌≡◌, true, false, ◌<◌, List, length, IfOk, IfErr, option_copied};
+    ghost use Rattle.std.specs.Prelude.{◌≡◌, true, false, ◌<◌, List, length, IfOk, IfErr, IfSome, option_copied};
     ghost use Rattle.review_words.specs.{History.Entry, History.if_done, Texts.IsStored};
     ghost use Rattle.review_rows.specs.{Answer.most_requests, Changes.Reading};
     ghost use Rattle.review_rows.specs.Decisions.{IsUndecided, IsUnread, IsUnshown, NamesEachOnce, IsDoneOrRefused, RestsOn};
     ghost use Rattle.review_rows.specs.{Known.known, Known.number_of, Questions.IsQueryAnswerBy};
     ghost use Rattle.review_rows.specs.Rows.{HasNoEffect, new_least, is_above, is_below};
-    ghost use Rattle.review_rows.specs.Steps.{HasComeTo, HasFile, next, texts_for, topic_of, wants_in, unless_none, OfCommand, OfQuery};
+    ghost use Rattle.review_rows.specs.Steps.{ComesTo, HasComeTo, HasFile, next, texts_for, topic_of, wants_in, unless_none, OfCommand, OfQuery};
     ghost use Rattle.review_rows.specs.View.{AreEnough, IsDecidedAt};
     ghost use Rattle.review_rows.specs.declared.rows.Want.TheVariants as want;
 
-    /// What a command or a question asks of the tables next, where this file was read; nothing where the rows decide it. A look for a chain
-    /// goes on from the walk that an earlier one has come to; none is there at first.
+    /// What a command or a question asks of the tables next, where this file was read; nothing where the rows decide it. Asking goes on from
+    /// the step that it has come to, and tells the one that it comes to once what is asked is known.
     fn next_need(
         &mut self,
         alloc: Global,
@@ -27,12 +26,12 @@ pub trait Rules {
         rows: &Rows,
         caller: AccountNo,
         matter: Matter<'_>,
-        walked: &mut Option<Walked>,
+        come: &mut Step,
     ) -> Result<Option<Need>, AllocError>
-        ensures need { HasComeTo (option_copied read.entry) rows.now caller (topic_of matter.entry) walked.old →
+        ensures need { HasComeTo (option_copied read.entry) rows.now caller (topic_of matter.entry) come.old →
             IfOk result (λ need. wants_in need ≡ unless_none (next (option_copied read.entry) rows.now caller (topic_of matter.entry))) }
-        ensures walked { HasComeTo (option_copied read.entry) rows.now caller (topic_of matter.entry) walked.old →
-            HasComeTo (option_copied read.entry) rows.now caller (topic_of matter.entry) walked.new };
+        ensures come { HasComeTo (option_copied read.entry) rows.now caller (topic_of matter.entry) come.old →
+            IfOk result (λ need. IfSome need (λ n. ComesTo (option_copied read.entry) rows.now caller (topic_of matter.entry) n.wants.items come.new)) };
 
     /// Reads the effective file of the project by which a command or a question is judged, as rows know its text and those of its ancestors; none where
     /// the project has none.

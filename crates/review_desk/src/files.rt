@@ -9,7 +9,7 @@ ghost use Rattle.review_work.specs.OnFile.{ClosedAs, IsTold, OpenedFrom, ThenClo
 ghost use Rattle.review_work.specs.Turns.{ServedInTurns};
 ghost use Rattle.review_work.specs.Worked.{Known, WasMade, WasMigrated, Worked};
 
-use crate::listening::Listening;
+use crate::listening::{Line, Listening};
 use crate::notices::StandardError;
 use crate::serving::serve_on;
 use review_machine::{DeskRules, Outcome};
@@ -57,14 +57,14 @@ pub fn close<F: Start>(conn: FileConnection<F>) -> Result<(), ProgramFault>
 }
 
 // The program's own ends.
-fn ends_of(rt: &HostRuntime, port: u16) -> ProgramEnds<'_>
+fn ends_of<'a>(rt: &'a HostRuntime, line: &'a Line, port: u16) -> ProgramEnds<'a>
     ensures unwarned { StandardError.is_warned result.notices ≡ false }
     ensures idle { Listening.is_idle result.connections ≡ true }
 {
     Ends {
         input: rt.stdin(),
         output: rt.stdout(),
-        connections: Listening::at(rt, port),
+        connections: Listening::at(rt, line, port),
         notices: StandardError::new(rt),
     }
 }
@@ -99,7 +99,8 @@ pub fn work_on<F: Start>(
     ensures { (before : Known) × (after : Known) × (before.is_warned ≡ false) × ThenClosed (λ last ended. Worked over_files task.now before after ended conn last) result }
 {
     let mut rules = DeskRules::new(rt.alloc());
-    let mut ends = ends_of(rt, 0);
+    let line = Line::new();
+    let mut ends = ends_of(rt, &line, 0);
     let (last, ended) = work(rt.alloc(), &mut ends, conn, &mut rules, task);
     after_closing(ended, close(last))
 }
@@ -119,7 +120,8 @@ pub fn serve<F: Start, T: Starts<F>>(
         × ServedInTurns over_files first (OpenedFrom (image_at F.Start)) ClosedAs count before after job × IsTold job result }
 {
     let mut rules = DeskRules::new(rt.alloc());
-    let mut ends = ends_of(rt, port);
+    let line = Line::new();
+    let mut ends = ends_of(rt, &line, port);
     let job = serve_on(rt, file, &mut starts, first, &mut ends, &mut rules, count);
     tell_served(rt, job, count)
 }

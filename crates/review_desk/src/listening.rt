@@ -1,11 +1,13 @@
 //! Connections on loopback, each with a time of its own.
-ghost use Rattle.std.specs.{Duration.as_nanos, Io.ReadsAtMost};
+ghost use Rattle.std.specs.{Duration.as_nanos, Io.ReadsAtMost, Io.WritesAtMost};
 ghost use Rattle.std.specs.Prelude.{◌≡◌, ◌⊎◌, ◌≤◌, ◌<◌, ◌+◌, ◌*◌, true, None, IfSome};
 
 use review_http::{Connections, ConnectionsFault};
+use std::cell::{Ref, RefCell};
 use std::io;
 use std::io::{Error, ErrorKind, Read, Write};
 use std::net::{Shutdown, TcpListener, TcpStream};
+use std::os::fd::OwnedFd;
 use std::time::{Duration, Instant};
 
 /// How many seconds a connection may take in all.
@@ -33,10 +35,77 @@ fn left_of(gone: Duration, seconds: u64) -> Option<Duration>
     if next.is_zero() { None } else { Some(next) }
 }
 
+/// The stream of the connection that is open, which its reader and its writer share.
+#[derive(Drop)]
+pub struct Line {
+    stream: RefCell<Option<TcpStream>>,
+}
+
+impl Line {
+    /// With no connection.
+    pub fn new() -> Line {
+        Line {
+            stream: RefCell::new(None),
+        }
+    }
+
+    // Puts a stream in place of the one that was open, which is closed.
+    fn put(&self, stream: Option<TcpStream>) -> io::Result<()> {
+        match self.stream.try_replace(stream) {
+            Ok(_) => Ok(()),
+            Err(_) => Err(Error::from(ErrorKind::NotConnected)),
+        }
+    }
+
+    fn shared(&self) -> io::Result<Ref<'_, Option<TcpStream>>> {
+        match self.stream.try_borrow() {
+            Ok(stream) => Ok(stream),
+            Err(_) => Err(Error::from(ErrorKind::NotConnected)),
+        }
+    }
+
+    fn read_within(&self, left: Duration, buf: &mut [u8]) -> io::Result<usize>
+        ensures { ReadsAtMost result buf.new }
+    {
+        let shared = self.shared()?;
+        let Some(stream) = &*shared else {
+            return Err(Error::from(ErrorKind::NotConnected));
+        };
+        stream.set_read_timeout(Some(left))?;
+        let mut stream = stream;
+        stream.read(buf)
+    }
+
+    fn write_within(&self, left: Duration, buf: &[u8]) -> io::Result<usize>
+        ensures { WritesAtMost result buf.now }
+    {
+        let shared = self.shared()?;
+        let Some(stream) = &*shared else {
+            return Err(Error::from(ErrorKind::NotConnected));
+        };
+        // A stream has the limit of the listener from the start.
+        if left != Duration::from_secs(QUIET_SECONDS) {
+            stream.set_write_timeout(Some(left))?;
+        }
+        let mut stream = stream;
+        stream.write(buf)
+    }
+
+    // Tells the peer that it is sent no more; where it has gone away there is nobody to tell.
+    fn end_writing(&self) {
+        if let Ok(shared) = self.shared() {
+            if let Some(stream) = &*shared {
+                let _ = stream.shutdown(Shutdown::Write);
+            }
+        }
+    }
+}
+
 /// Where the program listens for connections: on a port of 127.0.0.1, once it is asked to.
 #[derive(Drop)]
 pub struct Listening<'a> {
     rt: &'a HostRuntime,
+    line: &'a Line,
     port: u16,
     listener: Option<TcpListener>,
     // Whether the connection that was accepted last is closed.
@@ -44,12 +113,13 @@ pub struct Listening<'a> {
 }
 
 impl Listening<'_> {
-    /// A place that nothing listens at yet.
-    pub fn at(rt: &HostRuntime, port: u16) -> Listening<'_>
+    /// A place that nothing listens at yet, with a line for its connections.
+    pub fn at<'a>(rt: &'a HostRuntime, line: &'a Line, port: u16) -> Listening<'a>
         ensures { result.is_idle ≡ true }
     {
         Listening {
             rt,
+            line,
             port,
             listener: None,
             is_idle: true,
@@ -61,7 +131,7 @@ impl Listening<'_> {
 #[derive(Drop)]
 struct Timed<'a> {
     rt: &'a HostRuntime,
-    stream: TcpStream,
+    line: &'a Line,
     begun: Instant,
 }
 
@@ -75,17 +145,16 @@ impl Timed<'_> {
     }
 
     /// Reads once, and waits so many seconds at most.
-    fn read_within(&mut self, seconds: u64, buf: &mut [u8]) -> io::Result<usize>
+    fn read_within(&self, seconds: u64, buf: &mut [u8]) -> io::Result<usize>
         ensures { ReadsAtMost result buf.new }
     {
         let left = self.time_left(seconds)?;
-        self.stream.set_read_timeout(Some(left))?;
-        self.stream.read(buf)
+        self.line.read_within(left, buf)
     }
 
     /// Reads what the peer still sends, up to a mebibyte, until it says that it sends no more: if the connection were closed before, the answer
     /// could be lost on its way.
-    fn finish(&mut self) {
+    fn finish(&self) {
         let mut piece = [0u8; 4096];
         for _ in 0..256u16 {
             match self.read_within(LAST_SECONDS, &mut piece) {
@@ -121,10 +190,9 @@ impl Write for Outgoing<'_> {
             return Err(Error::from(ErrorKind::TimedOut));
         }
         let left = self.timed.time_left(QUIET_SECONDS)?;
-        self.timed.stream.set_write_timeout(Some(left))?;
         let piece = &buf[..buf.len().min(PIECE_BYTES)];
         let begun = Instant::now(self.timed.rt)?;
-        let taken = self.timed.stream.write(piece)?;
+        let taken = self.timed.line.write_within(left, piece)?;
         // Where the time is over, a part of the piece may have been taken.
         if taken < piece.len() {
             let waited = begun.elapsed(self.timed.rt)?;
@@ -134,8 +202,16 @@ impl Write for Outgoing<'_> {
     }
 
     fn flush(&mut self) -> io::Result<()> {
-        self.timed.stream.flush()
+        Ok(())
     }
+}
+
+// Listens at a port. What is accepted there has the limit of the listener: how long a write may wait.
+fn listener_at(rt: &HostRuntime, port: u16) -> io::Result<TcpListener> {
+    let listener = TcpListener::bind(rt, ("127.0.0.1", port))?;
+    let same = TcpStream::from(OwnedFd::from(listener.try_clone()?));
+    same.set_write_timeout(Some(Duration::from_secs(QUIET_SECONDS)))?;
+    Ok(listener)
 }
 
 impl<'a> Listening<'a> {
@@ -144,21 +220,14 @@ impl<'a> Listening<'a> {
             return Err(Error::from(ErrorKind::NotConnected));
         };
         let (stream, _peer) = listener.accept()?;
+        self.line.put(Some(stream))?;
         let begun = Instant::now(self.rt)?;
-        let other = stream.try_clone()?;
+        let (rt, line) = (self.rt, self.line);
         let incoming = Incoming {
-            timed: Timed {
-                rt: self.rt,
-                stream,
-                begun,
-            },
+            timed: Timed { rt, line, begun },
         };
         let outgoing = Outgoing {
-            timed: Timed {
-                rt: self.rt,
-                stream: other,
-                begun,
-            },
+            timed: Timed { rt, line, begun },
             is_late: false,
         };
         Ok((incoming, outgoing))
@@ -182,7 +251,7 @@ impl<'a> Connections for Listening<'a> {
         if self.listener.is_some() {
             return Ok(());
         }
-        let Ok(listener) = TcpListener::bind(self.rt, ("127.0.0.1", self.port)) else {
+        let Ok(listener) = listener_at(self.rt, self.port) else {
             return Err(ConnectionsFault::Network);
         };
         self.listener = Some(listener);
@@ -203,10 +272,10 @@ impl<'a> Connections for Listening<'a> {
     }
 
     fn close(&mut self, reader: Incoming<'a>, writer: Outgoing<'a>) {
-        // The peer sees that the answer has ended; where it has gone away there is nobody to tell.
-        let _ = writer.timed.stream.shutdown(Shutdown::Write);
-        let mut reader = reader;
+        drop(writer);
+        self.line.end_writing();
         reader.timed.finish();
+        let _ = self.line.put(None);
         self.is_idle = true;
     }
 }

@@ -1,12 +1,11 @@
 //! The decisions as rules.
 use crate::decisions::decide;
-use review_chain::Walked;
 use review_deliveries::Rules;
 use review_effective::FileMemo;
 use review_file::ProjectFile;
 use review_needs::{next_need, read_file_for};
 use review_questions::show;
-use review_rows::{Delta, Matter, Need, Rows};
+use review_rows::{Delta, Matter, Need, Rows, Step};
 use review_words::{AccountNo, Command, Epoch, NotTaken, Query, Reply};
 use std::alloc::{AllocError, Global};
 
@@ -33,9 +32,9 @@ impl Rules for DeskRules {
         rows: &Rows,
         caller: AccountNo,
         matter: Matter<'_>,
-        walked: &mut Option<Walked>,
+        come: &mut Step,
     ) -> Result<Option<Need>, AllocError> {
-        next_need(alloc, &mut self.memo, read, rows, caller, matter, walked)
+        next_need(alloc, &mut self.memo, read, rows, caller, matter, come)
     }
 
     fn read(

@@ -1,16 +1,17 @@
--- Looks for a chain that go on.
-use Rattle.std.proofs.Common.{List, ap, ◌≡◌, ℕ, true, [], Option, Some, None, refl, sym, ◌∙◌, subst}
-use Rattle.std.specs.Prelude.{◌&&◌, not, is_some, IfSome}
-use Rattle.review_words.specs.declared.command.Command.TheVariants.{CreateAccount, PutGroup, PutProject, RecordBase, CloseEpoch, CreateChange, OnChange, Submit}
+-- Asking that goes on, step by step.
+use Rattle.std.proofs.Common.{List, ap, ◌≡◌, ℕ, true, [], ◌∷◌, Option, Some, None, refl, sym, ◌∙◌, subst}
+use Rattle.std.specs.Prelude.{◌&&◌, ◌++◌, not, IfSome}
+use Rattle.review_words.specs.declared.command.Command.TheVariants.{Submit}
 use Rattle.review_chain.proofs.Wanting.{walked_alone}
 use Rattle.review_chain.specs.{Branches.Branch, Parts.HasWalked, declared.walks.Walked.Walked}
 use Rattle.review_changes.specs.Change.{Change, is_open}
-use Rattle.review_rows.specs.{Files.File, Known.known, Known.change_in, Links.links_in}
-use Rattle.review_rows.specs.Steps.{Topic, OfCommand, OfQuery, HasComeTo, MayGoOn, last_wants, next, next_of, or_next, steps, unless_none}
+use Rattle.review_rows.proofs.Asked.{change_comes, come_stays, file_comes, first_comes, to_file}
+use Rattle.review_rows.specs.{Files.File, Known.known, Known.change_in, Lines.most_depth, Links.links_in}
+use Rattle.review_rows.specs.Steps.{Topic, OfCommand, HasComeTo, MayGoOn, MayGoOnFor, change_wants, file_wants, first_wants, last_wants, line_steps, next, next_of, or_next, parent_of, steps, unknown}
 use Rattle.review_rows.specs.declared.rows.{Rows.Rows, Want.Want}
-use Rattle.review_needs.proofs.Asking.{first_left}
-use Rattle.review_needs.specs.Walks.{IsWalkIn, MayGoOnFor}
+use Rattle.review_needs.specs.{Asked.IsAsked, Walks.IsWalkIn}
 use Rattle.review_rows.specs.declared.rows.Want.TheVariants as want
+use Rattle.review_rows.specs.declared.step.Step.TheVariants as step
 
 -- a walk that was begun goes on in the branch of the change
 pub may_walk : (rows : Rows) (n : ℕ) (c : Change) (o : Option Walked) → change_in (known rows (want.Change n)) ≡ Some c → MayGoOn rows n o → IfSome o (IsWalkIn (links_in rows c.project c.branch) n)
@@ -30,60 +31,81 @@ may_go_on rows n c (Some w) found ready h = record { change_is = h.0; change = c
 pub walk_alone : (b : Branch) (n : ℕ) (w : Walked) → w ≡ record { change = n; first = n; count = 1 } → IsWalkIn b n w
 walk_alone b n w is = subst (IsWalkIn b n) (sym is) (refl, walked_alone b n)
 
--- what a look has come to, for a submit alone
-pub come_for : (file : Option File) (rows : Rows) (caller : ℕ) (topic : Topic) (o : Option Walked) → HasComeTo file rows caller topic o → MayGoOnFor rows topic o
-come_for file rows caller (OfQuery query) None h = refl
-come_for file rows caller (OfQuery query) (Some w) h = absurd h
-come_for file rows caller (OfCommand (CreateAccount name)) None h = refl
-come_for file rows caller (OfCommand (CreateAccount name)) (Some w) h = absurd h
-come_for file rows caller (OfCommand (PutGroup group members)) None h = refl
-come_for file rows caller (OfCommand (PutGroup group members)) (Some w) h = absurd h
-come_for file rows caller (OfCommand (PutProject project text)) None h = refl
-come_for file rows caller (OfCommand (PutProject project text)) (Some w) h = absurd h
-come_for file rows caller (OfCommand (RecordBase project branch commit)) None h = refl
-come_for file rows caller (OfCommand (CloseEpoch epoch)) None h = refl
-come_for file rows caller (OfCommand (RecordBase project branch commit)) (Some w) h = absurd h
-come_for file rows caller (OfCommand (CloseEpoch epoch)) (Some w) h = absurd h
-come_for file rows caller (OfCommand (CreateChange new)) None h = refl
-come_for file rows caller (OfCommand (CreateChange new)) (Some w) h = absurd h
-come_for file rows caller (OfCommand (OnChange change command)) None h = refl
-come_for file rows caller (OfCommand (OnChange change command)) (Some w) h = absurd h
-come_for file rows caller (OfCommand (Submit n)) None h = tt
-come_for file rows caller (OfCommand (Submit n)) (Some w) h = h.1
+-- what a submit may go on from is a walk to its change
+pub of_submit : (rows : Rows) (n : ℕ) (o : Option Walked) → MayGoOnFor rows (OfCommand (Submit n)) o → MayGoOn rows n o
+of_submit rows n None h = tt
+of_submit rows n (Some w) h =
+    let same = h.0 in
+    let is : w.change ≡ n = cc in
+    subst (λ m. MayGoOn rows m (Some w)) is h.1
 
--- where all was asked that is asked before, the walk is what a look has come to
-pub come_to : (file : Option File) (rows : Rows) (caller : ℕ) (topic : Topic) (o : Option Walked) → next_of rows (steps file rows caller topic) ≡ [] → MayGoOnFor rows topic o → HasComeTo file rows caller topic o
-come_to file rows caller topic None made h = tt
-come_to file rows caller (OfQuery query) (Some w) made h = absurd (cc)
-come_to file rows caller (OfCommand (CreateAccount name)) (Some w) made h = absurd (cc)
-come_to file rows caller (OfCommand (PutGroup group members)) (Some w) made h = absurd (cc)
-come_to file rows caller (OfCommand (PutProject project text)) (Some w) made h = absurd (cc)
-come_to file rows caller (OfCommand (RecordBase project branch commit)) (Some w) made h = absurd (cc)
-come_to file rows caller (OfCommand (CloseEpoch epoch)) (Some w) made h = absurd (cc)
-come_to file rows caller (OfCommand (CreateChange new)) (Some w) made h = absurd (cc)
-come_to file rows caller (OfCommand (OnChange change command)) (Some w) made h = absurd (cc)
-come_to file rows caller (OfCommand (Submit n)) (Some w) made h = (made, h)
+-- and such a walk is what it may go on from
+pub for_submit : (rows : Rows) (n : ℕ) (o : Option Walked) → MayGoOn rows n o → MayGoOnFor rows (OfCommand (Submit n)) o
+for_submit rows n None h = tt
+for_submit rows n (Some w) h = (ap (λ m. OfCommand (Submit m)) (sym h.change_is), subst (λ m. MayGoOn rows m (Some w)) (sym h.change_is) h)
 
-made_before : (file : Option File) (rows : Rows) (caller : ℕ) (topic : Topic) (w : Walked) → HasComeTo file rows caller topic (Some w) → next_of rows (steps file rows caller topic) ≡ []
-made_before file rows caller (OfQuery query) w h = absurd h
-made_before file rows caller (OfCommand (CreateAccount name)) w h = absurd h
-made_before file rows caller (OfCommand (PutGroup group members)) w h = absurd h
-made_before file rows caller (OfCommand (PutProject project text)) w h = absurd h
-made_before file rows caller (OfCommand (RecordBase project branch commit)) w h = absurd h
-made_before file rows caller (OfCommand (CloseEpoch epoch)) w h = absurd h
-made_before file rows caller (OfCommand (CreateChange new)) w h = absurd h
-made_before file rows caller (OfCommand (OnChange change command)) w h = absurd h
-made_before file rows caller (OfCommand (Submit n)) w h = h.0
-
--- a look that was begun has all that is asked before
-pub made_where : (file : Option File) (rows : Rows) (caller : ℕ) (topic : Topic) (o : Option Walked) (ws : List Want) → is_some o ≡ true → HasComeTo file rows caller topic o → ws ≡ [] → ws ≡ next_of rows (steps file rows caller topic)
-made_where file rows caller topic None ws begun h none = absurd (cc)
-made_where file rows caller topic (Some w) ws begun h none = none ∙ sym (made_before file rows caller topic w h)
+-- the first list is asked where it isn't empty
+first_of : (ws later : List Want) → (ws ≡ [] → ⊥) → or_next ws later ≡ ws
+first_of [] later some = absurd (some refl)
+first_of (w ∷ ws) later some = refl
 
 -- what is left of the steps is asked next
-pub step_left : (file : Option File) (rows : Rows) (caller : ℕ) (topic : Topic) (ws : List Want) → ws ≡ next_of rows (steps file rows caller topic) → (ws ≡ [] → ⊥) → Some ws ≡ unless_none (next file rows caller topic)
-step_left file rows caller topic ws is some = first_left ws (last_wants rows topic) some ∙ ap (λ a. unless_none (or_next a (last_wants rows topic))) is
+next_is : (file : Option File) (rows : Rows) (caller : ℕ) (topic : Topic) (ws : List Want) → next_of rows (steps file rows caller topic) ≡ ws → (ws ≡ [] → ⊥) → ws ≡ next file rows caller topic
+next_is file rows caller topic ws is some = sym (ap (λ l. or_next l (last_wants rows topic)) is ∙ first_of ws (last_wants rows topic) some)
 
--- and otherwise what is asked last
-pub last_left : (file : Option File) (rows : Rows) (caller : ℕ) (topic : Topic) (ws last : List Want) → ws ≡ next_of rows (steps file rows caller topic) → ws ≡ [] → last ≡ last_wants rows topic → unless_none last ≡ unless_none (next file rows caller topic)
-last_left file rows caller topic ws last is none so = ap unless_none so ∙ ap (λ a. unless_none (or_next a (last_wants rows topic))) (sym none ∙ is)
+-- the later steps, where nothing is left of the first
+later : (file : Option File) (rows : Rows) (topic : Topic) (caller : ℕ) → List (List Want)
+later file rows topic caller = change_wants rows topic ∷ (line_steps rows most_depth (parent_of rows topic) ++ file_wants file caller topic ∷ [])
+
+pub first_asked : (file : Option File) (rows : Rows) (caller : ℕ) (topic : Topic) (ws : List Want) → ws ≡ unknown rows (first_wants caller topic) → (ws ≡ [] → ⊥) → IsAsked file rows caller topic ws step.ByChange
+first_asked file rows caller topic ws is some = (
+  next_is file rows caller topic ws (ap (λ l. or_next l (next_of rows (later file rows topic caller))) (sym is) ∙ first_of ws (next_of rows (later file rows topic caller)) some) some,
+  first_comes file rows caller topic ws (sym is),
+)
+
+pub change_asked : (file : Option File) (rows : Rows) (caller : ℕ) (topic : Topic) (ws : List Want) → HasComeTo file rows caller topic step.ByChange → ws ≡ unknown rows (change_wants rows topic) → (ws ≡ [] → ⊥) →
+    IsAsked file rows caller topic ws step.Above
+change_asked file rows caller topic ws h is some =
+    let rest = next_of rows (line_steps rows most_depth (parent_of rows topic) ++ file_wants file caller topic ∷ []) in (
+      next_is file rows caller topic ws (ap (λ l. or_next l (or_next (unknown rows (change_wants rows topic)) rest)) h ∙ (ap (λ l. or_next l rest) (sym is) ∙ first_of ws rest some)) some,
+      change_comes file rows caller topic ws h (sym is),
+    )
+
+or_of : (ws : List Want) (a b : List Want) → a ≡ ws → (ws ≡ [] → ⊥) → or_next a b ≡ ws
+or_of ws a b is some = ap (λ l. or_next l b) is ∙ first_of ws b some
+
+or_parts : (a b c : List Want) → or_next (or_next a b) c ≡ or_next a (or_next b c)
+or_parts [] b c = refl
+or_parts (w ∷ ws) b c = refl
+
+-- what is left of some steps and of more
+next_joined : (rows : Rows) (xs ys : List (List Want)) → next_of rows (xs ++ ys) ≡ or_next (next_of rows xs) (next_of rows ys)
+next_joined rows [] ys = refl
+next_joined rows (x ∷ xs) ys = ap (or_next (unknown rows x)) (next_joined rows xs ys) ∙ sym (or_parts (unknown rows x) (next_of rows xs) (next_of rows ys))
+
+pub above_asked : (file : Option File) (rows : Rows) (caller : ℕ) (topic : Topic) (ws : List Want) → HasComeTo file rows caller topic step.Above → ws ≡ next_of rows (line_steps rows most_depth (parent_of rows topic)) →
+    (ws ≡ [] → ⊥) → IsAsked file rows caller topic ws step.Above
+above_asked file rows caller topic ws h is some =
+    let line = line_steps rows most_depth (parent_of rows topic) in
+    let last = file_wants file caller topic ∷ [] in
+    let rest = next_of rows (line ++ last) in
+    let left : rest ≡ ws = next_joined rows line last ∙ or_of ws (next_of rows line) (next_of rows last) (sym is) some in (
+      next_is file rows caller topic ws (ap (λ l. or_next l (or_next (unknown rows (change_wants rows topic)) rest)) h.0 ∙ (ap (λ l. or_next l rest) h.1 ∙ left)) some,
+      λ more both all added. come_stays file rows more both caller topic step.Above added h,
+    )
+
+pub file_asked : (file : Option File) (rows : Rows) (caller : ℕ) (topic : Topic) (ws : List Want) → HasComeTo file rows caller topic step.ByFile → ws ≡ unknown rows (file_wants file caller topic) → (ws ≡ [] → ⊥) →
+    IsAsked file rows caller topic ws (step.Last None)
+file_asked file rows caller topic ws h is some =
+    (next_is file rows caller topic ws (to_file file rows caller topic h ∙ or_of ws (unknown rows (file_wants file caller topic)) [] (sym is) some) some, file_comes file rows caller topic ws h (sym is))
+
+-- where nothing is left of what is asked by the file, asking has come to the last step
+pub file_made : (file : Option File) (rows : Rows) (caller : ℕ) (topic : Topic) (ws : List Want) → HasComeTo file rows caller topic step.ByFile → ws ≡ unknown rows (file_wants file caller topic) → ws ≡ [] →
+    HasComeTo file rows caller topic (step.Last None)
+file_made file rows caller topic ws h is none = (to_file file rows caller topic h ∙ ap (λ l. or_next l []) (sym is ∙ none), tt)
+
+-- what is asked last, which goes on from a walk
+pub last_asked : (file : Option File) (rows : Rows) (caller : ℕ) (topic : Topic) (ws : List Want) (o walked : Option Walked) → HasComeTo file rows caller topic (step.Last o) → ws ≡ last_wants rows topic → MayGoOnFor rows topic walked →
+    IsAsked file rows caller topic ws (step.Last walked)
+last_asked file rows caller topic ws o walked h is may =
+    (is ∙ sym (ap (λ l. or_next l (last_wants rows topic)) h.0), λ more both all added. come_stays file rows more both caller topic (step.Last walked) added (h.0, may))

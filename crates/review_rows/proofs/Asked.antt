@@ -19,10 +19,11 @@ use Rattle.review_rows.specs.Files.{File}
 use Rattle.review_rows.specs.Known.{Found, Stands, IsFound, known, number_of, change_in, standing_of, file_in, Agrees, IsKnown, AreAdded}
 use Rattle.review_rows.specs.{Lines.most_depth, Links.link_for, Links.links_in}
 use Rattle.review_rows.specs.Rows.{ClosedEpochs, Tables, base_cmp}
-use Rattle.review_rows.specs.Steps.{Topic, OfCommand, OfQuery, first_wants, change_wants, file_wants, given_wants, has_some, question_wants, request_wants, submit_wants, wants_by, own_in, known_parent, parent_or, needs_file, project_for, asks_file, parent_of, line_wants, line_steps, wanted_for, chain_wants, chain_left, last_of, last_wants, look_up, steps, unknown, or_next, next, next_of, left, left_before, left_if, left_of, left_where, AskingLowers, HasComeTo, IsWalkTo}
-use Rattle.review_rows.specs.declared.rows.{Rows.Rows, Want.Want}
+use Rattle.review_rows.specs.Steps.{Topic, OfCommand, OfQuery, first_wants, change_wants, file_wants, given_wants, has_some, question_wants, request_wants, submit_wants, wants_by, own_in, known_parent, parent_or, needs_file, project_for, asks_file, parent_of, line_wants, line_steps, wanted_for, chain_wants, chain_left, last_of, last_wants, look_up, steps, unknown, or_next, next, next_of, left, left_before, left_if, left_of, left_where, AskingLowers, ComesTo, HasComeTo, IsWalkTo, MayGoOnFor}
+use Rattle.review_rows.specs.declared.{rows.Rows.Rows, rows.Want.Want, step.Step.Step}
 use Rattle.review_words.specs.declared.command.Query.TheVariants as asked
 use Rattle.review_rows.specs.declared.rows.Want.TheVariants as want
+use Rattle.review_rows.specs.declared.step.Step.TheVariants as step
 use Rattle.review_words.specs.declared.command.ChangeCommand.TheVariants as on
 use Rattle.review_words.specs.declared.command.ChangeQuery.TheVariants as shown
 
@@ -510,19 +511,72 @@ walk_stays rows more both n w added there h = record {
   walks = walked_kept (links_in rows h.change.project h.change.branch) (links_in both h.change.project h.change.branch) (links_grow rows more both h.change.project h.change.branch added) w h.walks;
 }
 
--- where a look for a chain has come to, it has come to where more is known
-pub come_stays : (file : Option File) (rows more both : Rows) (caller : ℕ) (topic : Topic) (w : Option Walked) → AreAdded rows more both → HasComeTo file rows caller topic w → HasComeTo file both caller topic w
-come_stays file rows more both caller topic None added h = tt
-come_stays file rows more both caller (OfQuery query) (Some w) added h = h
-come_stays file rows more both caller (OfCommand (CreateAccount name)) (Some w) added h = h
-come_stays file rows more both caller (OfCommand (PutGroup group members)) (Some w) added h = h
-come_stays file rows more both caller (OfCommand (PutProject project text)) (Some w) added h = h
-come_stays file rows more both caller (OfCommand (RecordBase project branch commit)) (Some w) added h = h
-come_stays file rows more both caller (OfCommand (CloseEpoch epoch)) (Some w) added h = h
-come_stays file rows more both caller (OfCommand (CreateChange new)) (Some w) added h = h
-come_stays file rows more both caller (OfCommand (OnChange change command)) (Some w) added h = h
-come_stays file rows more both caller (OfCommand (Submit n)) (Some w) added h =
-    let topic : Topic = OfCommand (Submit n) in (
-      none_left_later rows more both added (steps file rows caller topic) (steps file both caller topic) (steps_stay file rows more both caller topic added) h.0,
-      walk_stays rows more both n w added (submit_known rows caller n (none_of_steps rows (steps file rows caller topic) h.0).0) h.1,
-    )
+-- nothing is left of a line where nothing was left of it before
+line_left : (rows more both : Rows) (n : ℕ) (p : Option (List ℕ)) → AreAdded rows more both → next_of rows (line_steps rows n p) ≡ [] → next_of both (line_steps both n p) ≡ []
+line_left rows more both zero p added none = refl
+line_left rows more both (suc n) p added none =
+    let q = none_in (unknown rows (line_wants p)) (next_of rows (line_steps rows n (option_and_then (known_parent rows) p))) none in
+    let later = line_left rows more both n (option_and_then (known_parent rows) p) added q.1 in
+    let here = none_after rows more both (line_wants p) [] added q.0 tt in
+    ap (λ o. or_next (unknown both (line_wants p)) (next_of both (line_steps both n o))) (above_stays rows more both p added q.0) ∙ (ap (λ l. or_next l (next_of both (line_steps both n (option_and_then (known_parent rows) p)))) here ∙ later)
+
+-- what was asked of some look-ups that stay the same leaves nothing of them
+left_after : (rows more both : Rows) (ws now us : List Want) → AreAdded rows more both → now ≡ ws → unknown rows ws ≡ us → All (IsKnown more) us → unknown both now ≡ []
+left_after rows more both ws now us added same is all = ap (unknown both) same ∙ none_after rows more both ws us added is (by_recursion (IsKnown more) us all)
+
+-- the same, where nothing was left of them
+left_none : (rows more both : Rows) (ws now : List Want) → AreAdded rows more both → now ≡ ws → unknown rows ws ≡ [] → unknown both now ≡ []
+left_none rows more both ws now added same none = ap (unknown both) same ∙ none_after rows more both ws [] added none tt
+
+may_stay : (rows more both : Rows) (caller : ℕ) (topic : Topic) (o : Option Walked) → AreAdded rows more both → unknown rows (first_wants caller topic) ≡ [] → MayGoOnFor rows topic o → MayGoOnFor both topic o
+may_stay rows more both caller topic None added first h = tt
+may_stay rows more both caller topic (Some w) added first h =
+    (h.0, walk_stays rows more both w.change w added (submit_known rows caller w.change (subst (λ t. unknown rows (first_wants caller t) ≡ []) h.0 first)) h.1)
+
+-- where asking has come to, it has come to where more is known
+pub come_stays : (file : Option File) (rows more both : Rows) (caller : ℕ) (topic : Topic) (s : Step) → AreAdded rows more both → HasComeTo file rows caller topic s → HasComeTo file both caller topic s
+come_stays file rows more both caller topic step.First added h = tt
+come_stays file rows more both caller topic step.ByChange added h = left_none rows more both (first_wants caller topic) (first_wants caller topic) added refl h
+come_stays file rows more both caller topic step.Above added h =
+    (left_none rows more both (first_wants caller topic) (first_wants caller topic) added refl h.0, left_none rows more both (change_wants rows topic) (change_wants both topic) added (same_wants rows more both caller topic added h.0) h.1)
+come_stays file rows more both caller topic step.ByFile added h = (
+  left_none rows more both (first_wants caller topic) (first_wants caller topic) added refl h.0,
+  left_none rows more both (change_wants rows topic) (change_wants both topic) added (same_wants rows more both caller topic added h.0) h.1,
+  ap (λ p. next_of both (line_steps both most_depth p)) (parents_stay rows more both caller topic added h.0 h.1) ∙ line_left rows more both most_depth (parent_of rows topic) added h.2,
+)
+come_stays file rows more both caller topic (step.Last w) added h = (
+  none_left_later rows more both added (steps file rows caller topic) (steps file both caller topic) (steps_stay file rows more both caller topic added) h.0,
+  may_stay rows more both caller topic w added (none_of_steps rows (steps file rows caller topic) h.0).0 h.1,
+)
+
+-- where the look-ups of the first step are made, asking has come to what is asked by the change
+pub first_comes : (file : Option File) (rows : Rows) (caller : ℕ) (topic : Topic) (ws : List Want) → unknown rows (first_wants caller topic) ≡ ws → ComesTo file rows caller topic ws step.ByChange
+first_comes file rows caller topic ws is = λ more both all added. left_after rows more both (first_wants caller topic) (first_wants caller topic) ws added refl is all
+
+-- where those are made too that are asked by the change, it has come to the ancestors
+pub change_comes : (file : Option File) (rows : Rows) (caller : ℕ) (topic : Topic) (ws : List Want) → HasComeTo file rows caller topic step.ByChange → unknown rows (change_wants rows topic) ≡ ws →
+    ComesTo file rows caller topic ws step.Above
+change_comes file rows caller topic ws h is = λ more both all added.
+    (come_stays file rows more both caller topic step.ByChange added h, left_after rows more both (change_wants rows topic) (change_wants both topic) ws added (same_wants rows more both caller topic added h) is all)
+
+-- the last of some steps
+pub last_joins : (rows : Rows) (xs : List (List Want)) (x : List Want) → next_of rows xs ≡ [] → next_of rows (xs ++ x ∷ []) ≡ or_next (unknown rows x) []
+last_joins rows [] x none = refl
+last_joins rows (y ∷ ys) x none =
+    let p = none_in (unknown rows y) (next_of rows ys) none in
+    ap (λ l. or_next l (next_of rows (ys ++ x ∷ []))) p.0 ∙ last_joins rows ys x p.1
+
+-- the steps that have nothing left before what is asked by the file
+pub to_file : (file : Option File) (rows : Rows) (caller : ℕ) (topic : Topic) → HasComeTo file rows caller topic step.ByFile → next_of rows (steps file rows caller topic) ≡ or_next (unknown rows (file_wants file caller topic)) []
+to_file file rows caller topic h =
+    let line = line_steps rows most_depth (parent_of rows topic) in
+    let rest = next_of rows (line ++ file_wants file caller topic ∷ []) in
+    ap (λ l. or_next l (or_next (unknown rows (change_wants rows topic)) rest)) h.0 ∙ (ap (λ l. or_next l rest) h.1 ∙ last_joins rows line (file_wants file caller topic) h.2)
+
+-- and where those are made that are asked by the file, it has come to the last
+pub file_comes : (file : Option File) (rows : Rows) (caller : ℕ) (topic : Topic) (ws : List Want) → HasComeTo file rows caller topic step.ByFile → unknown rows (file_wants file caller topic) ≡ ws →
+    ComesTo file rows caller topic ws (step.Last None)
+file_comes file rows caller topic ws h is = λ more both all added. (
+  to_file file both caller topic (come_stays file rows more both caller topic step.ByFile added h) ∙ ap (λ l. or_next l []) (left_after rows more both (file_wants file caller topic) (file_wants file caller topic) ws added refl is all),
+  tt,
+)

@@ -10,6 +10,7 @@ pub mod links;
 pub mod matter;
 pub mod rows;
 pub mod shelf;
+pub mod step;
 
 pub use links::RowLinks;
 pub use matter::Matter;
@@ -18,3 +19,4 @@ pub use rows::{
     Rows, StoredFile, Want,
 };
 pub use shelf::{Shelf, ShelfFault};
+pub use step::Step;
