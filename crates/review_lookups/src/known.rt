@@ -21,10 +21,7 @@ pub fn find_known(alloc: Global, want: &Want, counts: &Counts, rows: &mut Rows) 
 {
     match want {
         Want::Requests => known_requests(counts, rows),
-        Want::Room(Counted::Projects) => known_room_for_projects(counts, rows),
-        Want::Room(Counted::BasesOf(project)) => {
-            known_room_for_bases(alloc, project, counts, rows)
-        }
+        Want::Room(counted) => known_room(alloc, counted, counts, rows),
         _ => None,
     }
 }
@@ -38,6 +35,23 @@ fn known_requests(counts: &Counts, rows: &mut Rows) -> Option<Sight>
     let requests = counts.stored_requests()?;
     rows.learn_requests(requests);
     Some(Sight::Learnt)
+}
+
+// Whether there may be one more of what is counted.
+fn known_room(
+    alloc: Global,
+    counted: &Counted,
+    counts: &Counts,
+    rows: &mut Rows,
+) -> Option<Sight>
+    ensures told { IfSome result (λ s. (db : Trees) → AreBounded counts.now (tables_at db) → Sees (want.Room counted.now) rows.old rows.new db s) }
+    ensures learnt { IfSome result (λ s. s ≡ Sight.Learnt → HasLearnt (want.Room counted.now) rows.old rows.new) }
+    ensures same { IfNone result (rows.new ≡ rows.old) }
+{
+    match counted {
+        Counted::Projects => known_room_for_projects(counts, rows),
+        Counted::BasesOf(project) => known_room_for_bases(alloc, project, counts, rows),
+    }
 }
 
 // Whether there may be one more project.

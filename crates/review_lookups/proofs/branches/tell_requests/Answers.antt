@@ -10,7 +10,7 @@ returns-in-Some-Some-clause-told c = λ db is bounded.
     let row = c.in-Some-Some.row in
     let found : c.args.found ≡ Some (Some row) = search rules in
     let same : row.requests ≡ (tables_at db).requests = ap (number_of (λ (d : DeskRow). d.requests)) (sym found ∙ is) in
-    ((Number row.requests, (row.requests, refl, same), c.learn_requests-2.ensures), c.learn_requests.ensures (tables_at db) bounded same)
+    ((Number row.requests, (row.requests, refl, same), c.learn_requests-in-Some-Some.ensures), c.learn_requests.ensures (tables_at db) bounded same)
 
 pub returns-in-Some-None-clause-told : goal.returns-in-Some-None-clause-told
 returns-in-Some-None-clause-told c = λ db is bounded.

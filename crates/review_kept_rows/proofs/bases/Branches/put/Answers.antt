@@ -13,8 +13,8 @@ use Rattle.review_kept_rows.proofs.bases.Branches.put.Goals as goal
 pub listed_at-requires : goal.listed_at-requires
 listed_at-requires c = subst (λ (k : BranchKey). IsLastPlace c.args.self.now.bases k.project k.branch c.last_place-ended.result) c.in_ok-branch.ensures c.last_place-ended.ensures
 
-pub begin-requires : goal.begin-requires
-begin-requires c =
+pub begin-begun-requires : goal.begin-begun-requires
+begin-begun-requires c =
     let base = c.args.base.now in
     let was = c.in_ok-before.ensures ∙ ap (λ (v : BranchesView). option_map (commit_at base.key) (row_in place_cmp v.bases base.key)) (sym c.self.view_is) in
     let stands = stood_before base c.in_ok-before.before (rows_of c.self.inside.commits) (rows_of c.self.inside.bases) c.self.invariant.0 was in
