@@ -79,3 +79,8 @@ module _ {S X D : Type 0} (g : Ghosts S) (F : Trees → X → Type 0) (G : Trees
 pub asked_failed : {S X Y : Type 0} (g : Ghosts S) (is : Bool) (F : Trees → X → Type 0) (G : Trees → Y → Type 0) (a b : Held S) (e f : Error) → LooksIf g is F a b (Err e) → Looks G (state g a) (state g b) (Err f)
 asked_failed g true F G a b e f it = failed F G (state g a) (state g b) e f it
 asked_failed g false F G a b e f it = absurd it
+
+-- all were made
+pub all_seen : {S : Type 0} (g : Ghosts S) (is : Bool) (rows : Rows) (before more : Counts) (a b : Held S) → LooksIf g is (Have rows before more) a b (Ok tt) → LooksIf g is (WereSeen rows before more) a b (Ok sight.Learnt)
+all_seen g true rows before more a b it = look_on (Have rows before more) (WereSeen rows before more) (state g a) (state g b) tt (Ok sight.Learnt) it (λ db h. h)
+all_seen g false rows before more a b it = (it.0, λ db. it.1 db)
