@@ -69,6 +69,14 @@ def is_met(what, rates, than, others, most):
     return is_right
 
 
+def is_met_above(what, rates, than, others, most):
+    """The same where the first may take at most so many microseconds more."""
+    one, other = min(rates), min(others)
+    is_right = one <= other + most
+    print(f"{what}: {one:.1f} us; {than}: {other:.1f} us; {one - other:.1f} us more; at most {most}: {judged(is_right)}")
+    return is_right
+
+
 def judged(is_right):
     """How it is told whether a bound is kept."""
     return "not judged" if IS_SMALLEST else "yes" if is_right else "NO"

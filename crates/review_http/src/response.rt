@@ -13,6 +13,9 @@ use review_words::Reply;
 use serde_json::{Value, json};
 use std::alloc::{AllocError, Global};
 
+/// Room for what stands before and behind a text.
+const HEAD_ROOM: usize = 256;
+
 fn fault_value(alloc: Global, fault: HttpFault) -> Result<Value, AllocError>
     ensures { IfOk result (λ v. view v ≡ fault_data fault) }
 {
@@ -77,7 +80,7 @@ fn response_with(
 ) -> Result<Vec<u8>, AllocError>
     ensures { IfOk result (λ v. v.items ≡ response_with told.now text.now) }
 {
-    let mut out = Vec::new(alloc);
+    let mut out = Vec::with_capacity(alloc, text.len() + HEAD_ROOM)?;
     out.extend_from_slice(b"HTTP/1.1 ")?;
     put_status(&mut out, alloc, status_of(told))?;
     out.extend_from_slice(

@@ -1,5 +1,5 @@
 -- The JSON of a reply.
-use Rattle.std.specs.Prelude.{ℕ, List, codes, Bool, true, false}
+use Rattle.std.specs.Prelude.{ℕ, List, codes}
 use Rattle.serde_json.specs.Data.{Data, string, array, object, no_members, member}
 use Rattle.review_words.specs.{Faults.code_name, Faults.file_fault_name, Refusals.refusal_number, Refusals.refusal_name}
 use Rattle.review_words.specs.declared.faults.FileFault.{FileFault, TheVariants.Expr}
@@ -39,15 +39,12 @@ answer_data (Requirements requirements) = array (requirements_data requirements)
 answer_data (Threads threads) = array (threads_data threads)
 answer_data (Attention calls) = array (calls_data calls)
 
--- whether an answer is a list of threads
-abbrev pub are_threads : Answer → Bool
-are_threads (Threads threads) = true
-are_threads answer = false
-
--- whether a reply tells threads
-abbrev pub tells_threads : Reply → Bool
-tells_threads (Done answer) = are_threads answer
-tells_threads reply = false
+-- a refusal for a file with a fault of this name
+abbrev pub named_fault_data : List ℕ → Data
+named_fault_data name =
+    object (member (codes "number") (number_data 26)
+    (member (codes "reason") (string name)
+    (member (codes "refused") (string (codes "BAD_FILE")) no_members)))
 
 -- a refusal for a file with this fault; for an expression's fault with its code and its place
 abbrev pub bad_file_data : FileFault → Data
@@ -57,10 +54,7 @@ bad_file_data (Expr fault) =
     (member (codes "place") (number_data fault.place)
     (member (codes "reason") (string (codes "EXPR"))
     (member (codes "refused") (string (codes "BAD_FILE")) no_members)))))
-bad_file_data fault =
-    object (member (codes "number") (number_data 26)
-    (member (codes "reason") (string (file_fault_name fault))
-    (member (codes "refused") (string (codes "BAD_FILE")) no_members)))
+bad_file_data fault = named_fault_data (file_fault_name fault)
 
 -- a refusal for a change whose requirement isn't satisfied
 abbrev pub unsatisfied_data : ℕ → List ℕ → Data

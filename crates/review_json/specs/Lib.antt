@@ -3,4 +3,5 @@ pub mod Line
 pub mod Values
 pub mod Shown
 pub mod Answer
+pub mod Tokens
 pub mod Laws

@@ -86,30 +86,32 @@ abbrev pub with_answered : Option ℕ → Members → Members
 with_answered (Some comment) members = member (codes "in_reply_to") (number_data comment) members
 with_answered None members = members
 
+-- the last members of a comment
+abbrev pub words_members : ShownComment → Members
+words_members comment =
+    member (codes "line") (number_data comment.line)
+    (member (codes "message") (string comment.message)
+    (member (codes "patch_set") (number_data comment.patch)
+    (member (codes "path") (string comment.path)
+    (member (codes "unresolved") (boolean comment.unresolved) no_members))))
+
 -- a comment
 abbrev pub comment_data : ShownComment → Data
 comment_data comment =
     object (member (codes "author") (number_data comment.author)
     (member (codes "id") (number_data comment.number)
-    (with_answered comment.answers (member (codes "line") (number_data comment.line)
-    (member (codes "message") (string comment.message)
-    (member (codes "patch_set") (number_data comment.patch)
-    (member (codes "path") (string comment.path)
-    (member (codes "unresolved") (boolean comment.unresolved) no_members))))))))
+    (with_answered comment.answers (words_members comment))))
 
 -- comments in their order
 abbrev pub comments_data : List ShownComment → Items
 comments_data comments = items_of (map comment_data comments)
 
--- the members of a thread behind its comments
-abbrev pub ending_members : Thread → Members
-ending_members thread =
-    member (codes "root") (number_data thread.root)
-    (member (codes "unresolved") (boolean thread.unresolved) no_members)
-
 -- a thread
 abbrev pub thread_data : Thread → Data
-thread_data thread = object (member (codes "comments") (array (comments_data thread.comments)) (ending_members thread))
+thread_data thread =
+    object (member (codes "comments") (array (comments_data thread.comments))
+    (member (codes "root") (number_data thread.root)
+    (member (codes "unresolved") (boolean thread.unresolved) no_members)))
 
 -- threads in their order
 abbrev pub threads_data : List Thread → Items

@@ -1,20 +1,16 @@
 //! The JSON text of a reply.
-ghost use Rattle.std.specs.Prelude.{◌≡◌, IfOk, OnOk, false, string_bytes};
-ghost use Rattle.serde_json.specs.Data.{no_members, object};
-ghost use Rattle.serde_json.specs.{View.view, View.items_view, View.members_view, Written.compact_text};
-ghost use Rattle.review_words.specs.declared.reply.Answer.TheVariants.{Attention, Branch, Change, Patch, Requirements, Reviewed, Submitted};
-ghost use Rattle.review_json.specs.Answer.{are_threads, tells_threads, cause_name, answer_data, bad_file_data, refusal_data, reply_data, unsatisfied_data};
-ghost use Rattle.review_json.specs.Values.{texts_data, numbers_data};
+ghost use Rattle.std.specs.Prelude.{◌≡◌, ◌++◌, IfOk, OnOk, codes, map, string_bytes};
+ghost use Rattle.serde_json.specs.{Data.member, Data.no_members, Data.object, Data.string, Written.compact_text};
+ghost use Rattle.review_words.specs.{Faults.code_name, declared.faults.FileFault.TheVariants.Expr};
+ghost use Rattle.review_words.specs.declared.reply.Answer.TheVariants.{Branch, Change, Patch};
+ghost use Rattle.review_json.specs.Answer.{cause_name, answer_data, bad_file_data, named_fault_data, refusal_data, reply_data, unsatisfied_data};
+ghost use Rattle.review_json.specs.{Tokens.HasPut, Tokens.value_tokens, Values.number_data};
 
-use crate::shown::{
-    call_values, change_value, joined_values, put_number, put_text, requirement_values,
-};
-use crate::threads::threads_text;
+use crate::text::{JsonText, Written};
 use review_words::{
-    Answer, Bases, ChangeNo, CommentNo, CommitName, FileFault, JoinedChange, LabelName, NotTaken,
-    PatchNo, Refusal, Reply, ShownCall, ShownRequirement,
+    Answer, Bases, ChangeNo, ExprCode, ExprFault, FileFault, JoinedChange, LabelName, Listed,
+    NotTaken, PatchNo, Refusal, Reply,
 };
-use serde_json::{Map, Value, json};
 use std::alloc::{AllocError, Global};
 
 fn cause_name(cause: NotTaken) -> &'static str
@@ -29,191 +25,197 @@ fn cause_name(cause: NotTaken) -> &'static str
     }
 }
 
-fn commit_values(alloc: Global, commits: &[CommitName]) -> Result<Vec<Value>, AllocError>
-    ensures { IfOk result (λ v. items_view v.items ≡ texts_data commits.now) }
-{
-    let mut values = Vec::new(alloc);
-    for commit in commits {
-        let value = Value::try_from_str(alloc, commit.as_str())?;
-        values.push(value)?;
+impl Written for ExprCode {
+    ghost value_of = { λ code. string (code_name code) };
+
+    fn write_to(&self, text: &mut JsonText) -> Result<(), AllocError> {
+        text.text(self.name())
     }
-    Ok(values)
 }
 
-fn comment_values(alloc: Global, comments: &[CommentNo]) -> Result<Vec<Value>, AllocError>
-    ensures { IfOk result (λ v. items_view v.items ≡ numbers_data comments.now) }
+/// Writes an object of one text.
+fn write_text_alone(text: &mut JsonText, name: &str, value: &str) -> Result<(), AllocError>
+    ensures { OnOk result (HasPut text.old text.new (value_tokens (object (member name.now (string value.now) no_members)))) }
 {
-    let mut values = Vec::new(alloc);
-    for comment in comments {
-        values.push(Value::from(comment.get()))?;
-    }
-    Ok(values)
+    text.begin_object()?;
+    text.put_text(name, value)?;
+    text.end_object()?;
+    Ok(())
 }
 
-fn change_numbers(alloc: Global, changes: &[ChangeNo]) -> Result<Vec<Value>, AllocError>
-    ensures { IfOk result (λ v. items_view v.items ≡ numbers_data changes.now) }
+/// Writes an object of one member.
+fn write_alone<T: Written>(text: &mut JsonText, name: &str, value: &T) -> Result<(), AllocError>
+    ensures { OnOk result (HasPut text.old text.new (value_tokens (object (member name.now (T.value_of value.now) no_members)))) }
 {
-    let mut values = Vec::new(alloc);
-    for change in changes {
-        values.push(Value::from(change.get()))?;
-    }
-    Ok(values)
+    text.begin_object()?;
+    text.put(name, value)?;
+    text.end_object()?;
+    Ok(())
 }
 
-fn empty_object(alloc: Global) -> Value
-    ensures { view result ≡ object no_members }
+fn write_nothing(text: &mut JsonText) -> Result<(), AllocError>
+    ensures { OnOk result (HasPut text.old text.new (value_tokens (object no_members))) }
 {
-    Value::Object(Map::new(alloc))
+    text.begin_object()?;
+    text.end_object()?;
+    Ok(())
 }
 
-fn submitted_value(alloc: Global, changes: &[ChangeNo]) -> Result<Value, AllocError>
-    ensures { IfOk result (λ v. view v ≡ answer_data (Submitted changes.now)) }
+fn write_new_change(text: &mut JsonText, change: ChangeNo, first: PatchNo) -> Result<(), AllocError>
+    ensures { OnOk result (HasPut text.old text.new (value_tokens (answer_data (Change change first)))) }
 {
-    let numbers = change_numbers(alloc, changes)?;
-    json!(in alloc; {"joined": numbers})
+    text.begin_object()?;
+    text.put("change", &change)?;
+    text.put("patch_set", &first)?;
+    text.end_object()?;
+    Ok(())
 }
 
-fn branch_value(alloc: Global, bases: &Bases, joined: &[JoinedChange]) -> Result<Value, AllocError>
-    ensures { IfOk result (λ v. view v ≡ answer_data (Branch bases.now joined.now)) }
-{
-    let commits = commit_values(alloc, bases.as_slice())?;
-    let changes = joined_values(alloc, joined)?;
-    json!(in alloc; {"bases": commits, "joined": changes})
-}
-
-fn new_change_value(alloc: Global, change: ChangeNo, patch: PatchNo) -> Result<Value, AllocError>
-    ensures { IfOk result (λ v. view v ≡ answer_data (Change change patch)) }
-{
-    json!(in alloc; {"change": change.get(), "patch_set": patch.get()})
-}
-
-fn new_patch_value(
-    alloc: Global,
+fn write_new_patch(
+    text: &mut JsonText,
     change: ChangeNo,
     patch: PatchNo,
     copied: u64,
     outdated: u64,
-) -> Result<Value, AllocError>
-    ensures { IfOk result (λ v. view v ≡ answer_data (Patch change patch copied outdated)) }
-{
-    json!(in alloc; {
-        "change": change.get(),
-        "copied": copied,
-        "outdated": outdated,
-        "patch_set": patch.get(),
-    })
-}
-
-fn reviewed_value(alloc: Global, comments: &[CommentNo]) -> Result<Value, AllocError>
-    ensures { IfOk result (λ v. view v ≡ answer_data (Reviewed comments.now)) }
-{
-    let numbers = comment_values(alloc, comments)?;
-    json!(in alloc; {"comments": numbers})
-}
-
-fn requirements_value(alloc: Global, requirements: &[ShownRequirement]) -> Result<Value, AllocError>
-    ensures { IfOk result (λ v. view v ≡ answer_data (Requirements requirements.now)) }
-{
-    let values = requirement_values(alloc, requirements)?;
-    json!(in alloc; values)
-}
-
-fn attention_value(alloc: Global, calls: &[ShownCall]) -> Result<Value, AllocError>
-    ensures { IfOk result (λ v. view v ≡ answer_data (Attention calls.now)) }
-{
-    let values = call_values(alloc, calls)?;
-    json!(in alloc; values)
-}
-
-/// The value of an answer but threads, whose text is written at once.
-fn answer_value(alloc: Global, answer: &Answer) -> Result<Value, AllocError>
-    requires { are_threads answer.now ≡ false }
-    ensures { IfOk result (λ v. view v ≡ answer_data answer.now) }
-{
-    match answer {
-        Answer::Account(account) => json!(in alloc; {"account": account.get()}),
-        Answer::Nothing => Ok(empty_object(alloc)),
-        Answer::Change { change, patch } => new_change_value(alloc, *change, *patch),
-        Answer::Patch {
-            change,
-            patch,
-            copied,
-            outdated,
-        } => new_patch_value(alloc, *change, *patch, *copied, *outdated),
-        Answer::Reviewed(comments) => reviewed_value(alloc, comments.as_slice()),
-        Answer::Submitted(changes) => submitted_value(alloc, changes.as_slice()),
-        Answer::Branch { bases, joined } => branch_value(alloc, bases, joined.as_slice()),
-        Answer::Shown(change) => change_value(alloc, change),
-        Answer::Requirements(listed) => requirements_value(alloc, listed.as_slice()),
-        Answer::Threads(_) => unreachable!(),
-        Answer::Attention(calls) => attention_value(alloc, calls.as_slice()),
-    }
-}
-
-fn put_bad_file(
-    members: &mut Map<String, Value>,
-    alloc: Global,
-    fault: FileFault,
 ) -> Result<(), AllocError>
-    requires { members_view members.now.entries ≡ no_members }
-    ensures { OnOk result (object (members_view members.new.entries) ≡ bad_file_data fault) }
+    ensures { OnOk result (HasPut text.old text.new (value_tokens (answer_data (Patch change patch copied outdated)))) }
 {
-    put_number(members, alloc, "number", 26)?;
-    put_text(members, alloc, "reason", fault.name())?;
-    put_text(members, alloc, "refused", "BAD_FILE")?;
-    if let FileFault::Expr(expr) = fault {
-        put_text(members, alloc, "expr", expr.code.name())?;
-        put_number(members, alloc, "place", expr.place as u64)?;
-    }
+    text.begin_object()?;
+    text.put("change", &change)?;
+    text.put("copied", &copied)?;
+    text.put("outdated", &outdated)?;
+    text.put("patch_set", &patch)?;
+    text.end_object()?;
     Ok(())
 }
 
-fn bad_file_value(alloc: Global, fault: FileFault) -> Result<Value, AllocError>
-    ensures { IfOk result (λ v. view v ≡ bad_file_data fault) }
+fn write_branch(
+    text: &mut JsonText,
+    bases: &Bases,
+    joined: &Listed<JoinedChange>,
+) -> Result<(), AllocError>
+    ensures { OnOk result (HasPut text.old text.new (value_tokens (answer_data (Branch bases.now joined.now)))) }
 {
-    let mut members = Map::new(alloc);
-    put_bad_file(&mut members, alloc, fault)?;
-    Ok(Value::Object(members))
+    text.begin_object()?;
+    text.put("bases", bases)?;
+    text.put("joined", joined)?;
+    text.end_object()?;
+    Ok(())
 }
 
-fn unsatisfied_value(
-    alloc: Global,
-    change: ChangeNo,
-    requirement: &LabelName,
-) -> Result<Value, AllocError>
-    ensures { IfOk result (λ v. view v ≡ unsatisfied_data change requirement.now) }
-{
-    json!(in alloc; {
-        "change": change.get(),
-        "number": 23u32,
-        "refused": "REQUIREMENT_UNSATISFIED",
-        "requirement": requirement.as_str(),
-    })
-}
+impl Written for Answer {
+    ghost value_of = { answer_data };
 
-fn refusal_value(alloc: Global, refusal: &Refusal) -> Result<Value, AllocError>
-    ensures { IfOk result (λ v. view v ≡ refusal_data refusal.now) }
-{
-    match refusal {
-        Refusal::BadFile(fault) => bad_file_value(alloc, *fault),
-        Refusal::RequirementUnsatisfied {
-            change,
-            requirement,
-        } => unsatisfied_value(alloc, *change, requirement),
-        _ => json!(in alloc; {"number": refusal.number(), "refused": refusal.name()}),
+    fn write_to(&self, text: &mut JsonText) -> Result<(), AllocError> {
+        match self {
+            Answer::Account(account) => write_alone(text, "account", account),
+            Answer::Nothing => write_nothing(text),
+            Answer::Change { change, patch } => write_new_change(text, *change, *patch),
+            Answer::Patch {
+                change,
+                patch,
+                copied,
+                outdated,
+            } => write_new_patch(text, *change, *patch, *copied, *outdated),
+            Answer::Reviewed(comments) => write_alone(text, "comments", comments),
+            Answer::Submitted(changes) => write_alone(text, "joined", changes),
+            Answer::Branch { bases, joined } => write_branch(text, bases, joined),
+            Answer::Shown(change) => change.write_to(text),
+            Answer::Requirements(listed) => listed.write_to(text),
+            Answer::Threads(threads) => threads.write_to(text),
+            Answer::Attention(calls) => calls.write_to(text),
+        }
     }
 }
 
-fn reply_value(alloc: Global, reply: &Reply) -> Result<Value, AllocError>
-    requires { tells_threads reply.now ≡ false }
-    ensures { IfOk result (λ v. view v ≡ reply_data reply.now) }
+/// Writes that a file is refused, for an expression's fault.
+fn write_bad_expression(text: &mut JsonText, fault: ExprFault) -> Result<(), AllocError>
+    ensures { OnOk result (HasPut text.old text.new (value_tokens (bad_file_data (Expr fault)))) }
 {
-    match reply {
-        Reply::Done(answer) => answer_value(alloc, answer),
-        Reply::Refused(refusal) => refusal_value(alloc, refusal),
-        Reply::IdentityReused => json!(in alloc; {"refused": "IDENTITY_REUSED"}),
-        Reply::EpochClosed => json!(in alloc; {"refused": "EPOCH_CLOSED"}),
-        Reply::NotTaken(cause) => json!(in alloc; {"not_taken": cause_name(*cause)}),
+    text.begin_object()?;
+    text.put("expr", &fault.code)?;
+    text.put("number", &26u64)?;
+    text.put("place", &(fault.place as u64))?;
+    text.put_text("reason", "EXPR")?;
+    text.put_text("refused", "BAD_FILE")?;
+    text.end_object()?;
+    Ok(())
+}
+
+/// Writes that a file is refused, for a fault of this name.
+fn write_named_fault(text: &mut JsonText, fault: &str) -> Result<(), AllocError>
+    ensures { OnOk result (HasPut text.old text.new (value_tokens (named_fault_data fault.now))) }
+{
+    text.begin_object()?;
+    text.put("number", &26u64)?;
+    text.put_text("reason", fault)?;
+    text.put_text("refused", "BAD_FILE")?;
+    text.end_object()?;
+    Ok(())
+}
+
+fn write_bad_file(text: &mut JsonText, fault: FileFault) -> Result<(), AllocError>
+    ensures { OnOk result (HasPut text.old text.new (value_tokens (bad_file_data fault))) }
+{
+    match fault {
+        FileFault::Expr(expr) => write_bad_expression(text, expr),
+        _ => write_named_fault(text, fault.name()),
+    }
+}
+
+fn write_unsatisfied(
+    text: &mut JsonText,
+    change: ChangeNo,
+    requirement: &LabelName,
+) -> Result<(), AllocError>
+    ensures { OnOk result (HasPut text.old text.new (value_tokens (unsatisfied_data change requirement.now))) }
+{
+    text.begin_object()?;
+    text.put("change", &change)?;
+    text.put("number", &23u64)?;
+    text.put_text("refused", "REQUIREMENT_UNSATISFIED")?;
+    text.put("requirement", requirement)?;
+    text.end_object()?;
+    Ok(())
+}
+
+/// Writes a refusal's number and name.
+fn write_numbered(text: &mut JsonText, number: u64, name: &str) -> Result<(), AllocError>
+    ensures { OnOk result (HasPut text.old text.new (value_tokens (object (member (codes "number") (number_data number) (member (codes "refused") (string name.now) no_members))))) }
+{
+    text.begin_object()?;
+    text.put("number", &number)?;
+    text.put_text("refused", name)?;
+    text.end_object()?;
+    Ok(())
+}
+
+impl Written for Refusal {
+    ghost value_of = { refusal_data };
+
+    fn write_to(&self, text: &mut JsonText) -> Result<(), AllocError> {
+        match self {
+            Refusal::BadFile(fault) => write_bad_file(text, *fault),
+            Refusal::RequirementUnsatisfied {
+                change,
+                requirement,
+            } => write_unsatisfied(text, *change, requirement),
+            _ => write_numbered(text, self.number() as u64, self.name()),
+        }
+    }
+}
+
+impl Written for Reply {
+    ghost value_of = { reply_data };
+
+    fn write_to(&self, text: &mut JsonText) -> Result<(), AllocError> {
+        match self {
+            Reply::Done(answer) => answer.write_to(text),
+            Reply::Refused(refusal) => refusal.write_to(text),
+            Reply::IdentityReused => write_text_alone(text, "refused", "IDENTITY_REUSED"),
+            Reply::EpochClosed => write_text_alone(text, "refused", "EPOCH_CLOSED"),
+            Reply::NotTaken(cause) => write_text_alone(text, "not_taken", cause_name(*cause)),
+        }
     }
 }
 
@@ -226,16 +228,7 @@ fn reply_value(alloc: Global, reply: &Reply) -> Result<Value, AllocError>
 pub fn answer_text(alloc: Global, reply: &Reply) -> Result<String, AllocError>
     ensures { IfOk result (λ text. string_bytes text ≡ compact_text (reply_data reply.now)) }
 {
-    match reply {
-        Reply::Done(Answer::Threads(threads)) => threads_text(alloc, threads.as_slice()),
-        _ => value_text(alloc, reply),
-    }
-}
-
-fn value_text(alloc: Global, reply: &Reply) -> Result<String, AllocError>
-    requires { tells_threads reply.now ≡ false }
-    ensures { IfOk result (λ text. string_bytes text ≡ compact_text (reply_data reply.now)) }
-{
-    let value = reply_value(alloc, reply)?;
-    value.to_string(alloc)
+    let mut text = JsonText::new(alloc)?;
+    reply.write_to(&mut text)?;
+    Ok(text.into_string())
 }

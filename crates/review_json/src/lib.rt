@@ -13,8 +13,9 @@ pub mod answer;
 pub mod laws;
 pub mod line;
 pub mod routes;
-pub mod shown;
-pub mod threads;
+mod shown;
+mod text;
+mod values;
 
 pub use answer::answer_text;
 pub use laws::comments_go_by_place;

@@ -1,16 +1,16 @@
 //! What questions about a change or a branch are told, as JSON.
-ghost use Rattle.std.specs.Prelude.{◌≡◌, IfOk, OnOk, codes};
-ghost use Rattle.serde_json.specs.Data.{boolean, no_members, object, string, put as with_member};
-ghost use Rattle.serde_json.specs.View.{view, items_view, members_view};
-ghost use Rattle.review_json.specs.Shown.{state_name, status_name, vote_data, votes_data, first_members, last_members, change_data, joined_change_data, joined_data, requirement_data, requirements_data, comment_data, call_data, calls_data};
-ghost use Rattle.review_json.specs.Values.{number_data, numbers_data};
+ghost use Rattle.std.specs.Prelude.{◌≡◌, OnOk, Some};
+ghost use Rattle.json.specs.Tree.{members_tokens};
+ghost use Rattle.serde_json.specs.{Data.string, Written.members_outline};
+ghost use Rattle.review_json.specs.Shown.{state_name, status_name, vote_data, first_members, last_members, change_data, joined_change_data, requirement_data, with_answered, words_members, comment_data, thread_data, call_data};
+ghost use Rattle.review_json.specs.Tokens.{HasPut};
 
+use crate::text::{JsonText, Written};
 use review_words::{
-    AccountNo, JoinedChange, ShownCall, ShownChange, ShownComment, ShownRequirement, ShownVote,
-    State, Status,
+    CommentNo, JoinedChange, ShownCall, ShownChange, ShownComment, ShownRequirement, ShownVote,
+    State, Status, Thread,
 };
-use serde_json::{Map, Value, json, put};
-use std::alloc::{AllocError, Global};
+use std::alloc::AllocError;
 
 fn state_name(state: State) -> &'static str
     ensures { result.now ≡ state_name state }
@@ -19,6 +19,14 @@ fn state_name(state: State) -> &'static str
         State::New => "NEW",
         State::Merged => "MERGED",
         State::Abandoned => "ABANDONED",
+    }
+}
+
+impl Written for State {
+    ghost value_of = { λ state. string (state_name state) };
+
+    fn write_to(&self, text: &mut JsonText) -> Result<(), AllocError> {
+        text.text(state_name(*self))
     }
 }
 
@@ -33,222 +41,159 @@ fn status_name(status: Status) -> &'static str
     }
 }
 
-fn account_values(alloc: Global, accounts: &[AccountNo]) -> Result<Vec<Value>, AllocError>
-    ensures { IfOk result (λ v. items_view v.items ≡ numbers_data accounts.now) }
-{
-    let mut values = Vec::new(alloc);
-    for account in accounts {
-        values.push(Value::from(account.get()))?;
+impl Written for Status {
+    ghost value_of = { λ status. string (status_name status) };
+
+    fn write_to(&self, text: &mut JsonText) -> Result<(), AllocError> {
+        text.text(status_name(*self))
     }
-    Ok(values)
 }
 
-fn vote_value(alloc: Global, vote: &ShownVote) -> Result<Value, AllocError>
-    ensures { IfOk result (λ v. view v ≡ vote_data vote.now) }
-{
-    json!(in alloc; {
-        "account": vote.account.get(),
-        "label": vote.label.as_str(),
-        "value": vote.value,
-    })
-}
+impl Written for ShownVote {
+    ghost value_of = { vote_data };
 
-fn vote_values(alloc: Global, votes: &[ShownVote]) -> Result<Vec<Value>, AllocError>
-    ensures { IfOk result (λ v. items_view v.items ≡ votes_data votes.now) }
-{
-    let mut values = Vec::new(alloc);
-    for vote in votes {
-        values.push(vote_value(alloc, vote)?)?;
+    fn write_to(&self, text: &mut JsonText) -> Result<(), AllocError> {
+        text.begin_object()?;
+        text.put("account", &self.account)?;
+        text.put("label", &self.label)?;
+        text.put("value", &self.value)?;
+        text.end_object()?;
+        Ok(())
     }
-    Ok(values)
 }
 
-/// Puts a text at a key.
-pub(crate) fn put_text(
-    members: &mut Map<String, Value>,
-    alloc: Global,
-    key: &str,
-    text: &str,
-) -> Result<(), AllocError>
-    ensures { OnOk result (members_view members.new.entries ≡ with_member key.now (string text.now) (members_view members.old.entries)) }
+/// Puts the last members of a change, and ends it.
+fn put_last_members(text: &mut JsonText, shown: &ShownChange) -> Result<(), AllocError>
+    ensures { OnOk result (HasPut text.old text.new (members_tokens (members_outline (last_members shown.now)))) }
 {
-    put(members, alloc, key, Value::try_from_str(alloc, text)?)
-}
-
-/// Puts a number at a key.
-pub(crate) fn put_number(
-    members: &mut Map<String, Value>,
-    alloc: Global,
-    key: &str,
-    number: u64,
-) -> Result<(), AllocError>
-    ensures { OnOk result (members_view members.new.entries ≡ with_member key.now (number_data number) (members_view members.old.entries)) }
-{
-    put(members, alloc, key, Value::from(number))
-}
-
-fn first_members(alloc: Global, shown: &ShownChange) -> Result<Map<String, Value>, AllocError>
-    ensures { IfOk result (λ m. members_view m.entries ≡ first_members shown.now no_members) }
-{
-    let ccs = account_values(alloc, shown.ccs.as_slice())?;
-    let mut members = Map::new(alloc);
-    put_text(&mut members, alloc, "branch", shown.branch.as_str())?;
-    put(&mut members, alloc, "ccs", Value::Array(ccs))?;
-    put_number(&mut members, alloc, "change", shown.change.get() as u64)?;
-    put_text(&mut members, alloc, "commit", shown.commit.as_str())?;
-    let patch = shown.patch.get() as u64;
-    put_number(&mut members, alloc, "current_patch_set", patch)?;
-    put_number(&mut members, alloc, "owner", shown.owner.get() as u64)?;
-    put_text(&mut members, alloc, "project", shown.project.as_str())?;
-    Ok(members)
-}
-
-/// The members of a change, of which the first ones are given.
-fn with_last_members(
-    alloc: Global,
-    mut members: Map<String, Value>,
-    shown: &ShownChange,
-) -> Result<Map<String, Value>, AllocError>
-    requires { members_view members.entries ≡ first_members shown.now no_members }
-    ensures { IfOk result (λ m. members_view m.entries ≡ first_members shown.now (last_members shown.now)) }
-{
-    let reviewers = account_values(alloc, shown.reviewers.as_slice())?;
-    let votes = vote_values(alloc, shown.votes.as_slice())?;
-    put(&mut members, alloc, "reviewers", Value::Array(reviewers))?;
-    put_text(&mut members, alloc, "status", state_name(shown.state))?;
-    put_text(&mut members, alloc, "subject", shown.subject.as_str())?;
-    put_number(&mut members, alloc, "updated", shown.updated)?;
-    put_number(&mut members, alloc, "uploader", shown.uploader.get() as u64)?;
-    put(&mut members, alloc, "votes", Value::Array(votes))?;
-    let wip = Value::from(shown.wip);
-    put(&mut members, alloc, "work_in_progress", wip)?;
-    Ok(members)
-}
-
-/// The value of a change.
-pub fn change_value(alloc: Global, shown: &ShownChange) -> Result<Value, AllocError>
-    ensures { IfOk result (λ v. view v ≡ change_data shown.now) }
-{
-    let first = first_members(alloc, shown)?;
-    let members = with_last_members(alloc, first, shown)?;
-    Ok(Value::Object(members))
-}
-
-fn joined_value(alloc: Global, joined: &JoinedChange) -> Result<Value, AllocError>
-    ensures { IfOk result (λ v. view v ≡ joined_change_data joined.now) }
-{
-    json!(in alloc; {
-        "change": joined.change.get(),
-        "commit": joined.commit.as_str(),
-    })
-}
-
-/// The values of the changes that joined a branch, in their order.
-pub fn joined_values(alloc: Global, joined: &[JoinedChange]) -> Result<Vec<Value>, AllocError>
-    ensures { IfOk result (λ v. items_view v.items ≡ joined_data joined.now) }
-{
-    let mut values = Vec::new(alloc);
-    for change in joined {
-        values.push(joined_value(alloc, change)?)?;
-    }
-    Ok(values)
-}
-
-fn requirement_value(alloc: Global, requirement: &ShownRequirement) -> Result<Value, AllocError>
-    ensures { IfOk result (λ v. view v ≡ requirement_data requirement.now) }
-{
-    json!(in alloc; {
-        "name": requirement.name.as_str(),
-        "status": status_name(requirement.status),
-    })
-}
-
-/// The values of submit requirements, in their order.
-pub fn requirement_values(
-    alloc: Global,
-    requirements: &[ShownRequirement],
-) -> Result<Vec<Value>, AllocError>
-    ensures { IfOk result (λ v. items_view v.items ≡ requirements_data requirements.now) }
-{
-    let mut values = Vec::new(alloc);
-    for requirement in requirements {
-        values.push(requirement_value(alloc, requirement)?)?;
-    }
-    Ok(values)
-}
-
-/// Puts where a comment stands.
-fn put_place(
-    members: &mut Map<String, Value>,
-    alloc: Global,
-    comment: &ShownComment,
-) -> Result<(), AllocError>
-    ensures { OnOk result (members_view members.new.entries ≡ with_member (codes "path") (string comment.now.path) (with_member (codes "patch_set") (number_data comment.now.patch) (with_member (codes "line") (number_data comment.now.line) (members_view members.old.entries)))) }
-{
-    put_number(members, alloc, "line", comment.line as u64)?;
-    put_number(members, alloc, "patch_set", comment.patch.get() as u64)?;
-    put_text(members, alloc, "path", comment.path.as_str())?;
+    text.put("reviewers", &shown.reviewers)?;
+    text.put("status", &shown.state)?;
+    text.put("subject", &shown.subject)?;
+    text.put("updated", &shown.updated)?;
+    text.put("uploader", &shown.uploader)?;
+    text.put("votes", &shown.votes)?;
+    text.put("work_in_progress", &shown.wip)?;
+    text.end_object()?;
     Ok(())
 }
 
-/// Puts what a comment says, and who says it.
-fn put_words(
-    members: &mut Map<String, Value>,
-    alloc: Global,
-    comment: &ShownComment,
-) -> Result<(), AllocError>
-    ensures { OnOk result (members_view members.new.entries ≡ with_member (codes "unresolved") (boolean comment.now.unresolved) (with_member (codes "message") (string comment.now.message) (with_member (codes "author") (number_data comment.now.author) (members_view members.old.entries)))) }
+/// Puts the members of a change, and ends it.
+fn put_members(text: &mut JsonText, shown: &ShownChange) -> Result<(), AllocError>
+    ensures { OnOk result (HasPut text.old text.new (members_tokens (members_outline (first_members shown.now (last_members shown.now))))) }
 {
-    put_number(members, alloc, "author", comment.author.get() as u64)?;
-    put_text(members, alloc, "message", comment.message.as_str())?;
-    let unresolved = Value::from(comment.unresolved);
-    put(members, alloc, "unresolved", unresolved)?;
+    text.put("branch", &shown.branch)?;
+    text.put("ccs", &shown.ccs)?;
+    text.put("change", &shown.change)?;
+    text.put("commit", &shown.commit)?;
+    text.put("current_patch_set", &shown.patch)?;
+    text.put("owner", &shown.owner)?;
+    text.put("project", &shown.project)?;
+    put_last_members(text, shown)?;
     Ok(())
 }
 
-fn put_comment(
-    members: &mut Map<String, Value>,
-    alloc: Global,
-    comment: &ShownComment,
-) -> Result<(), AllocError>
-    requires { members_view members.now.entries ≡ no_members }
-    ensures { OnOk result (object (members_view members.new.entries) ≡ comment_data comment.now) }
-{
-    put_number(members, alloc, "id", comment.number.get() as u64)?;
-    put_place(members, alloc, comment)?;
-    put_words(members, alloc, comment)?;
-    if let Some(answered) = comment.answers {
-        put_number(members, alloc, "in_reply_to", answered.get() as u64)?;
+impl Written for ShownChange {
+    ghost value_of = { change_data };
+
+    fn write_to(&self, text: &mut JsonText) -> Result<(), AllocError> {
+        text.begin_object()?;
+        put_members(text, self)
     }
+}
+
+impl Written for JoinedChange {
+    ghost value_of = { joined_change_data };
+
+    fn write_to(&self, text: &mut JsonText) -> Result<(), AllocError> {
+        text.begin_object()?;
+        text.put("change", &self.change)?;
+        text.put("commit", &self.commit)?;
+        text.end_object()?;
+        Ok(())
+    }
+}
+
+impl Written for ShownRequirement {
+    ghost value_of = { requirement_data };
+
+    fn write_to(&self, text: &mut JsonText) -> Result<(), AllocError> {
+        text.begin_object()?;
+        text.put("name", &self.name)?;
+        text.put("status", &self.status)?;
+        text.end_object()?;
+        Ok(())
+    }
+}
+
+/// Puts the last members of a comment, and ends it.
+fn put_words(text: &mut JsonText, comment: &ShownComment) -> Result<(), AllocError>
+    ensures { OnOk result (HasPut text.old text.new (members_tokens (members_outline (words_members comment.now)))) }
+{
+    text.put("line", &comment.line)?;
+    text.put("message", &comment.message)?;
+    text.put("patch_set", &comment.patch)?;
+    text.put("path", &comment.path)?;
+    text.put("unresolved", &comment.unresolved)?;
+    text.end_object()?;
     Ok(())
 }
 
-/// The value of a comment.
-pub fn comment_value(alloc: Global, comment: &ShownComment) -> Result<Value, AllocError>
-    ensures { IfOk result (λ v. view v ≡ comment_data comment.now) }
+/// Puts the comment that is answered, and what stands behind that.
+fn put_reply(
+    text: &mut JsonText,
+    answered: CommentNo,
+    comment: &ShownComment,
+) -> Result<(), AllocError>
+    ensures { OnOk result (HasPut text.old text.new (members_tokens (members_outline (with_answered (Some answered) (words_members comment.now))))) }
 {
-    let mut members = Map::new(alloc);
-    put_comment(&mut members, alloc, comment)?;
-    Ok(Value::Object(members))
+    text.put("in_reply_to", &answered)?;
+    put_words(text, comment)?;
+    Ok(())
 }
 
-fn call_value(alloc: Global, call: &ShownCall) -> Result<Value, AllocError>
-    ensures { IfOk result (λ v. view v ≡ call_data call.now) }
+/// Puts the comment that is answered, if one is, and what stands behind that.
+fn put_answered(text: &mut JsonText, comment: &ShownComment) -> Result<(), AllocError>
+    ensures { OnOk result (HasPut text.old text.new (members_tokens (members_outline (with_answered comment.now.answers (words_members comment.now))))) }
 {
-    json!(in alloc; {
-        "account": call.account.get(),
-        "reason": call.reason.as_str(),
-        "request": call.request,
-    })
-}
-
-/// The values of who is in an attention set, in its order.
-pub fn call_values(alloc: Global, calls: &[ShownCall]) -> Result<Vec<Value>, AllocError>
-    ensures { IfOk result (λ v. items_view v.items ≡ calls_data calls.now) }
-{
-    let mut values = Vec::new(alloc);
-    for call in calls {
-        values.push(call_value(alloc, call)?)?;
+    match comment.answers {
+        Some(answered) => put_reply(text, answered, comment),
+        None => put_words(text, comment),
     }
-    Ok(values)
+}
+
+impl Written for ShownComment {
+    ghost value_of = { comment_data };
+
+    fn write_to(&self, text: &mut JsonText) -> Result<(), AllocError> {
+        text.begin_object()?;
+        text.put("author", &self.author)?;
+        text.put("id", &self.number)?;
+        put_answered(text, self)
+    }
+}
+
+impl Written for Thread {
+    ghost value_of = { thread_data };
+
+    fn write_to(&self, text: &mut JsonText) -> Result<(), AllocError> {
+        text.begin_object()?;
+        text.put("comments", &self.comments)?;
+        text.put("root", &self.root)?;
+        text.put("unresolved", &self.unresolved)?;
+        text.end_object()?;
+        Ok(())
+    }
+}
+
+impl Written for ShownCall {
+    ghost value_of = { call_data };
+
+    fn write_to(&self, text: &mut JsonText) -> Result<(), AllocError> {
+        text.begin_object()?;
+        text.put("account", &self.account)?;
+        text.put("reason", &self.reason)?;
+        text.put("request", &self.request)?;
+        text.end_object()?;
+        Ok(())
+    }
 }

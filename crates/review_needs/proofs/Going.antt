@@ -7,7 +7,7 @@ use Rattle.review_chain.specs.{Branches.Branch, Parts.HasWalked, declared.walks.
 use Rattle.review_changes.specs.Change.{Change, is_open}
 use Rattle.review_rows.proofs.Asked.{change_comes, come_stays, file_comes, first_comes, to_file}
 use Rattle.review_rows.specs.{Files.File, Known.known, Known.change_in, Lines.most_depth, Links.links_in}
-use Rattle.review_rows.specs.Steps.{Topic, OfCommand, HasComeTo, MayGoOn, MayGoOnFor, change_wants, file_wants, first_wants, last_wants, line_steps, next, next_of, or_next, parent_of, steps, unknown}
+use Rattle.review_rows.specs.Steps.{Topic, OfCommand, HasComeTo, MayGoOn, MayGoOnFor, change_wants, file_wants, first_wants, last_wants, line_steps, next, next_of, or_next, parent_of, steps, unknown, unless_none}
 use Rattle.review_rows.specs.declared.rows.{Rows.Rows, Want.Want}
 use Rattle.review_needs.specs.{Asked.IsAsked, Walks.IsWalkIn}
 use Rattle.review_rows.specs.declared.rows.Want.TheVariants as want
@@ -53,15 +53,10 @@ first_of (w ∷ ws) later some = refl
 next_is : (file : Option File) (rows : Rows) (caller : ℕ) (topic : Topic) (ws : List Want) → next_of rows (steps file rows caller topic) ≡ ws → (ws ≡ [] → ⊥) → ws ≡ next file rows caller topic
 next_is file rows caller topic ws is some = sym (ap (λ l. or_next l (last_wants rows topic)) is ∙ first_of ws (last_wants rows topic) some)
 
--- the later steps, where nothing is left of the first
-later : (file : Option File) (rows : Rows) (topic : Topic) (caller : ℕ) → List (List Want)
-later file rows topic caller = change_wants rows topic ∷ (line_steps rows most_depth (parent_of rows topic) ++ file_wants file caller topic ∷ [])
-
 pub first_asked : (file : Option File) (rows : Rows) (caller : ℕ) (topic : Topic) (ws : List Want) → ws ≡ unknown rows (first_wants caller topic) → (ws ≡ [] → ⊥) → IsAsked file rows caller topic ws step.ByChange
-first_asked file rows caller topic ws is some = (
-  next_is file rows caller topic ws (ap (λ l. or_next l (next_of rows (later file rows topic caller))) (sym is) ∙ first_of ws (next_of rows (later file rows topic caller)) some) some,
-  first_comes file rows caller topic ws (sym is),
-)
+first_asked file rows caller topic ws is some =
+    let later = next_of rows (change_wants rows topic ∷ (line_steps rows most_depth (parent_of rows topic) ++ file_wants file caller topic ∷ [])) in
+    (next_is file rows caller topic ws (ap (λ l. or_next l later) (sym is) ∙ first_of ws later some) some, first_comes file rows caller topic ws (sym is))
 
 pub change_asked : (file : Option File) (rows : Rows) (caller : ℕ) (topic : Topic) (ws : List Want) → HasComeTo file rows caller topic step.ByChange → ws ≡ unknown rows (change_wants rows topic) → (ws ≡ [] → ⊥) →
     IsAsked file rows caller topic ws step.Above
@@ -109,3 +104,11 @@ pub last_asked : (file : Option File) (rows : Rows) (caller : ℕ) (topic : Topi
     IsAsked file rows caller topic ws (step.Last walked)
 last_asked file rows caller topic ws o walked h is may =
     (is ∙ sym (ap (λ l. or_next l (last_wants rows topic)) h.0), λ more both all added. come_stays file rows more both caller topic (step.Last walked) added (h.0, may))
+
+nonempty : (ws : List Want) → (ws ≡ [] → ⊥) → Some ws ≡ unless_none ws
+nonempty [] some = absurd (some refl)
+nonempty (w ∷ ws) some = refl
+
+-- some look-ups that are those asked next
+pub some_asked : (ws next : List Want) → ws ≡ next → (ws ≡ [] → ⊥) → Some ws ≡ unless_none next
+some_asked ws next is some = nonempty ws some ∙ ap unless_none is

@@ -17,6 +17,6 @@ returns c =
       c.in_ok-put_status.ensures,
       c.status_of.ensures.status,
       c.in_ok-extend_from_slice.ensures.items,
-      c.new-out.ensures.items,
+      c.in_ok-out.ensures.items,
     )
     refl

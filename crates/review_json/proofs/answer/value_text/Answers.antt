@@ -1,8 +1,0 @@
-use Rattle.std.proofs.lemmas.Result.{IfOk-weaker}
-use Rattle.review_json.proofs.Floats.{no_float}
-use Rattle.review_json.proofs.answer.value_text.Goals as goal
-
-pub returns : goal.returns
-returns c =
-    let text = rw c.in_ok-value.ensures at c.to_string.ensures.text in
-    IfOk-weaker c.to_string.result _ _ (λ s h. h (no_float c.args.reply.now)) text
