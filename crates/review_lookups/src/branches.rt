@@ -190,7 +190,12 @@ pub fn find_room_for_projects<S: Alter>(
 }
 
 #[tactic(auto, using(review_database::proofs::Telling::has_learnt))]
-pub(crate) fn tell_room_for_bases(alloc: Global, project: &ProjectName, is: bool, rows: &mut Rows) -> Sight
+pub(crate) fn tell_room_for_bases(
+    alloc: Global,
+    project: &ProjectName,
+    is: bool,
+    rows: &mut Rows,
+) -> Sight
     ensures told { (db : Trees) → nat_lt ((tables_at db).count (BasesOf project.now)) most_bases ≡ is → Sees (want.Room (counted.BasesOf project.now)) rows.old rows.new db result }
     ensures learnt { result ≡ Sight.Learnt → HasLearnt (want.Room (counted.BasesOf project.now)) rows.old rows.new }
 {

@@ -38,12 +38,7 @@ fn known_requests(counts: &Counts, rows: &mut Rows) -> Option<Sight>
 }
 
 // Whether there may be one more of what is counted.
-fn known_room(
-    alloc: Global,
-    counted: &Counted,
-    counts: &Counts,
-    rows: &mut Rows,
-) -> Option<Sight>
+fn known_room(alloc: Global, counted: &Counted, counts: &Counts, rows: &mut Rows) -> Option<Sight>
     ensures told { IfSome result (λ s. (db : Trees) → AreBounded counts.now (tables_at db) → Sees (want.Room counted.now) rows.old rows.new db s) }
     ensures learnt { IfSome result (λ s. s ≡ Sight.Learnt → HasLearnt (want.Room counted.now) rows.old rows.new) }
     ensures same { IfNone result (rows.new ≡ rows.old) }

@@ -5,7 +5,8 @@ use Rattle.sqlite_trees.specs.{Tree.Trees, declared.store.Store.Ghosts}
 use Rattle.review_statements.specs.Ran.{Looks}
 use Rattle.review_tables.proofs.Found.{look_on, look_both}
 use Rattle.review_rows.proofs.Looked.{asked_more, looked_agrees}
-use Rattle.review_rows.specs.{Known.AreAsked, Known.Agrees, Known.known, declared.rows.Rows.Rows, declared.rows.Want.Want}
+use Rattle.review_rows.specs.Known.{AreAsked, Agrees, known}
+use Rattle.review_rows.specs.declared.rows.{Rows.Rows, Want.Want}
 use Rattle.review_database.specs.{Loads.HasLearnt, Loads.Sees, Tables.tables_at, declared.sights.Sight.Sight}
 use Rattle.review_lookups.specs.{Counts.AreBounded, Counts.SeesBounded, declared.counts.Counts.Counts}
 use Rattle.review_sql.specs.Loading.{LooksIf, LooksOnce, WereSeen}

@@ -1,8 +1,7 @@
 use Rattle.std.proofs.Common.{subst}
 use Rattle.review_table.specs.Rows.{rows_of}
 use Rattle.review_kept_rows.proofs.{Based.WithRow, BasesListed.as_before}
-use Rattle.review_kept_rows.specs.Bases.{commit_cmp}
-use Rattle.review_kept_rows.specs.declared.keys.CommitKey.{CommitKey}
+use Rattle.review_kept_rows.specs.{Bases.commit_cmp, declared.keys.CommitKey.CommitKey}
 use Rattle.review_kept_rows.proofs.bases.place.Goals as goal
 
 pub returns-in-Err-clause-unlisted : goal.returns-in-Err-clause-unlisted

@@ -1,6 +1,7 @@
 use Rattle.std.proofs.Common.{◌≡◌, take, Ok}
 use Rattle.review_rows.specs.Known.{AreAsked}
-use Rattle.review_sql.{proofs.Finding.Have, specs.Loading.LooksIf}
+use Rattle.review_sql.proofs.Finding.{Have}
+use Rattle.review_sql.specs.Loading.{LooksIf}
 use Rattle.review_sql.proofs.loading.find_in_turn.Given as goal
 
 abbrev pub invariant-loop-want : goal.invariant-loop-want

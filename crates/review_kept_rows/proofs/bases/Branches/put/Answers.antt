@@ -5,7 +5,8 @@ use Rattle.review_table.specs.{Rows.rows_of, Rows.row_in, Rows.changed, declared
 use Rattle.review_rows.specs.Rows.{branch_cmp, place_cmp}
 use Rattle.review_rows.specs.declared.rows.{BranchKey.BranchKey, PlaceKey.PlaceKey, Put.Put}
 use Rattle.review_kept_rows.proofs.Based.{WithRow, IsGreater, with_row, last_more, last_unique, greater_of, still_last, total_more, total_is, one_has}
-use Rattle.review_kept_rows.proofs.{BasesListed.listed_alike, BasesListed.listed_more, BasesListed.stood_before, Options.some_mapped_is}
+use Rattle.review_kept_rows.proofs.BasesListed.{listed_alike, listed_more, stood_before}
+use Rattle.review_kept_rows.proofs.Options.{some_mapped_is}
 use Rattle.review_kept_rows.specs.Bases.{BranchesView, IsPut, IsLastPlace, commit_cmp, commit_at, has_commit, last_in, total_in, greatest_place}
 use Rattle.review_kept_rows.specs.declared.keys.CommitKey.{CommitKey}
 use Rattle.review_kept_rows.proofs.bases.Branches.put.Goals as goal
