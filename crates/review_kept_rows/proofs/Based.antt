@@ -10,7 +10,7 @@ use Rattle.review_table.specs.Rows.{row_in, after_change, changed, HasNoEmptyPla
 use Rattle.review_table.specs.declared.table.Change.{Change}
 use Rattle.review_rows.{proofs.Puts.at_place_of, proofs.Puts.is_eq-then, specs.Rows.branch_cmp, specs.Rows.place_cmp}
 use Rattle.review_rows.specs.declared.rows.{BranchKey.BranchKey, PlaceKey.PlaceKey, Put.Put}
-use Rattle.review_kept_rows.specs.Bases.{commit_cmp, base_at, total_in, last_in, AreListed, AreLast, IsLastPlace}
+use Rattle.review_kept_rows.specs.Bases.{commit_cmp, base_at, total_in, last_in, AreLast, IsLastPlace}
 use Rattle.review_kept_rows.specs.declared.keys.CommitKey.{CommitKey}
 
 pub commit_total : IsTotalOrder commit_cmp
