@@ -10,7 +10,7 @@ use Rattle.review_table.specs.Rows.{row_in, after_change, changed, HasNoEmptyPla
 use Rattle.review_table.specs.declared.table.Change.{Change}
 use Rattle.review_rows.{proofs.Puts.at_place_of, proofs.Puts.is_eq-then, specs.Rows.branch_cmp, specs.Rows.place_cmp}
 use Rattle.review_rows.specs.declared.rows.{BranchKey.BranchKey, PlaceKey.PlaceKey, Put.Put}
-use Rattle.review_kept_rows.specs.Bases.{commit_cmp, base_at, total_in, last_in, AreListed, AreLast, IsLastPlace}
+use Rattle.review_kept_rows.specs.Bases.{commit_cmp, base_at, total_in, last_in, AreLast, IsLastPlace}
 use Rattle.review_kept_rows.specs.declared.keys.CommitKey.{CommitKey}
 
 pub commit_total : IsTotalOrder commit_cmp
@@ -152,13 +152,9 @@ last_unique rows p b m n one other =
     let high = not_above rows p b m n one other in
     omega arith
 
--- what is listed of tables that have the same rows
-pub still_listed : (commits commits_after : List (CommitKey × Unit {0})) (bases after : List (PlaceKey × List ℕ)) (lasts lasts_after : List (BranchKey × ℕ)) → commits ≡ commits_after → bases ≡ after → lasts ≡ lasts_after →
-    AreListed commits bases × AreLast lasts bases → AreListed commits_after after × AreLast lasts_after after
-still_listed commits commits_after bases after lasts lasts_after c b l both = (
-  subst (λ xs. AreListed xs after) c (subst (AreListed commits) b both.0),
-  subst (λ xs. AreLast xs after) l (subst (AreLast lasts) b both.1),
-)
+-- the last places of branches whose bases have the same rows
+pub still_last : (bases after : List (PlaceKey × List ℕ)) (lasts lasts_after : List (BranchKey × ℕ)) → bases ≡ after → lasts ≡ lasts_after → AreLast lasts bases → AreLast lasts_after after
+still_last bases after lasts lasts_after b l all = subst (λ xs. AreLast xs after) l (subst (AreLast lasts) b all)
 
 -- the total of a project that gets a base
 pub total_is : (k known : Bool) (t f old : ℕ) → known ≡ k → f ≡ from_bool (not known) → t ≡ old → t + f ≡ cond k old (old + 1)

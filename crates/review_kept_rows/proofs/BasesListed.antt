@@ -9,7 +9,7 @@ use Rattle.review_table.specs.Rows.{row_in}
 use Rattle.review_rows.proofs.Puts.{exact_place, place_total, both_equal}
 use Rattle.review_rows.specs.{Rows.place_cmp, declared.rows.PlaceKey.PlaceKey, declared.rows.Put.Put}
 use Rattle.review_kept_rows.proofs.Based.{WithRow, commit_total}
-use Rattle.review_kept_rows.specs.Bases.{commit_cmp, commit_at, greatest_place, is_stale, AreListed}
+use Rattle.review_kept_rows.specs.Bases.{commit_cmp, commit_at, greatest_place, has_commit, is_stale, AreListed}
 use Rattle.review_kept_rows.specs.declared.keys.CommitKey.{CommitKey}
 
 exact_commit : CmpEqualImpliesEq commit_cmp
@@ -145,3 +145,49 @@ module _ (base : Put PlaceKey (List ℕ)) (before : Option CommitKey) (commits m
         (cases_Bool (is_at (place_cmp base.key) k));
     listed = λ k commit. (there r k commit, only r k commit);
   }
+
+none_unless : (o : Option (Unit {0})) → (o ≡ Some tt → ⊥) → o ≡ None
+none_unless None other = refl
+none_unless (Some u) other = absurd (other refl)
+
+-- a base stands in the index before it is put only where the one at its place has its commit
+pub stood_before : (base : Put PlaceKey (List ℕ)) (before : Option CommitKey) (commits : List (CommitKey × Unit {0})) (bases : List (PlaceKey × List ℕ)) → AreListed commits bases →
+    before ≡ option_map (commit_at base.key) (row_in place_cmp bases base.key) → row_in commit_cmp commits (commit_at base.key base.row) ≡ cond (has_commit before base.row) (Some tt) None
+stood_before base before commits bases all was =
+    subst (λ o. row_in commit_cmp commits (commit_at base.key base.row) ≡ cond (has_commit o base.row) (Some tt) None) (sym was) (by (row_in place_cmp bases base.key) refl)
+  where
+    by : (o : Option (List ℕ)) → row_in place_cmp bases base.key ≡ o →
+        row_in commit_cmp commits (commit_at base.key base.row) ≡ cond (has_commit (option_map (commit_at base.key) o) base.row) (Some tt) None
+    by None is = none_unless _ (λ stands. absurd (let e = sym is ∙ (all.listed base.key base.row).1 stands in cc))
+    by (Some c) is =
+        ⊎_elim
+        (λ (same : bytes_eq c base.row ≡ true). (all.listed base.key base.row).0 (is ∙ ap Some ((bytes_eq-Decides c base.row).0 same)) ∙ ap (λ b. cond b (Some tt) None) (sym same))
+        (λ (other : bytes_eq c base.row ≡ false).
+        none_unless _ (λ stands. let same = same_Some c base.row (sym is ∙ (all.listed base.key base.row).1 stands) in
+        let bad : true ≡ false = sym ((bytes_eq-Decides c base.row).1 same) ∙ other in absurd (cc))
+        ∙ ap (λ b. cond b (Some tt) None) (sym other))
+        (cases_Bool (bytes_eq c base.row))
+
+-- a key that is put into the index, and taken out again unless it stood there before, leaves it as it was
+pub as_before : (listed : CommitKey) (stood : Bool) (old mid new : List (CommitKey × Unit {0})) → row_in commit_cmp old listed ≡ cond stood (Some tt) None → WithRow commit_cmp old listed tt mid →
+    ((q : CommitKey) → row_in commit_cmp new q ≡ cond (not stood && is_at (commit_cmp listed) q) None (row_in commit_cmp mid q)) → (q : CommitKey) → row_in commit_cmp new q ≡ row_in commit_cmp old q
+as_before listed stood old mid new was put out q =
+    out q ∙ (ap (cond (not stood && is_at (commit_cmp listed) q) None) (put q) ∙ by stood (is_at (commit_cmp listed) q) refl was)
+  where
+    at : is_at (commit_cmp listed) q ≡ true → row_in commit_cmp old q ≡ row_in commit_cmp old listed
+    at here = ap (row_in commit_cmp old) (sym (tells_apart exact_commit listed q here))
+
+    by : (s b : Bool) → is_at (commit_cmp listed) q ≡ b → row_in commit_cmp old listed ≡ cond s (Some tt) None → cond (not s && b) None (cond b (Some tt) (row_in commit_cmp old q)) ≡ row_in commit_cmp old q
+    by true true here was = sym (at here ∙ was)
+    by true false other was = refl
+    by false true here was = sym (at here ∙ was)
+    by false false other was = refl
+
+-- what is listed by an index with the same rows
+pub listed_alike : (commits after : List (CommitKey × Unit {0})) (bases rows : List (PlaceKey × List ℕ)) → ((q : CommitKey) → row_in commit_cmp after q ≡ row_in commit_cmp commits q) → bases ≡ rows → AreListed commits bases → AreListed after rows
+listed_alike commits after bases rows alike same all =
+    subst (λ xs. AreListed after xs) same
+    (record {
+      fits = all.fits;
+      listed = λ k commit. (λ at. alike (commit_at k commit) ∙ (all.listed k commit).0 at, λ at. (all.listed k commit).1 (sym (alike (commit_at k commit)) ∙ at));
+    })

@@ -45,6 +45,11 @@ pub record AreListed (commits : List (CommitKey × Unit {0})) (bases : List (Pla
   pub fits : (k : PlaceKey) (commit : List ℕ) → row_in place_cmp bases k ≡ Some commit → k.place ≤ greatest_place
   pub listed : (k : PlaceKey) (commit : List ℕ) → (row_in place_cmp bases k ≡ Some commit) ↔ (row_in commit_cmp commits (commit_at k commit) ≡ Some tt)
 
+-- whether the base that stood at a place before has this commit
+abbrev pub has_commit : Option CommitKey → List ℕ → Bool
+has_commit None commit = false
+has_commit (Some before) commit = bytes_eq before.commit commit
+
 -- whether a key of the index is that of the base that stood at a place before, where this commit is another one
 abbrev pub is_stale : Option CommitKey → List ℕ → CommitKey → Bool
 is_stale None commit q = false
@@ -78,9 +83,10 @@ abbrev pub IsCommitThere : List (PlaceKey × List ℕ) → Base → Bool → Typ
 IsCommitThere rows base true = (place : ℕ) × (base_at rows base.project base.branch place ≡ Some base.commit)
 IsCommitThere rows base false = (place : ℕ) → base_at rows base.project base.branch place ≡ Some base.commit → ⊥
 
--- the changes of the other tables put a base, where its branch has this last place then and its project so many bases
-pub record PutsBase (base : Put PlaceKey (List ℕ)) (branch : BranchKey) (last total : ℕ) (changes : BaseChanges) : Type 0 where
-  pub listed : changes.listed.items ≡ record { key = commit_at base.key base.row; row = Some tt } ∷ []
+-- the changes of the other tables put a base, where its key stands in the index already or not, its branch has this last place then and its project so many bases
+pub record PutsBase (base : Put PlaceKey (List ℕ)) (is_listed : Bool) (branch : BranchKey) (last total : ℕ) (changes : BaseChanges) : Type 0 where
+  pub listed : changes.listed ≡ commit_at base.key base.row
+  pub stood : changes.is_listed ≡ is_listed
   pub ended : changes.ended.items ≡ record { key = branch; row = Some last } ∷ []
   pub counted : changes.counted.items ≡ record { key = base.key.project; row = Some total } ∷ []
 
@@ -91,9 +97,9 @@ pub record HasNoSpare (bases : List (PlaceKey × Option (List ℕ))) (commits : 
   pub lasts_full : HasNoEmptyPlace branch_cmp lasts
   pub totals_full : HasNoEmptyPlace (slice_cmp nat_cmp) totals
 
--- every place of the tables has a row, but for those that the changes name; of the bases each has one
+-- every place of the tables has a row, but for those of last places and of numbers of bases that the changes name
 pub record HasSpareOnly (changes : BaseChanges) (bases : List (PlaceKey × Option (List ℕ))) (commits : List (CommitKey × Option (Unit {0}))) (lasts : List (BranchKey × Option ℕ)) (totals : List (List ℕ × Option ℕ)) : Type 0 where
-  pub bases_spare : HasNoEmptyPlace place_cmp bases
-  pub commits_spare : HasEmptyOnly commit_cmp (is_named commit_cmp changes.listed.items) commits
+  pub bases_full : HasNoEmptyPlace place_cmp bases
+  pub commits_full : HasNoEmptyPlace commit_cmp commits
   pub lasts_spare : HasEmptyOnly branch_cmp (is_named branch_cmp changes.ended.items) lasts
   pub totals_spare : HasEmptyOnly (slice_cmp nat_cmp) (is_named (slice_cmp nat_cmp) changes.counted.items) totals

@@ -1,9 +1,9 @@
 //! The bases of branches in memory.
 ghost use Rattle.std.specs.{BTreeMap.is_at, Cmp.Lexicographic.slice_cmp, Ordering.nat_cmp};
-ghost use Rattle.std.specs.Prelude.{◌≡◌, ◌∷◌, ◌-◌, ◌^◌, ◌<◌, ◌↔◌, [], List, Option, ℕ, Some, None, IsTrue, IfOk, IfErr, OnOk, OnErr, option_map, if◌then◌else◌};
+ghost use Rattle.std.specs.Prelude.{◌≡◌, ◌∷◌, ◌-◌, ◌^◌, ◌<◌, ◌↔◌, ◌&&◌, [], List, Option, ℕ, Some, None, IsTrue, IfOk, IfErr, OnOk, OnErr, not, option_map, if◌then◌else◌};
 ghost use Rattle.review_table.specs.Rows.{rows_of, row_in, HasNoEmptyPlace, HavePlaces};
 ghost use Rattle.review_rows.specs.{Rows.branch_cmp, Rows.place_cmp, declared.rows.PlaceKey.PlaceKey};
-ghost use Rattle.review_kept_rows.specs.Bases.{commit_cmp, base_at, total_in, IsLastPlace, IsPut, commit_at, is_stale, AreBases, IsCommitThere, IsUnlisted, PutsBase, HasNoSpare, HasSpareOnly};
+ghost use Rattle.review_kept_rows.specs.Bases.{commit_cmp, base_at, total_in, IsLastPlace, IsPut, commit_at, has_commit, is_stale, AreBases, IsCommitThere, IsUnlisted, PutsBase, HasNoSpare, HasSpareOnly};
 ghost use Rattle.review_kept_rows.specs.declared.keys.CommitKey.{CommitKey};
 
 use crate::keys::CommitKey;
@@ -164,7 +164,8 @@ impl Branches {
         let last = ended.max(base.key.place);
         let total = self.total(&base.key.project) + u64::from(!known);
         let placed = placed_base(alloc, base)?;
-        let changes = changes_of(alloc, base, branch, last, total)?;
+        let is_listed = has_commit(&before, &base.row);
+        let changes = changes_of(alloc, base, is_listed, branch, last, total)?;
         let begun = begin(
             alloc,
             &mut self.bases,
@@ -176,19 +177,13 @@ impl Branches {
         );
         match begun {
             Ok(()) => {
-                self.commits.apply(changes.listed);
                 drop_stale(&mut self.commits, &before, base);
                 self.lasts.apply(changes.ended);
                 self.totals.apply(changes.counted);
                 Ok(())
             }
             Err(error) => {
-                release(
-                    &mut self.commits,
-                    &mut self.lasts,
-                    &mut self.totals,
-                    &changes,
-                );
+                release(&mut self.lasts, &mut self.totals, &changes);
                 Err(error)
             }
         }
@@ -252,10 +247,21 @@ fn is_there(bases: &Table<PlaceKey, CommitName>, key: &PlaceKey, commit: &Commit
     }
 }
 
-// What the putting of a base changes beside its own table, table by table.
+// Whether the base that stood at a place before has this commit.
+fn has_commit(before: &Option<CommitKey>, commit: &CommitName) -> bool
+    ensures { result ≡ has_commit before.now commit.now }
+{
+    match before {
+        Some(key) => key.commit.as_str() == commit.as_str(),
+        None => false,
+    }
+}
+
+// What the putting of a base changes beside its own table, table by table: its key in the index and whether that stands there already, the last place of its branch, and the number of its project's bases.
 #[derive(Drop)]
 struct BaseChanges {
-    listed: Vec<Change<CommitKey, ()>>,
+    listed: CommitKey,
+    is_listed: bool,
     ended: Vec<Change<BranchKey, u64>>,
     counted: Vec<Change<ProjectName, u64>>,
 }
@@ -264,17 +270,19 @@ struct BaseChanges {
 fn changes_of(
     alloc: Global,
     base: &Put<PlaceKey, CommitName>,
+    is_listed: bool,
     branch: BranchKey,
     last: u64,
     total: u64,
 ) -> Result<BaseChanges, AllocError>
-    ensures { IfOk result (PutsBase base.now branch last total) }
+    ensures { IfOk result (PutsBase base.now is_listed branch last total) }
 {
     let ended = ended_change(alloc, branch, last)?;
-    let listed = listed_change(alloc, base)?;
+    let listed = listed_of(alloc, base)?;
     let counted = counted_change(alloc, &base.key.project, total)?;
     Ok(BaseChanges {
         listed,
+        is_listed,
         ended,
         counted,
     })
@@ -291,22 +299,6 @@ fn placed_base(
         key: base.key.copy(alloc)?,
         row: base.row.copy(alloc)?,
     })
-}
-
-// The change that puts it into the index.
-fn listed_change(
-    alloc: Global,
-    base: &Put<PlaceKey, CommitName>,
-) -> Result<Vec<Change<CommitKey, ()>>, AllocError>
-    ensures { IfOk result (λ changes. changes.items ≡ record { key = commit_at base.now.key base.now.row; row = Some tt } ∷ []) }
-{
-    let key = listed_of(alloc, base)?;
-    Ok(vec![in alloc;
-        Change {
-            key,
-            row: Some(()),
-        },
-    ]?)
 }
 
 // The change of a branch's last place.
@@ -342,7 +334,7 @@ fn counted_change(
     ]?)
 }
 
-// Makes room for changes and puts a base at its place, by one walk over the bases. Where there is no memory for it no row changes.
+// Makes room for changes, and puts a base at its place and into the index. Where there is no memory for it no row changes.
 fn begin(
     alloc: Global,
     bases: &mut Table<PlaceKey, CommitName>,
@@ -352,38 +344,71 @@ fn begin(
     changes: &BaseChanges,
     base: Put<PlaceKey, CommitName>,
 ) -> Result<(), AllocError>
+    requires { row_in commit_cmp (rows_of commits.old) changes.now.listed ≡ (if changes.now.is_listed then Some tt else None) }
     ensures bases { OnErr result (rows_of bases.new ≡ rows_of bases.old) }
     ensures placed { OnOk result ((q : PlaceKey) → row_in place_cmp (rows_of bases.new) q ≡ (if is_at (place_cmp base.key) q then Some base.row else row_in place_cmp (rows_of bases.old) q)) }
-    ensures commits { rows_of commits.new ≡ rows_of commits.old }
+    ensures listed { OnOk result ((q : CommitKey) → row_in commit_cmp (rows_of commits.new) q ≡ (if is_at (commit_cmp changes.now.listed) q then Some tt else row_in commit_cmp (rows_of commits.old) q)) }
+    ensures unlisted { OnErr result ((q : CommitKey) → row_in commit_cmp (rows_of commits.new) q ≡ row_in commit_cmp (rows_of commits.old) q) }
     ensures lasts { rows_of lasts.new ≡ rows_of lasts.old }
     ensures totals { rows_of totals.new ≡ rows_of totals.old }
-    ensures listed { OnOk result (HavePlaces commit_cmp commits.new changes.now.listed.items) }
     ensures ended { OnOk result (HavePlaces branch_cmp lasts.new changes.now.ended.items) }
     ensures counted { OnOk result (HavePlaces (slice_cmp nat_cmp) totals.new changes.now.counted.items) }
     ensures spare { HasNoSpare bases.old commits.old lasts.old totals.old → HasSpareOnly changes.now bases.new commits.new lasts.new totals.new }
 {
-    reserve(alloc, commits, lasts, totals, changes)?;
-    let Put { key, row } = base;
-    bases.put(key, row)
+    reserve(alloc, lasts, totals, changes)?;
+    place(alloc, bases, commits, changes, base)
 }
 
-// Makes room for changes, which changes no row.
+// Puts a base at its place and into the index, by one walk over each. Where there is no memory for it no row changes.
+fn place(
+    alloc: Global,
+    bases: &mut Table<PlaceKey, CommitName>,
+    commits: &mut Table<CommitKey, ()>,
+    changes: &BaseChanges,
+    base: Put<PlaceKey, CommitName>,
+) -> Result<(), AllocError>
+    requires { row_in commit_cmp (rows_of commits.old) changes.now.listed ≡ (if changes.now.is_listed then Some tt else None) }
+    ensures bases { OnErr result (rows_of bases.new ≡ rows_of bases.old) }
+    ensures placed { OnOk result ((q : PlaceKey) → row_in place_cmp (rows_of bases.new) q ≡ (if is_at (place_cmp base.key) q then Some base.row else row_in place_cmp (rows_of bases.old) q)) }
+    ensures listed { OnOk result ((q : CommitKey) → row_in commit_cmp (rows_of commits.new) q ≡ (if is_at (commit_cmp changes.now.listed) q then Some tt else row_in commit_cmp (rows_of commits.old) q)) }
+    ensures unlisted { OnErr result ((q : CommitKey) → row_in commit_cmp (rows_of commits.new) q ≡ row_in commit_cmp (rows_of commits.old) q) }
+    ensures bases_full { HasNoEmptyPlace place_cmp bases.old → HasNoEmptyPlace place_cmp bases.new }
+    ensures commits_full { HasNoEmptyPlace commit_cmp commits.old → HasNoEmptyPlace commit_cmp commits.new }
+{
+    commits.put(changes.listed.copy(alloc)?, ())?;
+    let Put { key, row } = base;
+    match bases.put(key, row) {
+        Ok(()) => Ok(()),
+        Err(error) => {
+            unlist(commits, changes);
+            Err(error)
+        }
+    }
+}
+
+// Takes the key of a base that wasn't put out of the index, unless it stood there before.
+fn unlist(commits: &mut Table<CommitKey, ()>, changes: &BaseChanges)
+    ensures rows { (q : CommitKey) → row_in commit_cmp (rows_of commits.new) q ≡ (if not changes.now.is_listed && is_at (commit_cmp changes.now.listed) q then None else row_in commit_cmp (rows_of commits.old) q) }
+    ensures full { HasNoEmptyPlace commit_cmp commits.old → HasNoEmptyPlace commit_cmp commits.new }
+{
+    if !changes.is_listed {
+        commits.remove(&changes.listed);
+    }
+}
+
+// Makes room for changes of the other tables, which changes no row.
 fn reserve(
     alloc: Global,
-    commits: &mut Table<CommitKey, ()>,
     lasts: &mut Table<BranchKey, u64>,
     totals: &mut Table<ProjectName, u64>,
     changes: &BaseChanges,
 ) -> Result<(), AllocError>
-    ensures commits { rows_of commits.new ≡ rows_of commits.old }
     ensures lasts { rows_of lasts.new ≡ rows_of lasts.old }
     ensures totals { rows_of totals.new ≡ rows_of totals.old }
-    ensures listed { OnOk result (HavePlaces commit_cmp commits.new changes.now.listed.items) }
     ensures ended { OnOk result (HavePlaces branch_cmp lasts.new changes.now.ended.items) }
     ensures counted { OnOk result (HavePlaces (slice_cmp nat_cmp) totals.new changes.now.counted.items) }
-    ensures spare { (bases : List (PlaceKey × Option (List ℕ))) → HasNoSpare bases commits.old lasts.old totals.old → HasSpareOnly changes.now bases commits.new lasts.new totals.new }
+    ensures spare { (bases : List (PlaceKey × Option (List ℕ))) (commits : List (CommitKey × Option (Unit {0}))) → HasNoSpare bases commits lasts.old totals.old → HasSpareOnly changes.now bases commits lasts.new totals.new }
 {
-    commits.reserve_all(alloc, &changes.listed)?;
     lasts.reserve_all(alloc, &changes.ended)?;
     totals.reserve_all(alloc, &changes.counted)?;
     Ok(())
@@ -391,17 +416,14 @@ fn reserve(
 
 // Drops the places that hold no row, of those that changes name, which changes no row.
 fn release(
-    commits: &mut Table<CommitKey, ()>,
     lasts: &mut Table<BranchKey, u64>,
     totals: &mut Table<ProjectName, u64>,
     changes: &BaseChanges,
 )
-    ensures commits { rows_of commits.new ≡ rows_of commits.old }
     ensures lasts { rows_of lasts.new ≡ rows_of lasts.old }
     ensures totals { rows_of totals.new ≡ rows_of totals.old }
-    ensures full { (bases : List (PlaceKey × Option (List ℕ))) → HasSpareOnly changes.now bases commits.old lasts.old totals.old → HasNoSpare bases commits.new lasts.new totals.new }
+    ensures full { (bases : List (PlaceKey × Option (List ℕ))) (commits : List (CommitKey × Option (Unit {0}))) → HasSpareOnly changes.now bases commits lasts.old totals.old → HasNoSpare bases commits lasts.new totals.new }
 {
-    commits.release(&changes.listed);
     lasts.release(&changes.ended);
     totals.release(&changes.counted);
 }

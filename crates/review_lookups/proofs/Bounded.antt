@@ -1,5 +1,5 @@
 -- What stays known of counts.
-use Rattle.std.proofs.Common.{◌≡◌, ◌∙◌, ◌≤◌, ◌+◌, ℕ, suc, nat_lt, List, Bool, true, false, Option, Some, None, is_some, cond, Result, Ok, Err, OnOk, OnErr, refl, ap, sym, inl, inr, subst, arith}
+use Rattle.std.proofs.Common.{◌≡◌, ◌∙◌, ◌≤◌, ◌+◌, ℕ, suc, nat_lt, List, Bool, true, false, Option, Some, None, is_some, cond, Result, Ok, Err, OnOk, OnErr, IfSome, refl, ap, sym, inl, inr, subst, arith}
 use Rattle.std.proofs.lemmas.{Bool.cases_Bool, Bool.Decides.leb_tells, Cmp.nat_list_cmp_total, Cmp.tied_itself}
 use Rattle.std.proofs.lemmas.{Map.Lookups.exact_bytes, Option.same_Some, Slice.Eq.bytes_eq-Decides}
 use Rattle.std.specs.{BTreeMap.is_at, Cmp.Lexicographic.slice_cmp, Ordering.nat_cmp, Ordering.is_eq, Str.bytes_eq}
@@ -41,6 +41,11 @@ apart project p other = elim (cases_Bool (bytes_eq project p)) [
       let no : true ≡ false = sym yes ∙ other in absurd (cc)
   | inr is ↦ is
 ]
+
+-- a request is stored
+pub one_request_more : (delta : Delta) (kept : AnswerRow) (old new : Tables) (more : Option ℕ) → IfSome more (λ n. n ≡ old.requests + 1) → IsCommitted old delta kept new → IfSome more (λ n. n ≡ new.requests)
+one_request_more delta kept old new None is it = tt
+one_request_more delta kept old new (Some n) is it = is ∙ sym it.requests
 
 -- a base that is put is of one project
 pub grown : (delta : Delta) (put : Put PlaceKey (List ℕ)) (kept : AnswerRow) (old new : Tables) → delta.base ≡ Some put → IsCommitted old delta kept new → Grows put.key.project old new

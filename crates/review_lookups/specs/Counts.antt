@@ -1,4 +1,4 @@
--- What a shelf knows of how many projects there are, and how many bases they have.
+-- What a shelf knows of how many requests were stored, how many projects there are, and how many bases they have.
 use Rattle.std.specs.{BTreeMap.is_at, Cmp.Lexicographic.slice_cmp, Ordering.nat_cmp}
 use Rattle.std.specs.Prelude.{ℕ, ◌≡◌, ◌+◌, ◌<◌, ◌≤◌, false, List, Some, IfSome}
 use Rattle.sqlite_trees.specs.Tree.{Trees}
@@ -20,6 +20,7 @@ AreBasesBounded rows t = (project : List ℕ) (bound : Bound) → row_in (slice_
 
 -- what is known is so in the tables
 pub record AreBounded (counts : Counts) (t : Tables) : Type 0 where
+  pub requests_are : IfSome counts.requests (λ n. n ≡ t.requests)
   pub projects_are : IfSome counts.projects (λ bound. Bounds most_projects bound (t.count Projects))
   pub bases_are : AreBasesBounded (rows_of counts.bases) t
 

@@ -36,13 +36,15 @@ use review_words::{Bases as DeskBases, CommitName, Epoch, ProjectName};
 use sqlite::{Alter, Error, Transaction};
 use std::alloc::{AllocError, Global};
 
+// How many requests were ever stored, of which the shelf learns too.
 #[tactic(auto, using(review_database::proofs::Telling::has_learnt))]
-fn tell_requests(found: Option<Option<DeskRow>>, rows: &mut Rows) -> Sight
-    ensures told { (db : Trees) → found ≡ row_at desk db tt → Sees (want.Requests) rows.old rows.new db result }
+fn tell_requests(found: Option<Option<DeskRow>>, counts: &mut Counts, rows: &mut Rows) -> Sight
+    ensures told { (db : Trees) → found ≡ row_at desk db tt → SeesBounded (want.Requests) rows.old rows.new counts.old counts.new db result }
     ensures learnt { result ≡ Sight.Learnt → HasLearnt (want.Requests) rows.old rows.new }
 {
     match found {
         Some(Some(row)) => {
+            counts.learn_requests(row.requests);
             rows.learn_requests(row.requests);
             Sight::Learnt
         }
@@ -54,14 +56,15 @@ fn tell_requests(found: Option<Option<DeskRow>>, rows: &mut Rows) -> Sight
 pub fn find_requests<S: Alter>(
     tx: &mut Transaction<'_, S>,
     alloc: Global,
+    counts: &mut Counts,
     rows: &mut Rows,
 ) -> Result<Sight, Error>
     ensures same_reference { tx.new.conn.ghost_name ≡ tx.old.conn.ghost_name }
-    ensures looks { Looks (Sees (want.Requests) rows.old rows.new) (state S.Store tx.old.conn.now) (state S.Store tx.new.conn.now) result }
+    ensures looks { Looks (SeesBounded (want.Requests) rows.old rows.new counts.old counts.new) (state S.Store tx.old.conn.now) (state S.Store tx.new.conn.now) result }
     ensures learnt { IfOk result (λ s. s ≡ Sight.Learnt → HasLearnt (want.Requests) rows.old rows.new) }
 {
     let found = find::<Desk, S>(tx, alloc, &())?;
-    Ok(tell_requests(found, rows))
+    Ok(tell_requests(found, counts, rows))
 }
 
 #[tactic(auto, using(review_database::proofs::Telling::has_learnt))]
@@ -152,7 +155,7 @@ pub fn find_project<S: Alter>(
 }
 
 #[tactic(auto, using(review_database::proofs::Telling::has_learnt))]
-fn tell_room_for_projects(is: bool, rows: &mut Rows) -> Sight
+pub(crate) fn tell_room_for_projects(is: bool, rows: &mut Rows) -> Sight
     ensures told { (db : Trees) → nat_lt ((tables_at db).count ProjectCount) most_projects ≡ is → Sees (want.Room counted.Projects) rows.old rows.new db result }
     ensures learnt { result ≡ Sight.Learnt → HasLearnt (want.Room counted.Projects) rows.old rows.new }
 {
@@ -172,10 +175,9 @@ fn tell_project_count(count: Option<u64>, counts: &mut Counts, rows: &mut Rows) 
     tell_room_for_projects(count < MOST_PROJECTS, rows)
 }
 
-/// Whether there may be one more project. They are counted only where the shelf doesn't know it.
+/// Whether there may be one more project, for which they are counted.
 pub fn find_room_for_projects<S: Alter>(
     tx: &mut Transaction<'_, S>,
-    alloc: Global,
     counts: &mut Counts,
     rows: &mut Rows,
 ) -> Result<Sight, Error>
@@ -183,17 +185,17 @@ pub fn find_room_for_projects<S: Alter>(
     ensures looks { Looks (SeesBounded (want.Room counted.Projects) rows.old rows.new counts.old counts.new) (state S.Store tx.old.conn.now) (state S.Store tx.new.conn.now) result }
     ensures learnt { IfOk result (λ s. s ≡ Sight.Learnt → HasLearnt (want.Room counted.Projects) rows.old rows.new) }
 {
-    let Some(is) = counts.room_for_projects() else {
-        let count = projects::count(tx)?;
-        return Ok(tell_project_count(count, counts, rows));
-    };
-    // A store that was shut is found so, whatever is known.
-    let _desk = find::<Desk, S>(tx, alloc, &())?;
-    Ok(tell_room_for_projects(is, rows))
+    let count = projects::count(tx)?;
+    Ok(tell_project_count(count, counts, rows))
 }
 
 #[tactic(auto, using(review_database::proofs::Telling::has_learnt))]
-fn tell_room_for_bases(alloc: Global, project: &ProjectName, is: bool, rows: &mut Rows) -> Sight
+pub(crate) fn tell_room_for_bases(
+    alloc: Global,
+    project: &ProjectName,
+    is: bool,
+    rows: &mut Rows,
+) -> Sight
     ensures told { (db : Trees) → nat_lt ((tables_at db).count (BasesOf project.now)) most_bases ≡ is → Sees (want.Room (counted.BasesOf project.now)) rows.old rows.new db result }
     ensures learnt { result ≡ Sight.Learnt → HasLearnt (want.Room (counted.BasesOf project.now)) rows.old rows.new }
 {
@@ -218,7 +220,7 @@ fn tell_base_count(
     tell_room_for_bases(alloc, project, count < MOST_BASES, rows)
 }
 
-/// Whether there may be one more base of a project. They are counted only where the shelf doesn't know it.
+/// Whether there may be one more base of a project, for which they are counted.
 pub fn find_room_for_bases<S: Alter>(
     tx: &mut Transaction<'_, S>,
     alloc: Global,
@@ -230,13 +232,8 @@ pub fn find_room_for_bases<S: Alter>(
     ensures looks { Looks (SeesBounded (want.Room (counted.BasesOf project.now)) rows.old rows.new counts.old counts.new) (state S.Store tx.old.conn.now) (state S.Store tx.new.conn.now) result }
     ensures learnt { IfOk result (λ s. s ≡ Sight.Learnt → HasLearnt (want.Room (counted.BasesOf project.now)) rows.old rows.new) }
 {
-    let Some(is) = counts.room_for_bases(project) else {
-        let count = bases::count(tx, project)?;
-        return Ok(tell_base_count(alloc, project, count, counts, rows));
-    };
-    // A store that was shut is found so, whatever is known.
-    let _desk = find::<Desk, S>(tx, alloc, &())?;
-    Ok(tell_room_for_bases(alloc, project, is, rows))
+    let count = bases::count(tx, project)?;
+    Ok(tell_base_count(alloc, project, count, counts, rows))
 }
 
 #[tactic(auto, using(review_database::proofs::Telling::has_learnt))]

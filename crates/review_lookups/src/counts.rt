@@ -1,4 +1,4 @@
-//! What a shelf knows of how many projects there are, and how many bases they have, so that it needn't count them again.
+//! What a shelf knows of how many requests were stored, how many projects there are, and how many bases they have, so that it needn't ask or count again.
 ghost use Rattle.std.specs.{BTreeMap.is_at, Cmp.Lexicographic.slice_cmp, Ordering.nat_cmp};
 ghost use Rattle.std.specs.Prelude.{ℕ, ◌≡◌, ◌+◌, ◌≤◌, List, Some, nat_lt, if◌then◌else◌, IfSome, OnOk, OnErr};
 ghost use Rattle.review_table.specs.Rows.{row_in, rows_of};
@@ -67,9 +67,10 @@ impl Bound {
     }
 }
 
-/// What is known of how many projects there are, and how many bases each has.
+/// What is known of how many requests were ever stored, how many projects there are, and how many bases each has.
 #[derive(Drop)]
 pub struct Counts {
+    pub requests: Option<u64>,
     pub projects: Option<Bound>,
     pub bases: Table<ProjectName, Bound>,
 }
@@ -80,9 +81,17 @@ impl Counts {
         ensures { (t : Tables) → AreBounded result t }
     {
         Counts {
+            requests: None,
             projects: None,
             bases: Table::new(alloc),
         }
+    }
+
+    /// How many requests were ever stored, where that is known.
+    pub fn stored_requests(&self) -> Option<u64>
+        ensures { (t : Tables) → AreBounded self.now t → IfSome result (λ n. n ≡ t.requests) }
+    {
+        self.requests
     }
 
     /// Whether there may be one more project, where that is known.
@@ -99,6 +108,13 @@ impl Counts {
     {
         let bound = self.bases.get(project)?;
         bound.room(MOST_BASES)
+    }
+
+    /// Learns that so many requests were ever stored.
+    pub fn learn_requests(&mut self, requests: u64)
+        ensures { (t : Tables) → AreBounded self.old t → requests ≡ t.requests → AreBounded self.new t }
+    {
+        self.requests = Some(requests);
     }
 
     /// Learns that so many projects were counted.
@@ -126,11 +142,20 @@ impl Counts {
     pub fn note(&mut self, alloc: Global, delta: &Delta)
         ensures { (old new : Tables) (kept : AnswerRow) → AreBounded self.old old → IsCommitted old delta.now kept new → AreBounded self.new new }
     {
+        self.requests = with_request(self.requests);
         self.projects = noted(self.projects, delta);
         if let Some(put) = &delta.base {
             note_one(&mut self.bases, alloc, &put.key.project);
         }
     }
+}
+
+// How many requests there are once one more is stored, where that is known.
+fn with_request(requests: Option<u64>) -> Option<u64>
+    ensures { (n : ℕ) → IfSome requests (λ known. known ≡ n) → IfSome result (λ more. more ≡ n + 1) }
+{
+    let requests = requests?;
+    requests.checked_add(1)
 }
 
 // What is known of the projects once a delta is done. A file that is put in place of another is taken for one more.

@@ -3,4 +3,5 @@
 
 pub mod branches;
 pub mod counts;
+pub mod known;
 pub mod people;

@@ -1,18 +1,20 @@
 -- Look-ups one after the other.
-use Rattle.std.proofs.Common.{◌≡◌, ℕ, ◌+◌, ◌<◌, List, take, get_or, length, Result, Ok, Err}
-use Rattle.sqlite.specs.{State.State, declared.error.Error.Error}
-use Rattle.sqlite_trees.specs.Tree.{Trees}
+use Rattle.std.proofs.Common.{◌≡◌, ◌∙◌, ◌⊎◌, inl, inr, ℕ, ◌+◌, ◌<◌, Bool, true, false, List, take, get_or, length, None, Result, Ok, Err, refl, sym, subst}
+use Rattle.sqlite.specs.{Held.Held, Held.state, State.State, declared.error.Error.Error}
+use Rattle.sqlite_trees.specs.{Tree.Trees, declared.store.Store.Ghosts}
 use Rattle.review_statements.specs.Ran.{Looks}
 use Rattle.review_tables.proofs.Found.{look_on, look_both}
 use Rattle.review_rows.proofs.Looked.{asked_more, looked_agrees}
-use Rattle.review_rows.specs.{Known.AreAsked, Known.Agrees, declared.rows.Rows.Rows, declared.rows.Want.Want}
+use Rattle.review_rows.specs.Known.{AreAsked, Agrees, known}
+use Rattle.review_rows.specs.declared.rows.{Rows.Rows, Want.Want}
 use Rattle.review_database.specs.{Loads.HasLearnt, Loads.Sees, Tables.tables_at, declared.sights.Sight.Sight}
 use Rattle.review_lookups.specs.{Counts.AreBounded, Counts.SeesBounded, declared.counts.Counts.Counts}
+use Rattle.review_sql.specs.Loading.{LooksIf, LooksOnce, WereSeen}
 use Rattle.review_database.specs.declared.sights.Sight.TheVariants as sight
 
 -- what rows know is so, and what is known of counts, where what was known is so
 abbrev pub Have : Rows → Counts → Counts → Trees → Unit {0} → Type 0
-Have rows known more db u = AreBounded known (tables_at db) → Agrees (tables_at db) rows × AreBounded more (tables_at db)
+Have rows before more db u = AreBounded before (tables_at db) → Agrees (tables_at db) rows × AreBounded more (tables_at db)
 
 -- a look-up that isn't of a count leaves what is known of them
 pub beside : (w : Want) (old new : Rows) (counts : Counts) (a b : State) (r : Result Sight Error) → Looks (Sees w old new) a b r → Looks (SeesBounded w old new counts counts) a b r
@@ -23,7 +25,63 @@ beside w old new counts a b (Err e) it = record { found = λ _ _ _. tt; kept = i
 pub learnt_asked : (wants : List Want) (i : ℕ) (w : Want) (old new : Rows) → i < length wants → w ≡ get_or wants i w → AreAsked (take i wants) old → HasLearnt w old new → AreAsked (take (i + 1) wants) new
 learnt_asked wants i w old new below is asked learnt = asked_more wants i w learnt.0 old new below is asked learnt.1
 
-module _ (w : Want) (old new : Rows) (known mid more : Counts) (a b c : State) (have : Looks (Have old known mid) a b (Ok (tt {0}))) where
-  pub have_more : Looks (SeesBounded w old new mid more) b c (Ok sight.Learnt) → Looks (Have new known more) a c (Ok (tt {0}))
-  have_more sees = look_on _ (Have new known more) a c sight.Learnt (Ok (tt {0})) (look_both (Have old known mid) (SeesBounded w old new mid more) a b c (tt {0}) (Ok sight.Learnt) have sees)
-      (λ db h so. let was = h.0 so in let s = h.1 was.1 in (looked_agrees (tables_at db) w old new s.0 was.0, s.1))
+-- a look-up that failed tells nothing
+failed : {X Y : Type 0} (F : Trees → X → Type 0) (G : Trees → Y → Type 0) (a b : State) (e f : Error) → Looks F a b (Err e) → Looks G a b (Err f)
+failed F G a b e f it = record { found = λ _ _ _. tt; kept = λ clean on. ((it.kept clean on).0, tt); survives = it.survives }
+
+module _ {S X Y : Type 0} (g : Ghosts S) (F : Trees → Unit {0} → Type 0) (G : Trees → X → Type 0) (H : Trees → Y → Type 0) (a b c : Held S) where
+  -- one look-up more was made, after statements or none
+  pub one_more : (was now : Bool) (x : X) (y : Y) → ((db : Trees) → F db tt → G db x → H db y) → LooksIf g was F a b (Ok tt) → LooksOnce g was now G b c (Ok x) → LooksIf g now H a c (Ok y)
+  one_more true now x y tells have (inl none) =
+      subst (λ is. LooksIf g is H a c (Ok y)) (sym none.0)
+      (subst (λ (h : Held S). Looks H (state g a) (state g h) (Ok y)) (sym none.1.0) (look_on F H (state g a) (state g b) tt (Ok y) have (λ db h. tells db h (none.1.1 db))))
+  one_more false now x y tells have (inl none) = subst (λ is. LooksIf g is H a c (Ok y)) (sym none.0) (none.1.0 ∙ have.0, λ db. tells db (have.1 db) (none.1.1 db))
+  one_more true now x y tells have (inr asked) =
+      subst (λ is. LooksIf g is H a c (Ok y)) (sym asked.0)
+      (look_on (λ db x. F db tt × G db x) H (state g a) (state g c) x (Ok y) (look_both F G (state g a) (state g b) (state g c) tt (Ok x) have asked.1) (λ db h. tells db h.0 h.1))
+  one_more false now x y tells have (inr asked) =
+      subst (λ is. LooksIf g is H a c (Ok y)) (sym asked.0) (look_on G H (state g a) (state g c) x (Ok y) (from_first (Ok x) have.0 asked.1) (λ db h. tells db (have.1 db) h))
+    where
+      from_first : (r : Result X Error) → b ≡ a → Looks G (state g b) (state g c) r → Looks G (state g a) (state g c) r
+      from_first r same it = subst (λ (h : Held S). Looks G (state g h) (state g c) r) same it
+
+  -- it failed
+  pub one_failed : (was now : Bool) (e f : Error) → LooksIf g was F a b (Ok tt) → LooksOnce g was now G b c (Err e) → LooksIf g now H a c (Err f)
+  one_failed was now e f have (inl none) = absurd none.1
+  one_failed true now e f have (inr asked) =
+      subst (λ is. LooksIf g is H a c (Err f)) (sym asked.0) (failed (λ db x. F db tt × G db x) H (state g a) (state g c) e f (look_both F G (state g a) (state g b) (state g c) tt (Err e) have asked.1))
+  one_failed false now e f have (inr asked) =
+      subst (λ is. LooksIf g is H a c (Err f)) (sym asked.0) (failed G H (state g a) (state g c) e f (subst (λ (h : Held S). Looks G (state g h) (state g c) (Err e)) have.0 asked.1))
+
+-- nothing was looked up yet
+pub have_none : {S : Type 0} (g : Ghosts S) (rows : Rows) (counts : Counts) (a : Held S) → ((w : Want) → known rows w ≡ None) → LooksIf g false (Have rows counts counts) a a (Ok tt)
+have_none g rows counts a nothing = (refl, λ db bounded. (λ w found is. absurd (let e = sym (nothing w) ∙ is in cc), bounded))
+
+module _ (w : Want) (old new : Rows) (before mid more : Counts) (db : Trees) (have : Have old before mid db tt) where
+  -- what is known then, where the look-up learnt
+  pub have_more : SeesBounded w old new mid more db sight.Learnt → Have new before more db tt
+  have_more sees bounded = let was = have bounded in let s = sees was.1 in (looked_agrees (tables_at db) w old new s.0 was.0, s.1)
+
+  -- and where it didn't
+  pub seen_unlearnt : (s : Sight) → (s ≡ sight.Learnt → ⊥) → SeesBounded w old new mid more db s → WereSeen new before more db s
+  seen_unlearnt sight.Learnt other sees bounded = absurd (other refl)
+  seen_unlearnt sight.NoMemory other sees bounded = (tt, (sees (have bounded).1).1)
+  seen_unlearnt sight.Damaged other sees bounded = sees (have bounded).1
+
+-- where no statement was made before, the row of the desk was asked for
+module _ {S X D : Type 0} (g : Ghosts S) (F : Trees → X → Type 0) (G : Trees → D → Type 0) (a b c : Held S) where
+  pub seen_open : (x : X) (d : D) → LooksIf g false F a b (Ok x) → Looks G (state g b) (state g c) (Ok d) → Looks F (state g a) (state g c) (Ok x)
+  seen_open x d have desk = look_on G F (state g a) (state g c) d (Ok x) (subst (λ (h : Held S). Looks G (state g h) (state g c) (Ok d)) have.0 desk) (λ db h. have.1 db)
+
+  pub seen_shut : (x : X) (e f : Error) → LooksIf g false F a b (Ok x) → Looks G (state g b) (state g c) (Err e) → Looks F (state g a) (state g c) (Err f)
+  seen_shut x e f have desk = failed G F (state g a) (state g c) e f (subst (λ (h : Held S). Looks G (state g h) (state g c) (Err e)) have.0 desk)
+
+-- an error came of a statement
+pub asked_failed : {S X Y : Type 0} (g : Ghosts S) (is : Bool) (F : Trees → X → Type 0) (G : Trees → Y → Type 0) (a b : Held S) (e f : Error) → LooksIf g is F a b (Err e) → Looks G (state g a) (state g b) (Err f)
+asked_failed g true F G a b e f it = failed F G (state g a) (state g b) e f it
+asked_failed g false F G a b e f it = absurd it
+
+-- all were made
+pub all_seen : {S : Type 0} (g : Ghosts S) (is : Bool) (rows : Rows) (before more : Counts) (a b : Held S) → LooksIf g is (Have rows before more) a b (Ok tt) → LooksIf g is (WereSeen rows before more) a b (Ok sight.Learnt)
+all_seen g true rows before more a b it = look_on (Have rows before more) (WereSeen rows before more) (state g a) (state g b) tt (Ok sight.Learnt) it (λ db h. h)
+all_seen g false rows before more a b it = (it.0, λ db. it.1 db)

@@ -1,7 +1,8 @@
 -- What look-ups tell that are made one after the other.
-use Rattle.std.specs.Prelude.{Result, Ok, Err}
-use Rattle.sqlite.specs.declared.error.Error.{Error}
-use Rattle.sqlite_trees.specs.Tree.{Trees}
+use Rattle.std.specs.Prelude.{◌≡◌, ◌⊎◌, Bool, true, false, Result, Ok, Err}
+use Rattle.sqlite.specs.{Held.Held, Held.state, declared.error.Error.Error}
+use Rattle.sqlite_trees.specs.{Tree.Trees, declared.store.Store.Ghosts}
+use Rattle.review_statements.specs.Ran.{Looks}
 use Rattle.review_rows.specs.{Known.Agrees, Shelf.IsDamaged, declared.rows.Rows.Rows}
 use Rattle.review_database.specs.{Loads.AreLoaded, Tables.tables_at}
 use Rattle.review_database.specs.declared.sights.{Loaded.Loaded, Sight.Sight}
@@ -32,3 +33,13 @@ WereSeen rows known more db s = AreBounded known (tables_at db) → AreSeen rows
 
 abbrev pub AreLoadedBounded : Counts → Counts → Trees → Loaded → Type 0
 AreLoadedBounded known more db found = AreBounded known (tables_at db) → AreLoaded db found × AreBounded more (tables_at db)
+
+-- look-ups that were made by statements, of which the last ended so; or by none, so that the store is as it was and no error came of it
+abbrev pub LooksIf : {S X : Type 0} → Ghosts S → Bool → (Trees → X → Type 0) → Held S → Held S → Result X Error → Type 0
+LooksIf g true Found old new result = Looks Found (state g old) (state g new) result
+LooksIf g false Found old new (Ok x) = (new ≡ old) × ((db : Trees) → Found db x)
+LooksIf g false Found old new (Err e) = ⊥
+
+-- one look-up more, before and after which statements were made or not: by one, or by none
+abbrev pub LooksOnce : {S X : Type 0} → Ghosts S → Bool → Bool → (Trees → X → Type 0) → Held S → Held S → Result X Error → Type 0
+LooksOnce g before after Found old new result = ((after ≡ before) × LooksIf g false Found old new result) ⊎ ((after ≡ true) × LooksIf g true Found old new result)

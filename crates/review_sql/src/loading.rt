@@ -5,11 +5,12 @@ ghost use Rattle.review_statements.specs.Ran.{Looks, Serves};
 ghost use Rattle.review_rows.specs.Known.{AreAsked, known};
 ghost use Rattle.review_database.specs.Loads.{HasLearnt, WereAsked};
 ghost use Rattle.review_lookups.specs.Counts.{SeesBounded};
-ghost use Rattle.review_sql.specs.Loading.{AreLoadedBounded, WereSeen, loaded_by};
+ghost use Rattle.review_sql.specs.Loading.{AreLoadedBounded, LooksIf, LooksOnce, WereSeen, loaded_by};
 
 use review_change_lookups::{bases, joins, places, reviews, senders};
 use review_database::{Loaded, Sight};
 use review_lookups::counts::Counts;
+use review_lookups::known::find_known;
 use review_lookups::{branches, people};
 use review_records::desk::Desk;
 use review_rows::{Counted, Rows, Want};
@@ -29,7 +30,7 @@ fn find<S: Alter>(
     ensures learnt { IfOk result (λ s. s ≡ Sight.Learnt → HasLearnt want.now rows.old rows.new) }
 {
     match want {
-        Want::Requests => branches::find_requests(tx, alloc, rows),
+        Want::Requests => branches::find_requests(tx, alloc, counts, rows),
         Want::LeastEpoch => branches::find_least_epoch(tx, alloc, rows),
         Want::Account(number) => people::find_account(tx, alloc, *number, rows),
         Want::AccountNamed(name) => people::find_holder(tx, alloc, name, rows),
@@ -38,7 +39,7 @@ fn find<S: Alter>(
         Want::Group(group) => people::find_group(tx, alloc, group, rows),
         Want::File(project) => branches::find_file(tx, alloc, project, rows),
         Want::Project(project) => branches::find_project(tx, alloc, project, rows),
-        Want::Room(Counted::Projects) => branches::find_room_for_projects(tx, alloc, counts, rows),
+        Want::Room(Counted::Projects) => branches::find_room_for_projects(tx, counts, rows),
         Want::Room(Counted::BasesOf(project)) => {
             branches::find_room_for_bases(tx, alloc, project, counts, rows)
         }
@@ -54,7 +55,53 @@ fn find<S: Alter>(
     }
 }
 
+// Makes one look-up more: by what the shelf knows of counts where that tells it, and else by statements, which is noted.
+fn find_next<S: Alter>(
+    tx: &mut Transaction<'_, S>,
+    alloc: Global,
+    want: &Want,
+    counts: &mut Counts,
+    rows: &mut Rows,
+    is_asked: &mut bool,
+) -> Result<Sight, Error>
+    ensures same_reference { tx.new.conn.ghost_name ≡ tx.old.conn.ghost_name }
+    ensures looks { LooksOnce S.Store is_asked.old is_asked.new (SeesBounded want.now rows.old rows.new counts.old counts.new) tx.old.conn.now tx.new.conn.now result }
+    ensures learnt { IfOk result (λ s. s ≡ Sight.Learnt → HasLearnt want.now rows.old rows.new) }
+{
+    if let Some(sight) = find_known(alloc, want, counts, rows) {
+        return Ok(sight);
+    }
+    *is_asked = true;
+    find(tx, alloc, want, counts, rows)
+}
+
 // Makes look-ups one after the other, until all have learnt, or there is no memory, or one meets damage; what the rows know counts only where all have learnt.
+fn find_in_turn<S: Alter>(
+    tx: &mut Transaction<'_, S>,
+    alloc: Global,
+    wants: &[Want],
+    counts: &mut Counts,
+    rows: &mut Rows,
+    is_asked: &mut bool,
+) -> Result<Sight, Error>
+    requires nothing { (w : Want) → known rows.old w ≡ None }
+    requires unasked { is_asked.old ≡ false }
+    ensures same_reference { tx.new.conn.ghost_name ≡ tx.old.conn.ghost_name }
+    ensures looks { LooksIf S.Store is_asked.new (WereSeen rows.new counts.old counts.new) tx.old.conn.now tx.new.conn.now result }
+    ensures asked { IfOk result (λ s. s ≡ Sight.Learnt → AreAsked wants.now rows.new) }
+{
+    for want in wants {
+        let sight = find_next(tx, alloc, want, counts, rows, is_asked)?;
+        match sight {
+            Sight::Learnt => {}
+            Sight::NoMemory => return Ok(Sight::NoMemory),
+            Sight::Damaged => return Ok(Sight::Damaged),
+        }
+    }
+    Ok(Sight::Learnt)
+}
+
+// The same. Where no statement was needed, the row of the desk is asked for: a store that was shut is found so, whatever is known.
 fn find_each<S: Alter>(
     tx: &mut Transaction<'_, S>,
     alloc: Global,
@@ -67,17 +114,12 @@ fn find_each<S: Alter>(
     ensures looks { Looks (WereSeen rows.new counts.old counts.new) (state S.Store tx.old.conn.now) (state S.Store tx.new.conn.now) result }
     ensures asked { IfOk result (λ s. s ≡ Sight.Learnt → AreAsked wants.now rows.new) }
 {
-    // A store that was shut is found so, whatever is asked.
-    let _desk = find_row::<Desk, S>(tx, alloc, &())?;
-    for want in wants {
-        let sight = find(tx, alloc, want, counts, rows)?;
-        match sight {
-            Sight::Learnt => {}
-            Sight::NoMemory => return Ok(Sight::NoMemory),
-            Sight::Damaged => return Ok(Sight::Damaged),
-        }
+    let mut is_asked = false;
+    let sight = find_in_turn(tx, alloc, wants, counts, rows, &mut is_asked)?;
+    if !is_asked {
+        let _desk = find_row::<Desk, S>(tx, alloc, &())?;
     }
-    Ok(Sight::Learnt)
+    Ok(sight)
 }
 
 // The same, in a transaction of its own.

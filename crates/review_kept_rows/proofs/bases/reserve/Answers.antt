@@ -2,46 +2,34 @@ use Rattle.std.{proofs.Common.subst, specs.Cmp.Lexicographic.slice_cmp, specs.Or
 use Rattle.review_table.specs.Rows.{HavePlaces, HasEmptyOnly, is_named}
 use Rattle.review_rows.specs.Rows.{branch_cmp}
 use Rattle.review_kept_rows.proofs.Based.{none_spare}
-use Rattle.review_kept_rows.specs.Bases.{commit_cmp}
 use Rattle.review_kept_rows.proofs.bases.reserve.Goals as goal
 
-pub returns-clause-listed : goal.returns-clause-listed
-returns-clause-listed c = subst (HavePlaces commit_cmp c.reserve_all.new.self) c.deref.ensures.value c.in_ok-reserve_all.ensures.ok
-
 pub returns-clause-ended : goal.returns-clause-ended
-returns-clause-ended c = subst (HavePlaces branch_cmp c.reserve_all-2.new.self) c.deref-2.ensures.value c.in_ok-reserve_all-2.ensures.ok
+returns-clause-ended c = subst (HavePlaces branch_cmp c.reserve_all.new.self) c.deref.ensures.value c.in_ok-reserve_all.ensures.ok
 
 pub returns-clause-counted : goal.returns-clause-counted
-returns-clause-counted c = subst (HavePlaces (slice_cmp nat_cmp) c.reserve_all-3.new.self) c.deref-3.ensures.value c.in_ok-reserve_all-3.ensures.ok
+returns-clause-counted c = subst (HavePlaces (slice_cmp nat_cmp) c.reserve_all-2.new.self) c.deref-2.ensures.value c.in_ok-reserve_all-2.ensures.ok
 
 pub returns-in_err-reserve_all-clause-spare : goal.returns-in_err-reserve_all-clause-spare
-returns-in_err-reserve_all-clause-spare c = λ bases full. record {
-  bases_spare = full.bases_full;
-  commits_spare = subst (λ cs. HasEmptyOnly commit_cmp (is_named commit_cmp cs) c.reserve_all.new.self) c.deref.ensures.value (c.reserve_all.ensures.only full.commits_full);
-  lasts_spare = none_spare branch_cmp (is_named branch_cmp c.args.changes.now.ended.items) c.args.lasts.now full.lasts_full;
+returns-in_err-reserve_all-clause-spare c = λ bases commits full. record {
+  bases_full = full.bases_full;
+  commits_full = full.commits_full;
+  lasts_spare = subst (λ cs. HasEmptyOnly branch_cmp (is_named branch_cmp cs) c.reserve_all.new.self) c.deref.ensures.value (c.reserve_all.ensures.only full.lasts_full);
   totals_spare = none_spare (slice_cmp nat_cmp) (is_named (slice_cmp nat_cmp) c.args.changes.now.counted.items) c.args.totals.now full.totals_full;
 }
 
 pub returns-in_err-reserve_all-2-clause-spare : goal.returns-in_err-reserve_all-2-clause-spare
-returns-in_err-reserve_all-2-clause-spare c = λ bases full. record {
-  bases_spare = full.bases_full;
-  commits_spare = subst (λ cs. HasEmptyOnly commit_cmp (is_named commit_cmp cs) c.reserve_all.new.self) c.deref.ensures.value (c.reserve_all.ensures.only full.commits_full);
-  lasts_spare = subst (λ cs. HasEmptyOnly branch_cmp (is_named branch_cmp cs) c.reserve_all-2.new.self) c.deref-2.ensures.value (c.reserve_all-2.ensures.only full.lasts_full);
-  totals_spare = none_spare (slice_cmp nat_cmp) (is_named (slice_cmp nat_cmp) c.args.changes.now.counted.items) c.args.totals.now full.totals_full;
-}
-
-pub returns-in_err-reserve_all-3-clause-spare : goal.returns-in_err-reserve_all-3-clause-spare
-returns-in_err-reserve_all-3-clause-spare c = λ bases full. record {
-  bases_spare = full.bases_full;
-  commits_spare = subst (λ cs. HasEmptyOnly commit_cmp (is_named commit_cmp cs) c.reserve_all.new.self) c.deref.ensures.value (c.reserve_all.ensures.only full.commits_full);
-  lasts_spare = subst (λ cs. HasEmptyOnly branch_cmp (is_named branch_cmp cs) c.reserve_all-2.new.self) c.deref-2.ensures.value (c.reserve_all-2.ensures.only full.lasts_full);
-  totals_spare = subst (λ cs. HasEmptyOnly (slice_cmp nat_cmp) (is_named (slice_cmp nat_cmp) cs) c.reserve_all-3.new.self) c.deref-3.ensures.value (c.reserve_all-3.ensures.only full.totals_full);
+returns-in_err-reserve_all-2-clause-spare c = λ bases commits full. record {
+  bases_full = full.bases_full;
+  commits_full = full.commits_full;
+  lasts_spare = subst (λ cs. HasEmptyOnly branch_cmp (is_named branch_cmp cs) c.reserve_all.new.self) c.deref.ensures.value (c.reserve_all.ensures.only full.lasts_full);
+  totals_spare = subst (λ cs. HasEmptyOnly (slice_cmp nat_cmp) (is_named (slice_cmp nat_cmp) cs) c.reserve_all-2.new.self) c.deref-2.ensures.value (c.reserve_all-2.ensures.only full.totals_full);
 }
 
 pub returns-clause-spare : goal.returns-clause-spare
-returns-clause-spare c = λ bases full. record {
-  bases_spare = full.bases_full;
-  commits_spare = subst (λ cs. HasEmptyOnly commit_cmp (is_named commit_cmp cs) c.reserve_all.new.self) c.deref.ensures.value (c.reserve_all.ensures.only full.commits_full);
-  lasts_spare = subst (λ cs. HasEmptyOnly branch_cmp (is_named branch_cmp cs) c.reserve_all-2.new.self) c.deref-2.ensures.value (c.reserve_all-2.ensures.only full.lasts_full);
-  totals_spare = subst (λ cs. HasEmptyOnly (slice_cmp nat_cmp) (is_named (slice_cmp nat_cmp) cs) c.reserve_all-3.new.self) c.deref-3.ensures.value (c.reserve_all-3.ensures.only full.totals_full);
+returns-clause-spare c = λ bases commits full. record {
+  bases_full = full.bases_full;
+  commits_full = full.commits_full;
+  lasts_spare = subst (λ cs. HasEmptyOnly branch_cmp (is_named branch_cmp cs) c.reserve_all.new.self) c.deref.ensures.value (c.reserve_all.ensures.only full.lasts_full);
+  totals_spare = subst (λ cs. HasEmptyOnly (slice_cmp nat_cmp) (is_named (slice_cmp nat_cmp) cs) c.reserve_all-2.new.self) c.deref-2.ensures.value (c.reserve_all-2.ensures.only full.totals_full);
 }
