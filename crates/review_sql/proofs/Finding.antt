@@ -1,5 +1,5 @@
 -- Look-ups one after the other.
-use Rattle.std.proofs.Common.{◌≡◌, ◌∙◌, ◌⊎◌, inl, inr, ℕ, ◌+◌, ◌<◌, Bool, true, false, List, take, get_or, length, None, Result, Ok, Err, refl, sym, subst}
+use Rattle.std.proofs.Common.{◌≡◌, ◌∙◌, inl, inr, ℕ, ◌+◌, ◌<◌, Bool, true, false, List, take, get_or, length, None, Result, Ok, Err, refl, sym, subst}
 use Rattle.sqlite.specs.{Held.Held, Held.state, State.State, declared.error.Error.Error}
 use Rattle.sqlite_trees.specs.{Tree.Trees, declared.store.Store.Ghosts}
 use Rattle.review_statements.specs.Ran.{Looks}

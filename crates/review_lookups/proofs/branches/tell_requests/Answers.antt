@@ -1,5 +1,4 @@
 use Rattle.std.proofs.Common.{◌≡◌, ◌∙◌, Some, None, refl, sym, ap, rules}
-use Rattle.std.proofs.lemmas.Option.{same_Some}
 use Rattle.review_rows.specs.Known.{Number}
 use Rattle.review_records.specs.declared.rows.DeskRow.{DeskRow}
 use Rattle.review_database.{proofs.Odd.desk_damaged, specs.Tables.number_of, specs.Tables.tables_at}
