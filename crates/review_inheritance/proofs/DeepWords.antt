@@ -8,8 +8,7 @@ use Rattle.review_terms.specs.Words.{Reading, Good, Bad, NoTerm}
 use Rattle.review_terms.specs.declared.terms.RequirementTerm.{RequirementTerm}
 use Rattle.review_terms.specs.declared.terms.RequirementTerm.TheVariants.{BranchMatches, PathMatches}
 use Rattle.review_spelling.specs.{Cuts.behind, Cuts.cut_at, Cuts.key_and_value, Readings.◌>>=◌, Readings.in_value}
-use Rattle.review_spelling.specs.Words.{pattern_or, pattern_of, pattern_in, keyed, requirement_value}
-use Rattle.review_spelling.specs.Words.{requirement_reading, IsDeep, IsPattern}
+use Rattle.review_spelling.specs.Words.{pattern_or, pattern_of, pattern_in, keyed, requirement_value, requirement_reading, IsDeep, IsPattern}
 use Rattle.review_spelling.specs.declared.keys.RequirementKey.{RequirementKey}
 use Rattle.review_expr.{proofs.Excluded.no_flaw, specs.Expressions.HasExpr, specs.Faults.HasWord}
 use Rattle.review_expr.specs.Tokens.{operator_by, operator_or, term_token, meaning, is_signed, unsigned, alone, behind_minus, after_minus, opens_at, lexeme_tokens}

@@ -1,8 +1,7 @@
 //! Words of submit requirements.
 ghost use Rattle.std.specs.Prelude.{◌≡◌, IfOk, IfErr, IsSomeAnd};
 ghost use Rattle.review_terms.specs.{Patterns.IsDeepPattern, Patterns.IsEnginePattern, Words.Good, Words.IsWordFault};
-ghost use Rattle.review_spelling.specs.Words.{is_component, pattern_of, requirement_reading, requirement_value};
-ghost use Rattle.review_spelling.specs.Words.{truth_in, IsDeep, IsPattern};
+ghost use Rattle.review_spelling.specs.Words.{is_component, pattern_of, requirement_reading, requirement_value, truth_in, IsDeep, IsPattern};
 ghost use Rattle.review_spelling.specs.declared.keys.RequirementKey.TheVariants as of_requirement;
 
 use crate::cuts::{behind, cut_at, key_and_value};

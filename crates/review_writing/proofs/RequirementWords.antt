@@ -9,8 +9,7 @@ use Rattle.review_spelling.specs.Cuts.{behind, cut_at, key_and_value, unquoted, 
 use Rattle.review_spelling.specs.Labels.{label_in}
 use Rattle.review_spelling.specs.Readings.{◌>>=◌, in_term, in_value, unless_zero}
 use Rattle.review_spelling.specs.Values.{is_met_by_zero}
-use Rattle.review_spelling.specs.Words.{formed, is_component, keyed, pattern_or, requirement_key, requirement_value}
-use Rattle.review_spelling.specs.Words.{requirement_reading, truth_in}
+use Rattle.review_spelling.specs.Words.{formed, is_component, keyed, pattern_or, requirement_key, requirement_value, requirement_reading, truth_in}
 use Rattle.review_spelling.specs.declared.keys.RequirementKey.{RequirementKey}
 use Rattle.review_writing.proofs.CopyWords.{value_good, formed_good}
 use Rattle.review_writing.proofs.LabelWords.{label_again, label_of_form, label_lacks}

@@ -9,8 +9,7 @@ use Rattle.review_spelling.specs.Cuts.{behind, cut_at, closed, key_and_value, un
 use Rattle.review_spelling.specs.Labels.{label_in}
 use Rattle.review_spelling.specs.Readings.{◌>>=◌, in_term, in_value, unless_zero}
 use Rattle.review_spelling.specs.Values.{is_met_by_zero}
-use Rattle.review_spelling.specs.Words.{formed, is_component, keyed, pattern_or, requirement_key, requirement_value}
-use Rattle.review_spelling.specs.Words.{requirement_reading, truth_in}
+use Rattle.review_spelling.specs.Words.{formed, is_component, keyed, pattern_or, requirement_key, requirement_value, requirement_reading, truth_in}
 use Rattle.review_spelling.specs.declared.keys.RequirementKey.{RequirementKey}
 use Rattle.review_writing.proofs.LabelValues.{IsCut, cut_is, label_values}
 use Rattle.review_writing.proofs.Lacking.{lacks, cut_lacking, whole_lacking, value_lacks, keep, keep_both}

@@ -1,6 +1,6 @@
 use Rattle.std.proofs.Common.{◌≡◌, Some, arith}
 use Rattle.sqlite.specs.Held.{state}
-use Rattle.review_statements.specs.{Search.SetsRow}
+use Rattle.review_statements.specs.Search.{SetsRow}
 use Rattle.review_tables.proofs.Keys.{row_remade, row_again, row_then_first}
 use Rattle.review_tables.proofs.Sequences.{next, told, weaker}
 use Rattle.review_tables.proofs.changes.rewrite.Goals as goal
