@@ -13,7 +13,7 @@ use crate::seen::Said;
 use review_records::desk::Desk;
 use review_records::epochs::Epochs;
 use review_records::rows::DeskRow;
-use review_tables::changes::rewrite;
+use review_tables::changes;
 use review_tables::migrating::migrate_tables;
 use review_tables::rowids::are_all_apart;
 use review_tables::versions::{EarlierVersion, TablesVersion};
@@ -35,8 +35,8 @@ fn put_version<S: Alter>(
         version: 3,
         requests: numbers.requests,
     };
-    rewrite::<Epochs, S>(tx, alloc, &(), &numbers.least)?;
-    rewrite::<Desk, S>(tx, alloc, &(), &row)
+    changes::rewrite::<Epochs, S>(tx, alloc, &(), &numbers.least)?;
+    changes::rewrite::<Desk, S>(tx, alloc, &(), &row)
 }
 
 // Makes tables of ours those of version 3, unless two rows of one have the same rowid.
