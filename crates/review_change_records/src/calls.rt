@@ -113,4 +113,8 @@ impl Single for Calls {
     ghost use Rattle.review_change_records.specs.Laws.{call_single};
 
     ghost single = { call_single };
+
+    fn replaces() -> bool {
+        true
+    }
 }

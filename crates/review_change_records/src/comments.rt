@@ -151,4 +151,8 @@ impl Single for Comments {
     ghost use Rattle.review_change_records.specs.Laws.{comment_single};
 
     ghost single = { comment_single };
+
+    fn replaces() -> bool {
+        false
+    }
 }

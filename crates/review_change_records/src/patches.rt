@@ -227,4 +227,8 @@ impl Single for Patches {
     ghost use Rattle.review_change_records.specs.Laws.{patch_single};
 
     ghost single = { patch_single };
+
+    fn replaces() -> bool {
+        false
+    }
 }

@@ -111,4 +111,8 @@ impl Single for Roles {
     ghost use Rattle.review_change_records.specs.Laws.{role_single};
 
     ghost single = { role_single };
+
+    fn replaces() -> bool {
+        true
+    }
 }

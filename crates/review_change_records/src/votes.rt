@@ -128,4 +128,8 @@ impl Single for Votes {
     ghost use Rattle.review_change_records.specs.Laws.{vote_single};
 
     ghost single = { vote_single };
+
+    fn replaces() -> bool {
+        true
+    }
 }

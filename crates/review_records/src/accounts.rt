@@ -92,6 +92,10 @@ impl Single for Accounts {
     ghost use Rattle.review_records.specs.Laws.{account_single};
 
     ghost single = { account_single };
+
+    fn replaces() -> bool {
+        false
+    }
 }
 
 /// The accounts by their names.

@@ -156,6 +156,10 @@ impl<'k> Single for KeptAnswer<'k> {
     ghost use Rattle.review_records.specs.Laws.{answer_single};
 
     ghost single = { answer_single };
+
+    fn replaces() -> bool {
+        false
+    }
 }
 
 /// Stores a request in the place of what its identity has.

@@ -107,6 +107,10 @@ impl Single for Bases {
     ghost use Rattle.review_records.specs.Laws.{base_single};
 
     ghost single = { base_single };
+
+    fn replaces() -> bool {
+        false
+    }
 }
 
 /// The places of a commit in a branch.

@@ -97,6 +97,10 @@ impl Single for Members {
     ghost use Rattle.review_records.specs.Laws.{member_single};
 
     ghost single = { member_single };
+
+    fn replaces() -> bool {
+        false
+    }
 }
 
 /// The members of a group, by their accounts.

@@ -130,6 +130,10 @@ impl Single for Projects {
     ghost use Rattle.review_records.specs.Laws.{project_single};
 
     ghost single = { project_single };
+
+    fn replaces() -> bool {
+        true
+    }
 }
 
 /// The projects without their files.

@@ -34,7 +34,8 @@ fn replace<T: Table, S: Alter>(
     Ok(())
 }
 
-/// Gives a key this row. Mostly the key has none, so the row is put in; where a rule of the table refuses that, it takes the place of what is there.
+/// Gives a key this row. Where the key mostly has none the row is put in, and takes the place of what is there only where a rule of the table refuses
+/// that; in a table in which rows are replaced, what is there is taken away first.
 pub fn set<T: Single, S: Alter>(
     tx: &mut Transaction<'_, S>,
     alloc: Global,
@@ -45,6 +46,9 @@ pub fn set<T: Single, S: Alter>(
     ensures ran { Inside (SetsRow T.search key.now (Some row.now)) (state S.Store tx.old.conn.now) (state S.Store tx.new.conn.now) result }
     ensures open { Opens (state S.Store tx.old.conn.now) (state S.Store tx.new.conn.now) result }
 {
+    if T::replaces() {
+        return replace::<T, S>(tx, alloc, key, row);
+    }
     match insert::<T, S>(tx, alloc, key, row) {
         Ok(_) => Ok(()),
         Err(error) if is_violation(error) => replace::<T, S>(tx, alloc, key, row),

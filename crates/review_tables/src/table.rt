@@ -117,6 +117,9 @@ pub trait Table {
 pub trait Single: Table {
     ghost use Rattle.review_tables.specs.Single.{IsSingle};
 
+    /// Whether a row that is put in often has another's key, so that what is there is taken away first.
+    fn replaces() -> bool;
+
     /// No two of its rows have one key.
     ghost single: { IsSingle Self.search };
 }
