@@ -2,7 +2,7 @@
 
 use crate::fault::Fault;
 use review_expr::{Expr, Facts, ParseFault, compile, eval, labels_of};
-use review_printing::print;
+use review_expr_printing::print;
 use std::alloc::{AllocError, Global};
 
 /// The text that an expression is printed as, or its length.

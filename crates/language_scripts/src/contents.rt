@@ -2,8 +2,8 @@
 
 use crate::fault::Fault;
 use review_expr::Expr;
+use review_expr_printing::print;
 use review_file::{Grant, Label, LabelValue, ProjectFile, Requirement};
-use review_printing::print;
 use std::alloc::{AllocError, Global};
 
 fn push_values(alloc: Global, text: &mut String, values: &[LabelValue]) -> Result<(), AllocError> {

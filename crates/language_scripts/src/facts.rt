@@ -2,8 +2,8 @@
 
 use crate::fault::Fault;
 use review_expr::Facts;
-use review_judging::{ChangeFacts, ValueRange, VoteFacts};
-use review_terms::ChangeKind;
+use review_expr_judging::{ChangeFacts, ValueRange, VoteFacts};
+use review_expr_terms::ChangeKind;
 use review_words::{AccountNo, BranchName, GroupName, Groups, LabelName, Members, Path, Paths};
 use std::alloc::Global;
 use std::collections::BTreeMap;

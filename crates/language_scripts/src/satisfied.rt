@@ -3,8 +3,8 @@
 use crate::answers::holds;
 use crate::fault::Fault;
 use review_expr::Facts;
+use review_expr_judging::{ChangeFacts, ValueRange};
 use review_file::{Label, ProjectFile};
-use review_judging::{ChangeFacts, ValueRange};
 use review_words::{AccountNo, BranchName, Groups, LabelName, Paths};
 use std::alloc::Global;
 use std::collections::BTreeMap;

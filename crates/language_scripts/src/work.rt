@@ -1,8 +1,8 @@
 //! Expressions at work, to be timed from outside.
 
 use review_expr::{Expr, Facts, Terms, compile, eval, parse_requirement};
-use review_judging::{ChangeFacts, ValueRange};
-use review_terms::Pattern;
+use review_expr_judging::{ChangeFacts, ValueRange};
+use review_expr_terms::Pattern;
 use review_words::{AccountNo, BranchName, Groups, LabelName, Path, Paths};
 use std::alloc::Global;
 use std::collections::BTreeMap;

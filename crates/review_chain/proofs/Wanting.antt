@@ -1,13 +1,13 @@
 -- What is wanted for the chain of a change, as a value.
-use Rattle.std.proofs.Common.{◌≡◌, ℕ, zero, suc, ◌+◌, ◌-◌, ◌<◌, List, [], ◌∷◌, length, Option, Some, None, ◌⊎◌, inl, inr, refl, sym, ap, ◌∙◌, subst, arith}
+use Rattle.std.proofs.Common.{◌≡◌, ℕ, zero, suc, ◌+◌, ◌-◌, ◌<◌, List, [], ◌∷◌, length, Option, Some, None, refl, sym, ap, ◌∙◌, subst, arith}
 use Rattle.std.specs.Prelude.{Result, Ok, Err, IfOk, IfSome, IfNone, option_map}
-use Rattle.review_chain.proofs.Parting.{wanted_stays, one_is_there, walk_kept, chain_kept, bad_kept}
-use Rattle.review_chain.proofs.Walking.{Meets, IsEnd, met, decided, goes_on, meets_wanted, wanted_meets, chain_meets, bad_meets, one_end}
+use Rattle.review_chain.proofs.Parting.{wanted_stays, walk_kept}
+use Rattle.review_chain.proofs.Walking.{Meets, IsEnd, met, decided, goes_on, meets_wanted, wanted_meets, one_end}
 use Rattle.review_chain.specs.Branches.{Branch}
 use Rattle.review_chain.specs.Parts.{Want, TheChange, HasWalked, IsPart, IsWanted, IsDecided}
 use Rattle.review_chain.specs.Steps.{Before, TheBase, Change, Bad, Wants, before, want_of, wanted, wanted_by, wanted_from}
-use Rattle.review_chain.specs.Walks.{IsWalk, IsChain, IsBadLink, first_of, most_changes}
-use Rattle.review_chain.specs.declared.walks.{ChainFault.ChainFault, LookUp.LookUp, Walked.Walked}
+use Rattle.review_chain.specs.Walks.{IsWalk, first_of, most_changes}
+use Rattle.review_chain.specs.declared.walks.{LookUp.LookUp, Walked.Walked}
 
 -- what is said to be wanted is, and where nothing is said the change is decided
 abbrev pub Says : Branch → ℕ → Option Want → Type 0
@@ -88,19 +88,6 @@ still_wanted b after c d is w none =
         let same : Wants other ≡ Wants (TheChange d) = one_end after said.0 walk c (Wants other) (Wants (TheChange d)) (wanted_meets after said.0 c other said.1) tt h tt in
         let e : other ≡ TheChange d = cc in
         ap Some e
-
--- what is decided stays so
-pub stays_decided : (b after : Branch) (c : ℕ) → IsPart b after → wanted b c ≡ None → wanted after c ≡ None
-stays_decided b after c is w =
-    let some = one_is_there b c (subst (Says b c) w (wanted_says b c)) in
-    by_said (wanted after c) (wanted_says after c) some.0 some.1
-  where
-    by_said : (o : Option Want) → Says after c o → (walk : List ℕ) → IsChain b walk c ⊎ ((fault : ChainFault) × IsBadLink b walk c fault) → o ≡ None
-    by_said None said walk one = refl
-    by_said (Some want) said walk (inl chain) =
-        absurd (decided after walk c TheBase (chain_meets after walk c (chain_kept b after walk c is chain)) tt said.0 want said.1)
-    by_said (Some want) said walk (inr (fault, bad)) =
-        absurd (decided after walk c (Bad fault) (bad_meets after walk c fault (bad_kept b after walk c fault is bad)) tt said.0 want said.1)
 
 -- what is found wanted is, by a walk
 pub found_wanted : (b : Branch) (c : ℕ) {E : Type 0} (r : Result (Option LookUp) E) → IfOk r (λ found. option_map want_of found ≡ wanted b c) → IfOk r (λ found. IfSome found (λ w. (walk : List ℕ) × IsWanted b walk c (want_of w)))

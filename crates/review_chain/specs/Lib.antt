@@ -3,3 +3,4 @@ pub mod Walks
 pub mod Parts
 pub mod Places
 pub mod Steps
+pub mod inner

@@ -1,16 +1,14 @@
 -- One step back from a change.
 use Rattle.std.specs.Option.{option_map_or}
-use Rattle.std.specs.Prelude.{ℕ, zero, suc, ◌+◌, ◌-◌, ◌*◌, ◌==◌, List, Option, Some, None, if◌then◌else◌}
-use Rattle.review_chain.specs.{Branches.Branch, Parts.Want, Parts.TheChange, Parts.TheCommit, Parts.IsWanted}
-use Rattle.review_chain.specs.Walks.{IsBadLink, most_changes, patch_set_fault}
+use Rattle.std.specs.Prelude.{ℕ, List, Option, Some, None, ◌==◌, if◌then◌else◌, zero, suc, ◌-◌, ◌+◌, ◌*◌}
+use Rattle.review_chain.specs.{Branches.Branch, Parts.Want, Parts.IsWanted, Parts.TheChange, Parts.TheCommit}
+use Rattle.review_chain.specs.Walks.{IsBadLink, patch_set_fault, most_changes}
 use Rattle.review_chain.specs.declared.links.{Link.Link, Standing.Standing}
 use Rattle.review_chain.specs.declared.links.Standing.TheVariants.{InBranch, PatchSet, Nowhere}
 use Rattle.review_chain.specs.declared.walks.ChainFault.{ChainFault}
 use Rattle.review_chain.specs.declared.walks.ChainFault.TheVariants.{Memory, Unknown, TooLong, Broken}
 use Rattle.review_chain.specs.declared.walks.LookUp.{LookUp}
 use Rattle.review_chain.specs.declared.walks.LookUp.TheVariants.{Change as LookUpChange, Commit as LookUpCommit}
-use Rattle.review_chain.specs.declared.walks.Step.{Step}
-use Rattle.review_chain.specs.declared.walks.Step.TheVariants.{AtBase, At, AtFault, AtUnknown}
 
 -- Why a change has no chain that is known: something is wanted, or a bad link of this name; want of memory may come at any time.
 abbrev pub IsFault : Branch → ℕ → ChainFault → Type 0
@@ -92,10 +90,3 @@ left_from b (suc more) c = left_by (2 * more + 2) (before b (most_changes - suc 
 -- How many look-ups may still be made for the chain of a change: 200 where nothing is known of it.
 abbrev pub left : Branch → ℕ → ℕ
 left b c = option_map_or (λ (l : Link). left_from b 99 c) (b.link c) 200
-
--- what the code says stands before
-abbrev pub before_of : Step → Before
-before_of AtBase = TheBase
-before_of (At d) = Change d
-before_of (AtFault fault) = Bad fault
-before_of (AtUnknown wanted) = Wants (want_of wanted)

@@ -1,8 +1,8 @@
 //! The chain of a change, and what has to be looked up to find it.
 ghost use Rattle.std.specs.Prelude.{◌≡◌, ◌≤◌, ◌==◌, ℕ, List, Option, None, IfOk, IfErr, IfSome, IfNone, option_map};
 ghost use Rattle.review_chain.specs.Parts.{HasWalked, IsDecided, IsWanted};
-ghost use Rattle.review_chain.specs.Steps.{IsFault, before, before_change, before_known, before_of, want_of, wanted};
-ghost use Rattle.review_chain.specs.Walks.{IsChain, patch_set_fault};
+ghost use Rattle.review_chain.specs.Steps.{IsFault, before, before_change, before_known, want_of, wanted};
+ghost use Rattle.review_chain.specs.{Walks.IsChain, Walks.patch_set_fault, inner.Words.before_of};
 
 use crate::links::{Link, Links, Standing};
 use review_words::{ChangeNo, CommitName, PatchNo, State};

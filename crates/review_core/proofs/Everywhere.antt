@@ -4,7 +4,7 @@ use Rattle.std.proofs.lemmas.Bool.{and_parts, and_from}
 use Rattle.std.specs.{BTreeMap.is_at, List.list_all, List.Sorted.IsStrictlySortedBy, Map.keys_of, Prelude.if◌then◌else◌}
 use Rattle.std.specs.declared.cmp.Ordering.{Ordering}
 use Rattle.review_table.specs.Rows.{row_in}
-use Rattle.review_parts.proofs.InTurn.{Tells, none_after}
+use Rattle.review_core_tables.proofs.InTurn.{Tells, none_after}
 
 at_step : {K X : Type 0} (p : K × X → Bool) (b : Bool) (e : K × X) (q : K) (x : X) (rest : Option X) → (b ≡ true → q ≡ e.0) → p e ≡ true → (rest ≡ Some x → p (q, x) ≡ true) → (if b then Some e.1 else rest) ≡ Some x → p (q, x) ≡ true
 at_step p true e q x rest same here more h =

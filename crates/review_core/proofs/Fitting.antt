@@ -4,11 +4,11 @@ use Rattle.std.{proofs.lemmas.Bool.and_parts, proofs.lemmas.Bool.and_from, specs
 use Rattle.std.specs.{List.Sorted.IsStrictlySortedBy, Map.keys_of, Ordering.nat_cmp, Prelude.◌==◌, Prelude.is_some}
 use Rattle.review_names.specs.Forms.{is_within, most_comments, most_patches}
 use Rattle.review_table.specs.Rows.{row_in, rows_of}
-use Rattle.review_changes.specs.Change.{current, uploader}
-use Rattle.review_changes.specs.Seen.{of_account, seen, value_of, vote_cmp, vote_in}
-use Rattle.review_changes.specs.{Sound.IsSound, Sound.are_in_order, Votes.voted}
-use Rattle.review_changes.specs.declared.rows.{Called.Called, ChangeRows.ChangeRows, VoteKey.VoteKey}
-use Rattle.review_parts.proofs.{Accounts.accounts_tell, VoteKeys.vote_key, VoteKeys.votes_tell}
+use Rattle.review_core_rules.specs.Change.{current, uploader}
+use Rattle.review_core_rules.specs.Seen.{of_account, seen, value_of, vote_cmp, vote_in}
+use Rattle.review_core_rules.specs.{Sound.IsSound, Sound.are_in_order, Votes.voted}
+use Rattle.review_core_rules.specs.declared.rows.{AttentionEntry.AttentionEntry, ChangeRows.ChangeRows, VoteKey.VoteKey}
+use Rattle.review_core_tables.proofs.{Accounts.accounts_tell, VoteKeys.vote_key, VoteKeys.votes_tell}
 use Rattle.review_core.proofs.Everywhere.{all_at, all_from}
 use Rattle.review_core.specs.Tests.{are_counted, is_called_in_place, is_in_place}
 
@@ -31,7 +31,7 @@ or_not false b f = refl
 abbrev pub place_test : ChangeRows → VoteKey × ℤ → Bool
 place_test rows = is_in_place (length rows.patches.items) (of_account rows.roles)
 
-abbrev pub call_test : ChangeRows → ℕ × Called → Bool
+abbrev pub call_test : ChangeRows → ℕ × AttentionEntry → Bool
 call_test rows = is_called_in_place rows.header.owner (uploader (seen rows)) (of_account rows.roles)
 
 -- a vote that is there passes its test
@@ -72,7 +72,7 @@ place_passes rows s q x h =
     (or_not (q.patch == current c) (is_some (c.role q.account)) (λ same.
     s.voters q.label q.account (ap (λ n. voted (c.vote n q.label q.account)) (sym (eqb-true q.patch (current c) same)) ∙ there))))
 
-call_passes : (rows : ChangeRows) → IsSound (seen rows) → (u : ℕ) (x : Called) → row_in nat_cmp (rows_of rows.attention) u ≡ Some x → call_test rows (u, x) ≡ true
+call_passes : (rows : ChangeRows) → IsSound (seen rows) → (u : ℕ) (x : AttentionEntry) → row_in nat_cmp (rows_of rows.attention) u ≡ Some x → call_test rows (u, x) ≡ true
 call_passes rows s u x h = s.attending u (ap is_some h)
 
 pub passing : (rows : ChangeRows) → IsStrictlySortedBy vote_cmp (keys_of (rows_of rows.votes)) → IsStrictlySortedBy nat_cmp (keys_of (rows_of rows.attention)) → IsSound (seen rows) →

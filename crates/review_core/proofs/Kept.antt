@@ -1,8 +1,8 @@
 -- What the definitions say of rows that are made.
 use Rattle.std.proofs.Common.{◌≡◌, ℕ, ◌+◌, ℤ, pos, List, Bool, true, false, not, refl, sym, subst, arith, int_eq}
 use Rattle.std.proofs.lemmas.Bool.{false_from_ne_true, Decides.Decides-int_eq}
-use Rattle.review_changes.proofs.Within.{within_parts}
-use Rattle.review_changes.specs.{Change.Change, Change.current, Sound.IsSound, Votes.voted}
+use Rattle.review_core_rules.proofs.Within.{within_parts}
+use Rattle.review_core_rules.specs.{Change.Change, Change.current, Sound.IsSound, Votes.voted}
 
 zero_of : (v : ℤ) → voted v ≡ false → v ≡ pos 0
 zero_of v e = (Decides-int_eq v (pos 0)).0 (untrue (int_eq v (pos 0)) e)

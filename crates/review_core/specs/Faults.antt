@@ -1,5 +1,5 @@
 -- Rows that are refused.
-use Rattle.review_changes.specs.{Seen.seen, Sound.IsSound, declared.rows.ChangeRows.ChangeRows}
+use Rattle.review_core_rules.specs.{Seen.seen, Sound.IsSound, declared.rows.ChangeRows.ChangeRows}
 use Rattle.review_core.specs.declared.file.RowsFault.{RowsFault, TheVariants.Broken, TheVariants.Memory}
 
 -- Broken is answered only where the rows don't fit together

@@ -1,10 +1,10 @@
 //! The attention set, changed by hand.
 ghost use Rattle.std.specs.Prelude.{◌≡◌, IfOk};
 ghost use Rattle.review_words.specs.declared.command.ChangeCommand.TheVariants.{AddAttention, RemoveAttention};
-ghost use Rattle.review_changes.specs.{Change.after_plain, Seen.seen};
+ghost use Rattle.review_core_rules.specs.{Change.after_plain, Seen.seen};
 
-use review_changes::ChangeRows;
-use review_parts::{drop_called, tell};
+use review_core_rules::ChangeRows;
+use review_core_tables::{drop_called, tell};
 use review_words::{AccountNo, Reason};
 use std::alloc::{AllocError, Global};
 

@@ -1,8 +1,8 @@
 //! A new change.
 ghost use Rattle.std.specs.Prelude.{◌≡◌, IfOk};
-ghost use Rattle.review_changes.specs.{Change.begun, Seen.seen};
+ghost use Rattle.review_core_rules.specs.{Change.begun, Seen.seen};
 
-use review_changes::{ChangeRows, Header, PatchRow};
+use review_core_rules::{ChangeRows, Header, PatchRow};
 use review_table::Table;
 use review_words::{AccountNo, ChangeKind, NewChange, State};
 use std::alloc::{AllocError, Global};

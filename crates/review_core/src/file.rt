@@ -1,18 +1,19 @@
 //! A change whose rows fit together, and what each request makes of it.
 ghost use Rattle.std.specs.Prelude.{◌≡◌, ◌↔◌, true, IfOk, MatchResult};
 ghost use Rattle.review_words.specs.declared.command.ChangeCommand.TheVariants.{Upload, Review as ReviewOf, AddReviewer, RemoveReviewer, SetWip, SetReady, Abandon, Restore, AddAttention, RemoveAttention};
-ghost use Rattle.review_changes.specs.Change.{after, after_plain, begun, carried, copying, eligible, is_lost, joined_at};
-ghost use Rattle.review_changes.specs.{Seen.seen, Sound.IsSound, Sound.fits, Threads.threads, Votes.voted};
-ghost use Rattle.review_parts.specs.Copies.{AreMany, group_list};
-ghost use Rattle.review_statuses.specs.Grouped.{IsStatus};
+ghost use Rattle.review_core_rules.specs.Change.{after, after_plain, begun, carried, copying, eligible, is_lost, joined_at};
+ghost use Rattle.review_core_rules.specs.{Seen.seen, Sound.IsSound, Sound.fits, Threads.threads, Votes.voted};
+ghost use Rattle.review_core_tables.specs.Copies.{AreMany, group_list};
+ghost use Rattle.review_core_standing.specs.Grouped.{IsStatus};
 ghost use Rattle.review_core.specs.Faults.{IsRefused};
 
 use crate::sound::{are_all, are_counted, are_eligible, are_in_order, are_in_place};
 use crate::uploading::{self, Copied};
 use crate::{attending, beginning, reviewing, roles, states};
-use review_changes::{ChangeRows, begins_sound, joins_sound, stays_sound};
+use review_core_rules::{ChangeRows, begins_sound, joins_sound, stays_sound};
+use review_core_standing::last_uploader;
+use review_core_tables::GroupTables;
 use review_file::{ProjectFile, Requirement};
-use review_parts::GroupTables;
 use review_words::{AccountNo, Listed, NewChange, NewPatch, Reason, Review, Role, Status, Thread};
 use std::alloc::{AllocError, Global};
 
@@ -88,15 +89,15 @@ impl ChangeFile {
         ensures { result ≡ eligible (seen self.now.rows) account }
     {
         let rows = &self.rows;
-        let uploader = roles::last_uploader(rows.header.owner, &rows.patches);
-        review_parts::is_eligible(rows.header.owner, uploader, &rows.roles, account)
+        let uploader = last_uploader(rows.header.owner, &rows.patches);
+        review_core_tables::is_eligible(rows.header.owner, uploader, &rows.roles, account)
     }
 
     /// The threads of its comments, by their first comments, each with its comments in order. An error is want of memory.
     pub fn threads(&self, alloc: Global) -> Result<Listed<Thread>, AllocError>
         ensures { IfOk result (λ v. v ≡ threads (seen self.now.rows).comments) }
     {
-        let threads = review_threads::threads(alloc, &self.rows.comments)?;
+        let threads = review_core_standing::threads(alloc, &self.rows.comments)?;
         Ok(threads)
     }
 
@@ -111,7 +112,7 @@ impl ChangeFile {
     ) -> Result<Status, AllocError>
         ensures { IfOk result (IsStatus (record { file = file.now; groups = group_list groups.now }) (seen self.now.rows) requirement.now) }
     {
-        review_statuses::status(alloc, &self.rows, file, groups, requirement)
+        review_core_standing::status(alloc, &self.rows, file, groups, requirement)
     }
 
     /// A new patch set, with the numbers of votes that were copied to it and that weren't. The file and the groups are those
@@ -271,11 +272,11 @@ impl ChangeFile {
 fn fit_together(alloc: Global, rows: &ChangeRows) -> Result<bool, AllocError>
     ensures { IfOk result (λ fit. (fit ≡ true) ↔ IsSound (seen rows.now)) }
 {
-    let owner = roles::owner_of(&rows.header);
+    let owner = rows.header.owner;
     rows.votes.once();
     rows.attention.once();
     let current = rows.patches.len();
-    let uploader = roles::uploader_of(&rows.header, &rows.patches);
+    let uploader = last_uploader(owner, &rows.patches);
     let votes = are_in_place(alloc, &rows.votes, current, &rows.roles)?;
     let called = are_eligible(alloc, owner, uploader, &rows.roles, &rows.attention)?;
     let counted = are_counted(&rows.patches, &rows.comments);

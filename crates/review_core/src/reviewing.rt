@@ -2,13 +2,13 @@
 ghost use Rattle.std.specs.Prelude.{◌≡◌, ◌==◌, ◌&&◌, ◌||◌, not, ℕ, true, None, is_some, length, unwrap_or, IfOk, OnOk, if◌then◌else◌};
 ghost use Rattle.review_names.specs.Forms.{is_within, most_patches};
 ghost use Rattle.review_words.specs.declared.command.ChangeCommand.TheVariants.{Review as ReviewOf};
-ghost use Rattle.review_changes.specs.Change.{after_plain, current, is_open, kept_or, why_commented, why_replied};
-ghost use Rattle.review_changes.specs.Seen.{of_account, seen};
+ghost use Rattle.review_core_rules.specs.Change.{after_plain, current, is_open, kept_or, why_commented, why_replied};
+ghost use Rattle.review_core_rules.specs.Seen.{of_account, seen};
 
 use crate::roles::{current_patch, who_for};
 use crate::states::is_open;
-use review_changes::{Called, ChangeRows, Comment, PatchRow, Post};
-use review_parts::{
+use review_core_rules::{AttentionEntry, ChangeRows, Comment, PatchRow, Post};
+use review_core_tables::{
     Origin, WhenReviewed, Who, call_eligible, drop_called, give, new_comments, posts, review_roles,
 };
 use review_table::Table;
@@ -22,11 +22,11 @@ fn leaves(state: State, wip: bool) -> bool
     !is_open(state) || !wip
 }
 
-/// Takes the writer out, where he is to go, and calls those whom the review calls: among the stored comments, by those that are
-/// given, or by the new ones.
+/// Takes who writes the review out of the attention set, where he is to go, and calls those whom the review calls: on an open change the owner, the
+/// uploader and who wrote in the threads that the given comments answer, on a closed one the owner, where one of the new comments is unresolved.
 fn call_reviewed(
     alloc: Global,
-    attention: &mut Table<AccountNo, Called>,
+    attention: &mut Table<AccountNo, AttentionEntry>,
     roles: &Table<AccountNo, Role>,
     who: &Who,
     state: State,

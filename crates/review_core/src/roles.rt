@@ -2,39 +2,18 @@
 ghost use Rattle.std.specs.Prelude.{◌≡◌, ◌==◌, ◌&&◌, ◌||◌, not, true, length, unwrap_or, Some, IfOk};
 ghost use Rattle.review_names.specs.Forms.{is_within, most_patches};
 ghost use Rattle.review_words.specs.declared.command.ChangeCommand.TheVariants.{AddReviewer, RemoveReviewer};
-ghost use Rattle.review_changes.specs.Change.{after_plain, current, is_open, is_reviewer, last_uploader};
-ghost use Rattle.review_changes.specs.Seen.{seen};
-ghost use Rattle.review_parts.specs.declared.attention.Who.{Who};
+ghost use Rattle.review_core_rules.specs.Change.{after_plain, current, is_open, is_reviewer, last_uploader};
+ghost use Rattle.review_core_rules.specs.Seen.{seen};
+ghost use Rattle.review_core_tables.specs.declared.attention.Who.{Who};
 
 use crate::states::is_open;
-use review_changes::{ChangeRows, Header, PatchRow};
-use review_parts::{WhenAdded, Who, call_eligible, drop_called, drop_votes, set_role};
+use review_core_rules::{ChangeRows, Header, PatchRow};
+use review_core_standing::last_uploader;
+use review_core_tables::{
+    WhenAdded, Who, call_eligible, drop_called, drop_votes, is_reviewer, set_role,
+};
 use review_words::{AccountNo, PatchNo, Role, State};
 use std::alloc::{AllocError, Global};
-
-/// Who sent the last of some patch sets.
-pub fn last_uploader(owner: AccountNo, patches: &[PatchRow]) -> AccountNo
-    ensures { result ≡ last_uploader owner patches.now }
-{
-    let mut last = owner;
-    for patch in patches {
-        last = patch.uploader;
-    }
-    last
-}
-
-/// Who sent the current patch set.
-pub fn uploader_of(header: &Header, patches: &[PatchRow]) -> AccountNo
-    ensures { result ≡ last_uploader header.now.owner patches.now }
-{
-    last_uploader(header.owner, patches)
-}
-
-pub fn owner_of(header: &Header) -> AccountNo
-    ensures { result ≡ header.now.owner }
-{
-    header.owner
-}
 
 /// Who has to do with a change, for a request of this caller.
 pub fn who_for(header: &Header, patches: &[PatchRow], caller: AccountNo) -> Who
@@ -59,19 +38,10 @@ pub fn current_patch(patches: &[PatchRow]) -> PatchNo
     }
 }
 
-fn is_reviewer(role: Role) -> bool
-    ensures { result ≡ is_reviewer (Some role) }
-{
-    match role {
-        Role::Reviewer => true,
-        Role::Cc => false,
-    }
-}
-
 fn calls_reviewer(role: Role, state: State) -> bool
     ensures { result ≡ (is_reviewer (Some role) && is_open state) }
 {
-    is_reviewer(role) && is_open(state)
+    is_reviewer(Some(role)) && is_open(state)
 }
 
 /// A role for an account.

@@ -3,11 +3,12 @@ ghost use Rattle.std.specs.{List.list_all, Option.option_map_or};
 ghost use Rattle.std.specs.Prelude.{◌≡◌, ◌==◌, ◌&&◌, ◌||◌, not, true, nat_le, length, is_some, IfOk};
 ghost use Rattle.review_names.specs.Forms.{is_within, most_comments, most_patches};
 ghost use Rattle.review_table.specs.Rows.{rows_of};
-ghost use Rattle.review_changes.specs.{Seen.of_account, Sound.are_in_order, Votes.voted};
-ghost use Rattle.review_core.specs.Tests.{are_counted, is_called_in_place, is_earlier, is_in_place};
+ghost use Rattle.review_core_rules.specs.{Seen.of_account, Sound.are_in_order, Votes.voted};
+ghost use Rattle.review_core.specs.Tests.{are_counted, is_called_in_place, is_in_place};
+ghost use Rattle.review_core.specs.inner.Words.{is_earlier};
 
-use review_changes::{Called, Comment, PatchRow, Vote, VoteKey};
-use review_parts::is_eligible;
+use review_core_rules::{AttentionEntry, Comment, PatchRow, Vote, VoteKey};
+use review_core_tables::is_eligible;
 use review_table::Table;
 use review_words::{AccountNo, Role};
 use std::alloc::{AllocError, Global};
@@ -109,7 +110,7 @@ pub fn are_eligible(
     owner: AccountNo,
     uploader: AccountNo,
     roles: &Table<AccountNo, Role>,
-    attention: &Table<AccountNo, Called>,
+    attention: &Table<AccountNo, AttentionEntry>,
 ) -> Result<bool, AllocError>
     ensures { IfOk result (λ b. b ≡ list_all (is_called_in_place owner uploader (of_account roles.now)) (rows_of attention.now)) }
 {

@@ -1,11 +1,11 @@
 //! The state of a change, and whether it is in work in progress.
 ghost use Rattle.std.specs.Prelude.{◌≡◌, IfOk};
 ghost use Rattle.review_words.specs.declared.command.ChangeCommand.TheVariants.{SetWip, SetReady, Abandon, Restore};
-ghost use Rattle.review_changes.specs.{Change.after_plain, Change.is_open, Change.joined_at, Seen.seen};
+ghost use Rattle.review_core_rules.specs.{Change.after_plain, Change.is_open, Change.joined_at, Seen.seen};
 
 use crate::roles::who_for;
-use review_changes::ChangeRows;
-use review_parts::{WhenReady, call_eligible};
+use review_core_rules::ChangeRows;
+use review_core_tables::{WhenReady, call_eligible};
 use review_table::Table;
 use review_words::{AccountNo, State};
 use std::alloc::{AllocError, Global};

@@ -3,17 +3,18 @@ ghost use Rattle.std.specs.Cmp.Lexicographic.{pointwise};
 ghost use Rattle.std.specs.Prelude.{◌≡◌, ◌+◌, ◌==◌, ℕ, List, [], pos, true, length, IfOk, OnOk};
 ghost use Rattle.review_names.specs.Forms.{is_within, most_patches};
 ghost use Rattle.review_words.specs.declared.command.ChangeCommand.TheVariants.{Upload};
-ghost use Rattle.review_changes.specs.Change.{after, carried, copying, current, is_lost, last_paths};
-ghost use Rattle.review_changes.specs.{Seen.seen, Seen.vote_in, Votes.voted};
-ghost use Rattle.review_parts.specs.Copies.{AreMany, GroupTable, group_list, with_groups};
+ghost use Rattle.review_core_rules.specs.Change.{after, carried, copying, current, is_lost, last_paths};
+ghost use Rattle.review_core_rules.specs.{Seen.seen, Seen.vote_in, Votes.voted};
+ghost use Rattle.review_core_tables.specs.Copies.{AreMany, GroupTable, group_list, with_groups};
 
-use crate::roles::{current_patch, uploader_of, who_for};
-use review_changes::{ChangeRows, PatchRow};
-use review_file::ProjectFile;
-use review_judging::{ValueRange, VoteFacts};
-use review_parts::{
+use crate::roles::{current_patch, who_for};
+use review_core_rules::{ChangeRows, PatchRow};
+use review_core_standing::last_uploader;
+use review_core_tables::{
     GroupTables, Parted, WhenLost, call_eligible, drop_called, is_eligible, part_votes, put_all,
 };
+use review_expr_judging::{ValueRange, VoteFacts};
+use review_file::ProjectFile;
 use review_words::{AccountNo, Groups, NewPatch, PatchNo, Path, Paths};
 use std::alloc::{AllocError, Global};
 use std::collections::BTreeMap;
@@ -112,7 +113,7 @@ fn add_patch_set(
 {
     let now = current_patch(&rows.patches);
     let next = next_patch(now);
-    let former = uploader_of(&rows.header, &rows.patches);
+    let former = last_uploader(rows.header.owner, &rows.patches);
     let facts = upload_facts(alloc, &rows.patches, &patch, caller);
     let parted = part_votes(alloc, &rows.votes, file, facts, groups, now, next)?;
     let Parted { copied, lost } = parted;

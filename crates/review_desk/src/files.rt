@@ -1,19 +1,19 @@
-//! Jobs on a file, which is opened once and closed at the end, when its log is copied into it. `serve` opens it again where a fault has shut it.
+//! Jobs on a file, which is opened once and closed at the end, when its log is copied into it. `serve_file` opens it again where a fault has shut it.
 //!
-//! `open` is for whatever the file and its log hold, and says what it finds by that (`F`, which `main` names), and a job what it does on such a connection: what the program does in one run goes
-//! on from what the run before left, or what a stop left of it. Where `serve` opens a file again, that is said of each opening by itself.
+//! `open` supposes nothing of a file and its log but `F`, which `main` names. A job begins from what the run before left, or a stop of it.
+//! Where `serve_file` opens a file again, that is said of each opening by itself.
 ghost use Rattle.std.specs.Prelude.{◌≡◌, ◌⊎◌, Bool, true, false, Result, IfOk, IfErr};
 ghost use Rattle.sqlite.specs.Files.{over_files};
 ghost use Rattle.sqlite_wal.specs.Files.{image_at};
-ghost use Rattle.review_work.specs.OnFile.{ClosedAs, IsTold, OpenedFrom, ThenClosed};
-ghost use Rattle.review_work.specs.Turns.{ServedInTurns};
-ghost use Rattle.review_work.specs.Worked.{Known, WasMade, WasMigrated, Worked};
+ghost use Rattle.review_desk_work.specs.OnFile.{ClosedAs, IsTold, OpenedFrom, ThenClosed};
+ghost use Rattle.review_desk_work.specs.Turns.{ServedInTurns};
+ghost use Rattle.review_desk_work.specs.Worked.{Known, WasMade, WasMigrated, Worked};
 
-use crate::listening::{Line, Listening};
+use crate::listening::{Listening, SharedStream};
 use crate::notices::StandardError;
 use crate::serving::serve_on;
+use review_desk_work::{Ends, ProgramFault, Task, after_closing, create, work};
 use review_machine::{DeskRules, Outcome};
-use review_work::{Ends, ProgramFault, Task, after_closing, create, work};
 use sqlite::{Connection, FileFrom, FileStore, Start};
 use std::io::{Stdin, Stdout};
 
@@ -57,14 +57,14 @@ pub fn close<F: Start>(conn: FileConnection<F>) -> Result<(), ProgramFault>
 }
 
 // The program's own ends.
-fn ends_of<'a>(rt: &'a HostRuntime, line: &'a Line, port: u16) -> ProgramEnds<'a>
+fn ends_of<'a>(rt: &'a HostRuntime, shared_stream: &'a SharedStream, port: u16) -> ProgramEnds<'a>
     ensures unwarned { StandardError.is_warned result.notices ≡ false }
     ensures idle { Listening.is_idle result.connections ≡ true }
 {
     Ends {
         input: rt.stdin(),
         output: rt.stdout(),
-        connections: Listening::at(rt, line, port),
+        connections: Listening::at(rt, shared_stream, port),
         notices: StandardError::new(rt),
     }
 }
@@ -85,7 +85,7 @@ pub fn migrate<F: Start>(rt: &HostRuntime, conn: FileConnection<F>) -> Result<Ou
     ensures { (is_warned : Bool) × (job : Result (Unit {0}) ProgramFault) × ThenClosed (λ last ended. WasMigrated over_files false is_warned ended conn last) job × IsTold job result }
 {
     let mut notices = StandardError::new(rt);
-    let (last, migrated) = review_work::migrate(rt.alloc(), &mut notices, conn);
+    let (last, migrated) = review_desk_work::migrate(rt.alloc(), &mut notices, conn);
     tell(rt, after_closing(migrated, close(last)), "desk migrated")
 }
 
@@ -99,15 +99,15 @@ pub fn work_on<F: Start>(
     ensures { (before : Known) × (after : Known) × (before.is_warned ≡ false) × ThenClosed (λ last ended. Worked over_files task.now before after ended conn last) result }
 {
     let mut rules = DeskRules::new(rt.alloc());
-    let line = Line::new();
-    let mut ends = ends_of(rt, &line, 0);
+    let shared_stream = SharedStream::new();
+    let mut ends = ends_of(rt, &shared_stream, 0);
     let (last, ended) = work(rt.alloc(), &mut ends, conn, &mut rules, task);
     after_closing(ended, close(last))
 }
 
 /// Serves so many connections on a port, and says how many once the file is closed. Where a fault shuts the file's store it is opened again, as `serve_on` says. Standard error is warned of
 /// tables that are not those of a desk alone.
-pub fn serve<F: Start, T: Starts<F>>(
+pub fn serve_file<F: Start, T: Starts<F>>(
     rt: &HostRuntime,
     file: &str,
     mut starts: T,
@@ -120,8 +120,8 @@ pub fn serve<F: Start, T: Starts<F>>(
         × ServedInTurns over_files first (OpenedFrom (image_at F.Start)) ClosedAs count before after job × IsTold job result }
 {
     let mut rules = DeskRules::new(rt.alloc());
-    let line = Line::new();
-    let mut ends = ends_of(rt, &line, port);
+    let shared_stream = SharedStream::new();
+    let mut ends = ends_of(rt, &shared_stream, port);
     let job = serve_on(rt, file, &mut starts, first, &mut ends, &mut rules, count);
     tell_served(rt, job, count)
 }

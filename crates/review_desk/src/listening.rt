@@ -37,14 +37,14 @@ fn left_of(gone: Duration, seconds: u64) -> Option<Duration>
 
 /// The stream of the connection that is open, which its reader and its writer share.
 #[derive(Drop)]
-pub struct Line {
+pub struct SharedStream {
     stream: RefCell<Option<TcpStream>>,
 }
 
-impl Line {
+impl SharedStream {
     /// With no connection.
-    pub fn new() -> Line {
-        Line {
+    pub fn new() -> SharedStream {
+        SharedStream {
             stream: RefCell::new(None),
         }
     }
@@ -105,7 +105,7 @@ impl Line {
 #[derive(Drop)]
 pub struct Listening<'a> {
     rt: &'a HostRuntime,
-    line: &'a Line,
+    shared_stream: &'a SharedStream,
     port: u16,
     listener: Option<TcpListener>,
     // Whether the connection that was accepted last is closed.
@@ -114,12 +114,12 @@ pub struct Listening<'a> {
 
 impl Listening<'_> {
     /// A place that nothing listens at yet, with a line for its connections.
-    pub fn at<'a>(rt: &'a HostRuntime, line: &'a Line, port: u16) -> Listening<'a>
+    pub fn at<'a>(rt: &'a HostRuntime, shared_stream: &'a SharedStream, port: u16) -> Listening<'a>
         ensures { result.is_idle ≡ true }
     {
         Listening {
             rt,
-            line,
+            shared_stream,
             port,
             listener: None,
             is_idle: true,
@@ -131,7 +131,7 @@ impl Listening<'_> {
 #[derive(Drop)]
 struct Timed<'a> {
     rt: &'a HostRuntime,
-    line: &'a Line,
+    shared_stream: &'a SharedStream,
     begun: Instant,
 }
 
@@ -149,7 +149,7 @@ impl Timed<'_> {
         ensures { ReadsAtMost result buf.new }
     {
         let left = self.time_left(seconds)?;
-        self.line.read_within(left, buf)
+        self.shared_stream.read_within(left, buf)
     }
 
     /// Reads what the peer still sends, up to a mebibyte, until it says that it sends no more: if the connection were closed before, the answer
@@ -192,7 +192,7 @@ impl Write for Outgoing<'_> {
         let left = self.timed.time_left(QUIET_SECONDS)?;
         let piece = &buf[..buf.len().min(PIECE_BYTES)];
         let begun = Instant::now(self.timed.rt)?;
-        let taken = self.timed.line.write_within(left, piece)?;
+        let taken = self.timed.shared_stream.write_within(left, piece)?;
         // Where the time is over, a part of the piece may have been taken.
         if taken < piece.len() {
             let waited = begun.elapsed(self.timed.rt)?;
@@ -220,14 +220,22 @@ impl<'a> Listening<'a> {
             return Err(Error::from(ErrorKind::NotConnected));
         };
         let (stream, _peer) = listener.accept()?;
-        self.line.put(Some(stream))?;
+        self.shared_stream.put(Some(stream))?;
         let begun = Instant::now(self.rt)?;
-        let (rt, line) = (self.rt, self.line);
+        let (rt, shared_stream) = (self.rt, self.shared_stream);
         let incoming = Incoming {
-            timed: Timed { rt, line, begun },
+            timed: Timed {
+                rt,
+                shared_stream,
+                begun,
+            },
         };
         let outgoing = Outgoing {
-            timed: Timed { rt, line, begun },
+            timed: Timed {
+                rt,
+                shared_stream,
+                begun,
+            },
             is_late: false,
         };
         Ok((incoming, outgoing))
@@ -273,9 +281,9 @@ impl<'a> Connections for Listening<'a> {
 
     fn close(&mut self, reader: Incoming<'a>, writer: Outgoing<'a>) {
         drop(writer);
-        self.line.end_writing();
+        self.shared_stream.end_writing();
         reader.timed.finish();
-        let _ = self.line.put(None);
+        let _ = self.shared_stream.put(None);
         self.is_idle = true;
     }
 }

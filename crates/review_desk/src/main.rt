@@ -1,9 +1,16 @@
-//! The program of the desk: `review_desk init FILE` makes an empty desk in a file, `migrate FILE` makes one of an earlier version one of this version, `apply FILE` takes the deliveries of its input, each a
-//! line of JSON, and writes a line with the answer to each, `show FILE --change N` and `joined FILE --project P --branch B` show a
-//! change and what joined a branch. `serve FILE --port P --count N` takes deliveries over HTTP on loopback. With `apply :memory:` the desk is an empty one in memory.
+//! The program of the desk.
 //!
-//! It ends with status 0; with 1 where a line was no delivery or wasn't taken, or where a fault ended it early, which
-//! standard error names; and with 2 where its words ask for something else.
+//! `review_desk init FILE` makes an empty desk in a file, `migrate FILE` makes one of an earlier version one of this version, `apply FILE`
+//! takes the deliveries of its input, each a line of JSON, and writes a line with the answer to each; `show FILE --change N` and `joined
+//! FILE --project P --branch B` show a change and what joined a branch. `serve FILE --port P --count N` takes deliveries over HTTP on
+//! loopback. With `apply :memory:` the desk is an empty one in memory.
+//!
+//! - **Proved**: a job goes on from whatever a file and its log held, and is closed behind it (`ThenClosed`, `IsTold`); `serve` goes on
+//!   behind a fault of the store in turns.
+//! - **Assumed**: nothing of what a file holds when it is opened (`Unknown`); that the path names it. `docs/proofs.md` has the premises.
+//! - **Only tested**: standard input and output, sockets and time limits (`bench/fail_streams`, `bench/fail_connections`,
+//!   `bench/desk_times`), stops and kills.
+//! - **Must not know**: what a delivery means. No other crate of the program opens files or sockets.
 #![tactic(auto)]
 
 mod files;
@@ -12,9 +19,8 @@ mod notices;
 mod serving;
 
 use crate::files::Starts;
-use review_jobs::{Job, Place, WordsFault, job_of};
+use review_desk_work::{Job, Place, ProgramFault, Task, WordsFault, job_of, status_of};
 use review_machine::Outcome;
-use review_work::{ProgramFault, Task, status_of};
 use sqlite::{Start, Unknown};
 use std::env;
 use std::io::ErrorKind;
@@ -60,7 +66,7 @@ fn run_on<F: Start, T: Starts<F>>(
         Job::Init { .. } => files::init(rt, conn),
         Job::Migrate { .. } => files::migrate(rt, conn),
         Job::Apply { .. } => files::work_on(rt, conn, &Task::Apply),
-        Job::Serve { port, count, .. } => files::serve(rt, file, starts, conn, port, count),
+        Job::Serve { port, count, .. } => files::serve_file(rt, file, starts, conn, port, count),
         Job::Show { change, .. } => files::work_on(rt, conn, &Task::Show { change }),
         Job::Joined {
             project,

@@ -2,7 +2,7 @@
 
 ghost use Rattle.std.specs.Prelude.{◌≡◌, false};
 
-use review_work::Notices;
+use review_desk_work::Notices;
 
 const WARNING: &str =
     "warning: this file has more than the tables that init makes, or has them in another form; see \"Something beside the tables\" in docs/operations.md";

@@ -2,14 +2,14 @@
 ghost use Rattle.std.specs.Prelude.{◌≡◌, true, false};
 ghost use Rattle.sqlite.specs.Files.{over_files};
 ghost use Rattle.sqlite_wal.specs.Files.{image_at};
-ghost use Rattle.review_work.specs.{OnFile.ClosedAs, OnFile.OpenedFrom, Turns.ServedInTurns, Worked.known};
+ghost use Rattle.review_desk_work.specs.{OnFile.ClosedAs, OnFile.OpenedFrom, Turns.ServedInTurns, Worked.known};
 
 use crate::files::{FileConnection, Starts, close, open};
-use review_http::Connections;
-use review_machine::{DeskRules, Outcome};
-use review_work::{
+use review_desk_work::{
     Ends, MOST_IN_ROW, Notices, ProgramFault, Task, after_closing, is_shut, left_by, row_with, work,
 };
+use review_http::Connections;
+use review_machine::{DeskRules, Outcome};
 use sqlite::Start;
 use std::io::{Read, Write};
 

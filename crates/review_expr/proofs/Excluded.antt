@@ -1,10 +1,10 @@
 -- A text has one tree, and where it has one no fault, unless a word's pattern nests too deep.
 use Rattle.std.proofs.Common.{◌≡◌, inl, inr, ℕ, Bool, true, false, List, [], ◌∷◌, ◌++◌, length, None, refl, sym, ap, ◌∙◌, subst, arith}
 use Rattle.std.proofs.lemmas.{List.append-nil, Option.same_Some}
-use Rattle.review_terms.proofs.{Moves.one_cut, Verdicts.one_spelling}
-use Rattle.review_terms.specs.Grammar.{Tok, Tree, Fault, BadTerm, TooDeep, Mixed, HasFault, HasTree, tree, all_depth, mixed}
-use Rattle.review_terms.specs.Lexemes.{Lexeme, Word, balanced}
-use Rattle.review_terms.specs.Words.{Reading, Good, Bad, Flaw}
+use Rattle.review_expr_terms.proofs.{Moves.one_cut, Verdicts.one_spelling}
+use Rattle.review_expr_terms.specs.Grammar.{Tok, Tree, Fault, BadTerm, TooDeep, Mixed, HasFault, HasTree, tree, all_depth, mixed}
+use Rattle.review_expr_terms.specs.Lexemes.{Lexeme, Word, balanced}
+use Rattle.review_expr_terms.specs.Words.{Reading, Good, Bad, Flaw}
 use Rattle.review_words.specs.declared.faults.ExprCode.{ExprCode}
 use Rattle.review_expr.specs.Expressions.{HasTokens, HasExpr}
 use Rattle.review_expr.specs.Faults.{HasFlaw, HasWord, HasShapeFault, IsFault}

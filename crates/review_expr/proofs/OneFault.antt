@@ -1,9 +1,9 @@
 -- A text has one fault, but for bad values at words whose patterns nest too deep.
 use Rattle.std.proofs.Common.{◌≡◌, ◌⊎◌, inl, inr, ℕ, ◌≤◌, ◌<◌, false, List, [], ◌∷◌, ◌++◌, length, Option, Some, None, IsSome, IsTrue, refl, sym, ap, ap₂, ◌∙◌, subst, arith}
-use Rattle.review_terms.proofs.{Moves.one_cut, Verdicts.one_spelling}
-use Rattle.review_terms.specs.Grammar.{Tok, Fault, BadTerm, TooDeep, Mixed, HasFault, all_depth}
-use Rattle.review_terms.specs.Lexemes.{Lexeme, Word, IsCut, all_blank, balanced}
-use Rattle.review_terms.specs.Words.{Reading, Good, Bad, Flaw, NoTerm, NoValue, Zero}
+use Rattle.review_expr_terms.proofs.{Moves.one_cut, Verdicts.one_spelling}
+use Rattle.review_expr_terms.specs.Grammar.{Tok, Fault, BadTerm, TooDeep, Mixed, HasFault, all_depth}
+use Rattle.review_expr_terms.specs.Lexemes.{Lexeme, Word, IsCut, all_blank, balanced}
+use Rattle.review_expr_terms.specs.Words.{Reading, Good, Bad, Flaw, NoTerm, NoValue, Zero}
 use Rattle.review_words.specs.declared.faults.ExprCode.{ExprCode}
 use Rattle.review_expr.proofs.Excluded.{one_reading, no_flaw}
 use Rattle.review_expr.specs.Expressions.{IsLaidOut}

@@ -4,7 +4,7 @@ use Rattle.std.proofs.Math.Seq.{drop-append_seam, get_or-append_seam}
 use Rattle.std.proofs.lemmas.{Bool.Decides.nat_tests, List.length-take}
 use Rattle.std.proofs.lemmas.Str.{IsUtf8-nil, IsUtf8-drop, IsCharBoundary-after_ascii, IsCharBoundary-before_ascii, IsCharBoundary-at_seam}
 use Rattle.std.specs.Str.{IsCharBoundary}
-use Rattle.review_terms.specs.Lexemes.{Lexeme, Word, Open, Close, is_blank, is_end, all_blank, ends, IsCut}
+use Rattle.review_expr_terms.specs.Lexemes.{Lexeme, Word, Open, Close, is_blank, is_end, all_blank, ends, IsCut}
 
 -- a word, with what stands before and behind it
 pub record Lies (at : ℕ) (text : List ℕ) (place : ℕ) (w : List ℕ) : Type 0 where

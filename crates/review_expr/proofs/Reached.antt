@@ -2,15 +2,16 @@
 use Rattle.std.proofs.Common.{◌≡◌, ℕ, ◌+◌, ◌-◌, ◌<◌, Bool, List, [], ◌∷◌, ◌++◌, length, take, drop, get_or, Option, Some, None, IsUtf8, refl, sym, ap, ap₂, ◌∙◌, subst, arith, append_assoc, add-one, drop-cons, inl, inr}
 use Rattle.std.proofs.lemmas.List.{append-nil, take-append-drop, take_all, take_more, map-append, length-drop}
 use Rattle.std.specs.{List.All, Prelude.is_some, Prelude.slice_range}
-use Rattle.review_terms.specs.{Grammar.Tok, Lexemes.Lexeme, Lexemes.Word, Lexemes.IsCut}
-use Rattle.review_terms.specs.{Scanned.lexeme, Scanned.lexemes, Scanned.IsWithin, Views.toks}
-use Rattle.review_terms.specs.Words.{Reading, Good, Bad, IsWordFault}
-use Rattle.review_terms.specs.declared.{lexemes.Piece.Piece, token.Token.Token, word.WordFault.WordFault}
+use Rattle.review_expr_terms.specs.{Grammar.Tok, Lexemes.Lexeme, Lexemes.Word, Lexemes.IsCut}
+use Rattle.review_expr_terms.specs.{Scanned.lexeme, Scanned.lexemes, Scanned.IsWithin, Views.toks}
+use Rattle.review_expr_terms.specs.Words.{Reading, Good, Bad, IsWordFault}
+use Rattle.review_expr_terms.specs.declared.{lexemes.Piece.Piece, token.Token.Token, word.WordFault.WordFault}
 use Rattle.review_expr.proofs.Places.{Spans, lies, spans}
-use Rattle.review_expr.specs.{Expressions.IsLaidOut, Faults.IsReached, Faults.IsParseFault, Faults.placed}
+use Rattle.review_expr.specs.{Expressions.IsLaidOut, Faults.IsReached, Faults.IsParseFault}
 use Rattle.review_expr.specs.Tokens.{lexeme_tokens, joined, tokens_before, word_tokens, unsigned, opens_at}
-use Rattle.review_terms.specs.declared.word.WordFault.TheVariants as fault
-use Rattle.review_terms.specs.declared.lexemes.Piece.TheVariants as piece
+use Rattle.review_expr.specs.inner.Words.{placed}
+use Rattle.review_expr_terms.specs.declared.word.WordFault.TheVariants as fault
+use Rattle.review_expr_terms.specs.declared.lexemes.Piece.TheVariants as piece
 
 -- tokens, and those of one word or parenthesis behind them
 abbrev pub joined_behind : {A : Type 0} → Option (List (Tok A)) → Reading (List (Tok A)) → Option (List (Tok A))

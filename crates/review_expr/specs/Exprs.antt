@@ -1,9 +1,9 @@
 -- Expressions by their kinds.
 use Rattle.std.specs.Prelude.{ℕ, Bool, false, List, []}
-use Rattle.review_terms.specs.Views.{view}
-use Rattle.review_judging.specs.Holds.{holds, requirement_holds, copy_holds}
-use Rattle.review_judging.specs.{Labels.labels, Postfix.AreStepsOf}
-use Rattle.review_spelling.specs.Words.{requirement_reading, copy_reading}
+use Rattle.review_expr_terms.specs.Views.{view}
+use Rattle.review_expr_judging.specs.Holds.{holds, requirement_holds, copy_holds}
+use Rattle.review_expr_judging.specs.{Labels.labels, Postfix.AreStepsOf}
+use Rattle.review_expr_spelling.specs.Words.{requirement_reading, copy_reading}
 use Rattle.review_expr.specs.{Expressions.HasExpr, declared.compiled.TermList.TermList}
 use Rattle.review_expr.specs.declared.{compiled.Terms.Terms, expr.Expr.Expr, expr.Facts.Facts}
 use Rattle.review_expr.specs.declared.expr.Expr.TheVariants as expr

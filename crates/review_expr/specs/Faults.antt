@@ -1,19 +1,14 @@
 -- Why a text is no expression.
-use Rattle.std.specs.Prelude.{◌≡◌, ◌⊎◌, ℕ, ◌<◌, ◌≤◌, List, ◌∷◌, ◌++◌, length, IsSome, IsTrue, false}
-use Rattle.review_terms.specs.Grammar.{Tok, Fault, HasFault, BadTerm, TooDeep, Mixed}
-use Rattle.review_terms.specs.Lexemes.{Lexeme, Word, IsCut, all_blank, balanced}
-use Rattle.review_terms.specs.Words.{Reading, Bad, Flaw, NoTerm, NoValue, Zero}
-use Rattle.review_terms.specs.declared.{lexemes.CutFault.CutFault, parser.ShapeFault.ShapeFault}
-use Rattle.review_terms.specs.declared.word.WordFault.{WordFault}
+use Rattle.std.specs.Prelude.{ℕ, List, ◌∷◌, ◌++◌, IsSome, ◌≡◌, ◌⊎◌, ◌<◌, ◌≤◌, length, IsTrue, false}
+use Rattle.review_expr_terms.specs.Grammar.{Tok, Fault, HasFault, BadTerm, TooDeep, Mixed}
+use Rattle.review_expr_terms.specs.Lexemes.{Lexeme, Word, IsCut, all_blank, balanced}
+use Rattle.review_expr_terms.specs.Words.{Reading, Bad, Flaw, NoTerm, NoValue, Zero}
 use Rattle.review_words.specs.declared.faults.ExprCode.{ExprCode}
 use Rattle.review_expr.specs.Expressions.{IsLaidOut, HasTokens}
-use Rattle.review_expr.specs.Tokens.{lexeme_tokens, tokens_before, unsigned}
+use Rattle.review_expr.specs.Tokens.{tokens_before, lexeme_tokens, unsigned}
 use Rattle.review_expr.specs.declared.fault.ParseFault.{ParseFault}
-use Rattle.review_terms.specs.declared.word.WordFault.TheVariants as word
-use Rattle.review_terms.specs.declared.lexemes.CutFault.TheVariants as cut
-use Rattle.review_terms.specs.declared.parser.ShapeFault.TheVariants as shape
-use Rattle.review_words.specs.declared.faults.ExprCode.TheVariants as code
 use Rattle.review_expr.specs.declared.fault.ParseFault.TheVariants as fault
+use Rattle.review_words.specs.declared.faults.ExprCode.TheVariants as code
 
 -- The text is laid out, this word stands in it at this place with these words and parentheses after it, and every word before it is good.
 abbrev pub IsReached : {A : Type 0} → (List ℕ → Reading A) → List ℕ → ℕ → List ℕ → List Lexeme → Type 0
@@ -49,29 +44,3 @@ abbrev pub IsParseFault : {A : Type 0} → (List ℕ → Reading A) → (List �
 IsParseFault reading IsDeep IsPattern text (fault.Text f) = IsFault reading IsDeep text f.place f.code
 IsParseFault reading IsDeep IsPattern text fault.Memory = Unit {0}
 IsParseFault reading IsDeep IsPattern text fault.Pattern = (place : ℕ) × HasWord reading IsPattern text place
-
--- a word's fault, with the word's place
-abbrev pub placed : ℕ → WordFault → ParseFault
-placed place word.BadTerm = fault.Text (record { place = place; code = code.BadTerm })
-placed place word.BadValue = fault.Text (record { place = place; code = code.BadValue })
-placed place word.Zero = fault.Text (record { place = place; code = code.Zero })
-placed place word.Engine = fault.Pattern
-placed place word.Memory = fault.Memory
-
--- a fault of the text that is no word's
-abbrev pub whole_text : ExprCode → ParseFault
-whole_text c = fault.Text (record { place = 0; code = c })
-
--- why a text is not cut into words and parentheses, as its fault
-abbrev pub cut_fault : CutFault → ParseFault
-cut_fault cut.TooLong = whole_text code.TooLong
-cut_fault cut.Empty = whole_text code.Empty
-cut_fault cut.Unbalanced = whole_text code.Unbalanced
-cut_fault cut.Memory = fault.Memory
-
--- why tokens have no tree, as the fault of the text
-abbrev pub shape_fault : ShapeFault → ParseFault
-shape_fault shape.BadTerm = whole_text code.BadTerm
-shape_fault shape.TooDeep = whole_text code.TooDeep
-shape_fault shape.Mixed = whole_text code.Mixed
-shape_fault shape.Memory = fault.Memory

@@ -1,9 +1,9 @@
 -- The tokens that the words and parentheses of a text are. What a word is that is a term's, `reading` says.
 use Rattle.std.specs.Prelude.{ℕ, ◌+◌, Bool, true, false, ◌==◌, List, [], ◌∷◌, ◌++◌, codes, Option, Some, None, if◌then◌else◌}
 use Rattle.std.specs.Str.{bytes_eq}
-use Rattle.review_terms.specs.Grammar.{Tok, Minus, NotWord, AndWord, OrWord, Word as Term, Open as Opens, Close as Closes}
-use Rattle.review_terms.specs.Lexemes.{Lexeme, Word, Open, Close}
-use Rattle.review_terms.specs.Words.{Reading, Good, Bad, NoTerm}
+use Rattle.review_expr_terms.specs.Grammar.{Tok, Minus, NotWord, AndWord, OrWord, Word as Term, Open as Opens, Close as Closes}
+use Rattle.review_expr_terms.specs.Lexemes.{Lexeme, Word, Open, Close}
+use Rattle.review_expr_terms.specs.Words.{Reading, Good, Bad, NoTerm}
 
 -- the operators are upper case words
 abbrev pub operator_by : {A : Type 0} → Bool → Bool → Bool → Option (Tok A)

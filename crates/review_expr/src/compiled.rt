@@ -4,8 +4,8 @@ ghost use Rattle.review_expr.specs.Exprs.{AreTermsOf, holds_for};
 ghost use Rattle.review_expr.specs.declared.expr.{EvalFault.EvalFault, Expr.Expr};
 
 use crate::expr::{EvalFault, Expr, Facts};
-use review_judging::Steps;
-use review_terms::{CopyTerm, RequirementTerm};
+use review_expr_judging::Steps;
+use review_expr_terms::{CopyTerm, RequirementTerm};
 use std::alloc::{AllocError, Global};
 
 /// A flat list, by the kind of its expression.
@@ -32,10 +32,10 @@ pub fn compile(alloc: Global, expr: &Expr) -> Result<Terms<'_>, AllocError>
 {
     let list = match expr {
         Expr::Requirement(expression) => {
-            TermList::Requirement(review_judging::compile(alloc, expression.node())?)
+            TermList::Requirement(review_expr_judging::compile(alloc, expression.node())?)
         }
         Expr::Copy(expression) => {
-            TermList::Copy(review_judging::compile(alloc, expression.node())?)
+            TermList::Copy(review_expr_judging::compile(alloc, expression.node())?)
         }
     };
     Ok(Terms { list })

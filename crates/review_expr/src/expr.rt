@@ -1,15 +1,15 @@
 //! Expressions of submit requirements and of copy conditions.
 ghost use Rattle.std.specs.Prelude.{◌≡◌, IfOk, IfErr};
 ghost use Rattle.review_names.specs.Forms.{text_set};
-ghost use Rattle.review_terms.specs.declared.terms.{CopyTerm.CopyTerm, RequirementTerm.RequirementTerm};
-ghost use Rattle.review_spelling.specs.Words.{copy_reading, requirement_reading, IsDeep, IsPattern};
+ghost use Rattle.review_expr_terms.specs.declared.terms.{CopyTerm.CopyTerm, RequirementTerm.RequirementTerm};
+ghost use Rattle.review_expr_spelling.specs.Words.{copy_reading, requirement_reading, IsDeep, IsPattern};
 ghost use Rattle.review_expr.specs.Exprs.{holds_for, labels_in, IsCopyOf, IsRequirementOf, NoWord};
 ghost use Rattle.review_expr.specs.Faults.{IsParseFault};
 
 use crate::expression::Expression;
 use crate::fault::ParseFault;
-use review_judging::{ChangeFacts, VoteFacts};
-use review_terms::{CopyTerm, RequirementTerm};
+use review_expr_judging::{ChangeFacts, VoteFacts};
+use review_expr_terms::{CopyTerm, RequirementTerm};
 use review_words::LabelName;
 use std::alloc::{AllocError, Global};
 use std::collections::BTreeSet;
@@ -74,7 +74,7 @@ pub fn labels_of(alloc: Global, expr: &Expr) -> Result<BTreeSet<LabelName>, Allo
     ensures { IfOk result (λ s. s.keys ≡ text_set (labels_in expr.now)) }
 {
     match expr {
-        Expr::Requirement(expression) => review_judging::labels_of(alloc, expression.node()),
+        Expr::Requirement(expression) => review_expr_judging::labels_of(alloc, expression.node()),
         Expr::Copy(_) => Ok(BTreeSet::new(alloc)),
     }
 }
@@ -89,10 +89,10 @@ pub fn eval(alloc: Global, expr: &Expr, facts: &Facts) -> Result<bool, EvalFault
 {
     let held = match (expr, facts) {
         (Expr::Requirement(expression), Facts::Change(change)) => {
-            review_judging::eval(alloc, expression.node(), change)
+            review_expr_judging::eval(alloc, expression.node(), change)
         }
         (Expr::Copy(expression), Facts::Vote(vote)) => {
-            review_judging::eval(alloc, expression.node(), vote)
+            review_expr_judging::eval(alloc, expression.node(), vote)
         }
         _ => Ok(false),
     };

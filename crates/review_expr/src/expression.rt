@@ -3,7 +3,7 @@ ghost use Rattle.std.specs.Prelude.{◌≡◌};
 ghost use Rattle.review_expr.specs.Expressions.{IsTreeOfText};
 
 use crate::spelled::Spelled;
-use review_terms::Node;
+use review_expr_terms::Node;
 
 /// An expression over terms of type T: the tree of some text. So it is at most 32 deep, each And
 /// and Or in it has two members or more, and each of its terms is spelled by a word. Contracts

@@ -1,18 +1,14 @@
-//! The language of submit requirements and copy conditions: which texts are expressions, the tree
-//! that each has, and when it holds.
+//! The language of submit requirements and copy conditions: which texts are expressions, the tree that each has, and when it holds.
 //!
 //! `label:Code-Review+2 -(is:true)` is an expression. It names the label Code-Review, and holds for no change.
 //!
-//! What is proved: a text is answered by its tree where it has one, and by the first fault that
-//! applies, with its place, where it has none (`parse_requirement`, `parse_copy`); it has at most
-//! one tree and one fault, and never both (the laws below); but want of
-//! memory, or an engine that refuses a pattern, may be answered in place of either; an expression holds exactly where the
-//! definition says (`eval`). One place is free: a pattern that nests deeper than the engine reads
-//! may be read or refused. An expression is compiled to a flat list of its terms and operators (`compile`), which holds where
-//! the expression does (`Terms::eval`) and is run without recursion. `review_printing` writes expressions.
-//!
-//! Laws of the definitions stand as contracts of calls that do nothing: a text has at most one tree and one fault, and never
-//! both, but for a pattern that nests deeper than the engine reads; a fault's place lies in the text.
+//! - **Proved**: a text is answered by its tree where it has one, and by the first fault that applies, with its place, where it has none
+//!   ([`parse_requirement`], [`parse_copy`]); it has at most one tree and one fault, never both, and a fault's place lies in the text (the
+//!   laws); an expression holds exactly where the definition says, on its tree and on the flat list that is run without recursion
+//!   ([`eval`], [`Terms::eval`]).
+//! - **Assumed**: nothing beyond the kit. One place is free: a pattern that nests deeper than the engine reads may be read or refused.
+//! - **Only tested**: `language_scripts` runs expressions with their trees, faults and places.
+//! - **Must not know**: project files, rows or who votes.
 #![tactic(auto)]
 
 pub mod compiled;

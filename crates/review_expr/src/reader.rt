@@ -1,13 +1,14 @@
 //! From a text to the tree.
 ghost use Rattle.std.specs.Prelude.{◌≡◌, IfOk, IfErr};
-ghost use Rattle.review_terms.specs.Views.{view};
-ghost use Rattle.review_expr.specs.{Expressions.HasExpr, Faults.IsParseFault, Faults.cut_fault, Faults.shape_fault};
+ghost use Rattle.review_expr_terms.specs.Views.{view};
+ghost use Rattle.review_expr.specs.{Expressions.HasExpr, Faults.IsParseFault};
+ghost use Rattle.review_expr.specs.inner.Words.{cut_fault, shape_fault};
 
 use crate::expression::Expression;
 use crate::fault::ParseFault;
 use crate::spelled::Spelled;
 use crate::words::tokens_of;
-use review_terms::{CutFault, Node, ShapeFault, cut};
+use review_expr_terms::{CutFault, Node, ShapeFault, cut};
 use review_words::ExprCode;
 use std::alloc::Global;
 
@@ -46,7 +47,7 @@ pub(crate) fn read_tree<T: Spelled>(alloc: Global, text: &str) -> Result<Node<T>
         Ok(tokens) => tokens,
         Err(fault) => return Err(fault),
     };
-    match review_terms::parse(alloc, tokens) {
+    match review_expr_terms::parse(alloc, tokens) {
         Ok(node) => Ok(node),
         Err(fault) => Err(shape_fault(fault)),
     }

@@ -1,12 +1,12 @@
 //! Terms that words spell.
 
-use review_terms::WordFault;
+use review_expr_terms::WordFault;
 use std::alloc::Global;
 
 /// A term that a word of a text is read as.
 pub trait Spelled: Drop {
     ghost use Rattle.std.specs.Prelude.{ℕ, List, ◌≡◌, IfOk, IfErr};
-    ghost use Rattle.review_terms.specs.Words.{Reading, Good, IsWordFault};
+    ghost use Rattle.review_expr_terms.specs.Words.{Reading, Good, IsWordFault};
 
     ghost reading: { List ℕ → Reading Self };
 

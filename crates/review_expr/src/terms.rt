@@ -1,12 +1,12 @@
 //! How the words of requirements and of copy conditions are read.
 
 use crate::spelled::Spelled;
-use review_spelling::{read_copy, read_requirement};
-use review_terms::{CopyTerm, RequirementTerm, WordFault};
+use review_expr_spelling::{read_copy, read_requirement};
+use review_expr_terms::{CopyTerm, RequirementTerm, WordFault};
 use std::alloc::Global;
 
 impl Spelled for RequirementTerm {
-    ghost use Rattle.review_spelling.specs.Words.{requirement_reading, IsDeep, IsPattern};
+    ghost use Rattle.review_expr_spelling.specs.Words.{requirement_reading, IsDeep, IsPattern};
 
     ghost reading = { requirement_reading };
 
@@ -20,7 +20,7 @@ impl Spelled for RequirementTerm {
 }
 
 impl Spelled for CopyTerm {
-    ghost use Rattle.review_spelling.specs.Words.{copy_reading};
+    ghost use Rattle.review_expr_spelling.specs.Words.{copy_reading};
 
     ghost reading = { copy_reading };
 

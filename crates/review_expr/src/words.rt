@@ -1,14 +1,15 @@
 //! From words to tokens.
 ghost use Rattle.std.specs.List.{All};
 ghost use Rattle.std.specs.Prelude.{◌≡◌, ◌≤◌, ◌++◌, ℕ, List, Some, IfOk, IfErr, OnOk, length};
-ghost use Rattle.review_terms.specs.{Grammar.Tok, Scanned.lexemes, Scanned.IsWithin, Views.tok, Views.toks};
-ghost use Rattle.review_terms.specs.Words.{Good, IsWordFault};
-ghost use Rattle.review_expr.specs.{Expressions.IsLaidOut, Faults.IsParseFault, Faults.placed};
+ghost use Rattle.review_expr_terms.specs.{Grammar.Tok, Scanned.lexemes, Scanned.IsWithin, Views.tok, Views.toks};
+ghost use Rattle.review_expr_terms.specs.Words.{Good, IsWordFault};
+ghost use Rattle.review_expr.specs.{Expressions.IsLaidOut, Faults.IsParseFault};
 ghost use Rattle.review_expr.specs.Tokens.{meaning, opens_at, tokens, unsigned, word_tokens};
+ghost use Rattle.review_expr.specs.inner.Words.{placed};
 
 use crate::fault::ParseFault;
 use crate::spelled::Spelled;
-use review_terms::{Piece, Token, WordFault};
+use review_expr_terms::{Piece, Token, WordFault};
 use review_words::{ExprCode, ExprFault};
 use std::alloc::Global;
 use std::collections::VecDeque;

@@ -3,12 +3,12 @@ use Rattle.std.proofs.Common.{◌≡◌, ℕ, List, [], ◌∷◌, map, filter, 
 use Rattle.std.{proofs.lemmas.List.Elements.All-from_recursion, specs.List.All, specs.List.AllByRecursion}
 use Rattle.toml.specs.Data.{Data, table}
 use Rattle.review_names.specs.{Forms.is_label, Names.is_word}
-use Rattle.review_document.specs.Document.{members_at}
+use Rattle.review_file_document.specs.Document.{members_at}
 use Rattle.review_expr.specs.declared.expr.Expr.{Expr}
-use Rattle.review_project.specs.Expressions.{EachTo, IsLabel, IsRequirement}
-use Rattle.review_project.specs.{Reading.IsRead, Sound.IsSoundFile}
-use Rattle.review_project.specs.Spelled.{grant_in, label_in, requirement_in, named}
-use Rattle.review_project.specs.{View.LabelView, View.RequirementView, View.FileView, declared.parts.Grant.Grant}
+use Rattle.review_file_rules.specs.Expressions.{EachTo, IsLabel, IsRequirement}
+use Rattle.review_file_rules.specs.{Reading.IsRead, Sound.IsSoundFile}
+use Rattle.review_file_rules.specs.Spelled.{grant_in, label_in, requirement_in, named}
+use Rattle.review_file_rules.specs.{View.LabelView, View.RequirementView, View.FileView, declared.parts.Grant.Grant}
 use Rattle.review_file.proofs.{KeysInOrder.InOrder, SoundLabels.sound_labels}
 use Rattle.review_file.proofs.TablesInOrder.{EachInOrder, Sorted, keys, inner_sorted, kept_sorted, kept_within, table_sorted, table_within}
 

@@ -3,7 +3,7 @@ use Rattle.std.proofs.Common.{◌≡◌, ◌∙◌, ℕ, List, None, cond, sym, 
 use Rattle.std.specs.Prelude.{option_and_then}
 use Rattle.toml.specs.{Data.table, Parse.parse_document}
 use Rattle.review_expr.specs.declared.expr.Expr.{Expr}
-use Rattle.review_project.specs.{Reading.IsRead, Reading.named_parent, Spelled.parent_in, View.FileView}
+use Rattle.review_file_rules.specs.{Reading.IsRead, Reading.named_parent, Spelled.parent_in, View.FileView}
 
 -- the parent of a file is the one that its text names
 pub parent_named : (text : List ℕ) (f : FileView Expr) → IsRead text f → f.parent ≡ named_parent text

@@ -3,9 +3,9 @@ use Rattle.std.proofs.Common.{◌≡◌, ℕ, ℤ, pos, Bool, true, false, List,
 use Rattle.std.specs.{Int.int_min, Int.int_max, List.list_all, Option.option_map_or}
 use Rattle.std.specs.Prelude.{◌&&◌, IfSome, filter, find, fold, int_lt}
 use Rattle.review_expr.specs.declared.expr.Expr.{Expr}
-use Rattle.review_project.specs.Rights.{least_of, greatest_of}
-use Rattle.review_project.specs.Sound.{is_value, is_run, is_range, is_sound_label}
-use Rattle.review_project.specs.{View.LabelView, declared.parts.Grant.Grant}
+use Rattle.review_file_rules.specs.Rights.{least_of, greatest_of}
+use Rattle.review_file_rules.specs.Sound.{is_value, is_run, is_range, is_sound_label}
+use Rattle.review_file_rules.specs.{View.LabelView, declared.parts.Grant.Grant}
 
 and_left : (a b : Bool) → (a && b) ≡ true → a ≡ true
 and_left true b h = refl

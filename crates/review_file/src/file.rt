@@ -2,11 +2,11 @@
 ghost use Rattle.std.specs.List.{All};
 ghost use Rattle.std.specs.Prelude.{◌≡◌, ◌≤ℤ◌, true, IfOk, find, option_copied, option_map, string_bytes};
 ghost use Rattle.std.specs.Str.{bytes_eq};
-ghost use Rattle.review_project.specs.Rights.{greatest_value, least_value};
-ghost use Rattle.review_project.specs.Sound.{HasGroupsInOrder, HasNamesInOrder, IsSoundFile, has_sound_labels, is_sound_label, is_value};
+ghost use Rattle.review_file_rules.specs.Rights.{greatest_value, least_value};
+ghost use Rattle.review_file_rules.specs.Sound.{HasGroupsInOrder, HasNamesInOrder, IsSoundFile, has_sound_labels, is_sound_label, is_value};
 
 use review_expr::Expr;
-use review_project::Grant;
+use review_file_rules::Grant;
 use review_words::{GroupName, LabelName, ProjectName};
 use std::alloc::{AllocError, Global};
 use std::marker::Model;
@@ -22,7 +22,7 @@ pub struct Access {
 }
 
 impl Model for Access {
-    ghost use Rattle.review_project.specs.View.{AccessView};
+    ghost use Rattle.review_file_rules.specs.View.{AccessView};
 
     ghost Value = { AccessView };
 
@@ -72,7 +72,7 @@ pub(crate) struct LabelParts {
 impl Model for LabelParts {
     ghost use Rattle.std.specs.Coded.{codes};
     ghost use Rattle.review_expr.specs.declared.expr.Expr.{Expr};
-    ghost use Rattle.review_project.specs.View.{LabelView};
+    ghost use Rattle.review_file_rules.specs.View.{LabelView};
     ghost use Rattle.review_expr.specs.contracts.expr.Expr as expr;
 
     ghost Value = { LabelView Expr };
@@ -91,7 +91,7 @@ pub struct Label {
 impl Model for Label {
     ghost use Rattle.std.specs.Coded.{codes};
     ghost use Rattle.review_expr.specs.declared.expr.Expr.{Expr};
-    ghost use Rattle.review_project.specs.View.{LabelView};
+    ghost use Rattle.review_file_rules.specs.View.{LabelView};
     ghost use Rattle.review_expr.specs.contracts.expr.Expr as expr;
 
     ghost Value = { LabelView Expr };
@@ -117,7 +117,7 @@ impl Label {
         self.parts.as_ref()
     }
 
-    /// The same label once more, which takes no memory. An error where there are as many copies as can be counted.
+    /// A copy of the label, which shares its parts and takes no memory. An error where there are as many copies as can be counted.
     pub fn copy(&self, _alloc: Global) -> Result<Label, AllocError>
         ensures { IfOk result (λ l. l ≡ self.now) }
     {
@@ -205,7 +205,7 @@ pub(crate) struct RequirementParts {
 impl Model for RequirementParts {
     ghost use Rattle.std.specs.{Coded.codes, Prelude.option_map, Prelude.string_bytes};
     ghost use Rattle.review_expr.specs.declared.expr.Expr.{Expr};
-    ghost use Rattle.review_project.specs.View.{RequirementView};
+    ghost use Rattle.review_file_rules.specs.View.{RequirementView};
     ghost use Rattle.review_expr.specs.contracts.expr.Expr as expr;
 
     ghost Value = { RequirementView Expr };
@@ -231,7 +231,7 @@ pub struct Requirement {
 impl Model for Requirement {
     ghost use Rattle.std.specs.Coded.{codes};
     ghost use Rattle.review_expr.specs.declared.expr.Expr.{Expr};
-    ghost use Rattle.review_project.specs.View.{RequirementView};
+    ghost use Rattle.review_file_rules.specs.View.{RequirementView};
     ghost use Rattle.review_expr.specs.contracts.expr.Expr as expr;
 
     ghost Value = { RequirementView Expr };
@@ -257,7 +257,7 @@ impl Requirement {
         self.parts.as_ref()
     }
 
-    /// The same requirement once more, which takes no memory. An error where there are as many copies as can be counted.
+    /// A copy of the requirement, which shares its parts and takes no memory. An error where there are as many copies as can be counted.
     pub fn copy(&self, _alloc: Global) -> Result<Requirement, AllocError>
         ensures { IfOk result (λ r. r ≡ self.now) }
     {
@@ -321,7 +321,7 @@ pub struct Content {
 impl Model for Content {
     ghost use Rattle.std.specs.{Coded.codes, Prelude.option_map, Prelude.string_bytes};
     ghost use Rattle.review_expr.specs.declared.expr.Expr.{Expr};
-    ghost use Rattle.review_project.specs.View.{FileView};
+    ghost use Rattle.review_file_rules.specs.View.{FileView};
     ghost use Rattle.review_expr.specs.contracts.expr.Expr as expr;
 
     ghost Value = { FileView Expr };
@@ -347,7 +347,7 @@ pub struct ProjectFile {
 impl Model for ProjectFile {
     ghost use Rattle.std.specs.Coded.{codes};
     ghost use Rattle.review_expr.specs.declared.expr.Expr.{Expr};
-    ghost use Rattle.review_project.specs.{Sound.IsSoundFile, View.FileView};
+    ghost use Rattle.review_file_rules.specs.{Sound.IsSoundFile, View.FileView};
     ghost use Rattle.review_expr.specs.contracts.expr.Expr as expr;
 
     ghost Value = { FileView Expr };
@@ -376,7 +376,7 @@ impl ProjectFile {
         self.content.as_ref()
     }
 
-    /// The same file once more, which takes no memory. An error where there are as many copies as can be counted.
+    /// A copy of the file, which shares its parts and takes no memory. An error where there are as many copies as can be counted.
     pub fn copy(&self, _alloc: Global) -> Result<ProjectFile, AllocError>
         ensures { IfOk result (λ f. f ≡ self.now) }
     {

@@ -3,11 +3,11 @@ ghost use Rattle.std.specs.{Int.int_min, Int.int_max, List.list_any};
 ghost use Rattle.std.specs.Prelude.{◌≡◌, ℤ, pos, true, map, filter, find, fold, IfSome};
 ghost use Rattle.std.specs.Str.{bytes_eq};
 ghost use Rattle.review_names.specs.Groups.{has_account};
-ghost use Rattle.review_project.specs.Rights.{granted, grants_of, greatest_of, least_of, may};
-ghost use Rattle.review_project.specs.Sound.{is_value};
+ghost use Rattle.review_file_rules.specs.Rights.{granted, grants_of, greatest_of, least_of, may};
+ghost use Rattle.review_file_rules.specs.Sound.{is_value};
 
 use crate::file::ProjectFile;
-use review_project::{Grant, Right};
+use review_file_rules::{Grant, Right};
 use review_words::{AccountNo, Groups, LabelName};
 
 /// Whether an account is in one of the groups that have a right. This takes no memory.
@@ -19,7 +19,8 @@ pub fn may(file: &ProjectFile, right: Right, account: AccountNo, groups: &Groups
         .any(|group| groups.has(group, account))
 }
 
-fn grants_of<'f>(file: &'f ProjectFile, label: &LabelName) -> &'f [Grant]
+/// The ranges that a label grants; none where the file hasn't the label. This takes no memory.
+pub fn grants_of<'f>(file: &'f ProjectFile, label: &LabelName) -> &'f [Grant]
     ensures { result.now ≡ grants_of file.now label.now }
 {
     match file.label(label) {

@@ -11,11 +11,14 @@
 //! submittableIf = "label:Code-Review=MAX"
 //! ```
 //!
-//! [`read_file`] gives the file that a text spells, or the first of its faults in the order of
-//! [`FileFault`]; its contract says which. A file, a [`Label`] and a [`Requirement`] are shared: a copy has the same parts and takes no memory.
-//! What is true of every file [`ProjectFile::facts`] tells. [`covers`] holds one file against another, [`may`] and [`range_of`] tell what a
-//! file gives an account; these take no memory. The file of a project that goes on from its parent's is told by `review_effective`; what an
-//! expression is, and when it holds, by `review_expr`.
+//! [`read_file`] gives the file that a text spells, or the first of its faults in the order of [`FileFault`]. A file, a [`Label`] and a
+//! [`Requirement`] are shared: a copy has the same parts and takes no memory. [`covers`] holds one file against another, [`may`] and
+//! [`range_of`] tell what a file gives an account; these take no memory.
+//!
+//! - **Proved**: all of this, each in the contract of its call; what is true of every file [`ProjectFile::facts`] tells.
+//! - **Assumed**: nothing beyond the kit.
+//! - **Only tested**: `language_scripts` runs files with their faults.
+//! - **Must not know**: the files of parents (`review_file_lines`), rows or changes.
 #![tactic(auto)]
 
 mod access;
@@ -30,9 +33,9 @@ pub mod unknown;
 
 pub use covering::covers;
 pub use file::{Access, Content, Label, LabelValue, ProjectFile, Requirement};
-pub use granted::{may, range_of};
+pub use granted::{grants_of, may, range_of};
 pub use read::{named_parent, read_file};
-pub use review_document::limits::{MOST_BYTES, MOST_DESCRIPTION, MOST_PARTS, MOST_TEXT};
-pub use review_project::{Grant, ReadFault, Right};
+pub use review_file_document::limits::{MOST_BYTES, MOST_DESCRIPTION, MOST_PARTS, MOST_TEXT};
+pub use review_file_rules::{Grant, ReadFault, Right};
 pub use review_words::FileFault;
 pub use unknown::some_requires_other;

@@ -1,24 +1,24 @@
 //! Reading a project file.
 ghost use Rattle.std.specs.Prelude.{◌≡◌, ◌≢◌, false, IfOk, IfErr, length, nat_lt, option_map};
 ghost use Rattle.toml.specs.{Data.table, Parse.parse_document, View.table_view, View.view};
-ghost use Rattle.review_document.specs.Limits.{most_bytes};
-ghost use Rattle.review_project.specs.Expressions.{IsFile, IsStoppedBy, has_unknown_label};
-ghost use Rattle.review_project.specs.Patterns.{HasPattern};
-ghost use Rattle.review_project.specs.Reading.{IsFaultless, IsRead, IsReadFault, IsDocumentFault, first_fault, named_parent};
-ghost use Rattle.review_project.specs.Spelled.{parent_in, spelled};
+ghost use Rattle.review_file_document.specs.Limits.{most_bytes};
+ghost use Rattle.review_file_rules.specs.Expressions.{IsFile, IsStoppedBy, has_unknown_label};
+ghost use Rattle.review_file_rules.specs.Patterns.{HasPattern};
+ghost use Rattle.review_file_rules.specs.Reading.{IsFaultless, IsRead, IsReadFault, IsDocumentFault, first_fault, named_parent};
+ghost use Rattle.review_file_rules.specs.Spelled.{parent_in, spelled};
 
 use crate::access::read_access;
 use crate::file::{Content, ProjectFile};
 use crate::labels::labels_in;
 use crate::requirements::requirements_in;
 use crate::unknown::has_unknown_label;
-use review_document::document::{copied_text, text_at};
-use review_document::keys::{has_unknown_key, lacks_key};
-use review_document::limits::{MOST_BYTES, is_past_limits};
-use review_document::names::{has_bad_name, project_name};
-use review_document::values::{has_bad_values, has_value_twice};
 use review_expr::ParseFault;
-use review_project::ReadFault;
+use review_file_document::document::{copied_text, text_at};
+use review_file_document::keys::{has_unknown_key, lacks_key};
+use review_file_document::limits::{MOST_BYTES, is_past_limits};
+use review_file_document::names::{has_bad_name, project_name};
+use review_file_document::values::{has_bad_values, has_value_twice};
+use review_file_rules::ReadFault;
 use review_words::{FileFault, FileText, ProjectName};
 use std::alloc::{AllocError, Global};
 use toml::Value;
@@ -74,7 +74,7 @@ fn content_in(alloc: Global, file: &Value) -> Result<Content, ParseFault>
     })
 }
 
-#[tactic(auto, using(review_project::proofs::Verdicts::least_first))]
+#[tactic(auto, using(review_file_rules::proofs::Verdicts::least_first))]
 fn read_document(alloc: Global, file: &Value) -> Result<Content, ReadFault>
     ensures read { IfOk result (IsFaultless (view file.now)) }
     ensures fault { IfErr result (IsDocumentFault (view file.now)) }

@@ -2,7 +2,7 @@
 ghost use Rattle.std.specs.{List.list_any, Option.option_map_or};
 ghost use Rattle.std.specs.Prelude.{◌≡◌, IfOk, Bool, false, not, option_copied};
 ghost use Rattle.std.specs.Str.{bytes_eq};
-ghost use Rattle.review_project.specs.Expressions.{has_unknown_label, names_other, requires_other};
+ghost use Rattle.review_file_rules.specs.Expressions.{has_unknown_label, names_other, requires_other};
 
 use crate::file::{Content, Label, Requirement};
 use review_expr::{Expr, labels_of};

@@ -1,12 +1,11 @@
 -- Connections served, one after the other.
 use Rattle.std.proofs.Common.{◌≡◌, ◌++◌, ℕ, List, [], ◌∷◌, Bool, Option, Some, None, IfSome, Result, Ok, Err, inl, inr, refl, sym, ap, ◌∙◌, subst, map, append-nil, append_assoc}
 use Rattle.std.{proofs.lemmas.List.map-append, specs.Io.KnownBytes.Appends}
-use Rattle.review_counted.specs.Bytes.{IsFirstPart}
 use Rattle.review_words.specs.declared.{command.Delivery.Delivery, reply.Reply.Reply}
-use Rattle.review_paths.specs.declared.fault.HttpFault.{HttpFault}
-use Rattle.review_requests.specs.Wire.{CallsFor}
-use Rattle.review_rows.specs.Shelf.{Shown}
-use Rattle.review_deliveries.{proofs.Ran.ran_none, proofs.Ran.ran_one, proofs.Ran.ran-append, specs.Delivered.WasRun}
+use Rattle.review_http_requests.specs.{Bytes.IsFirstPart, Wire.CallsFor, declared.http_fault.HttpFault.HttpFault}
+use Rattle.review_machine_rows.specs.Shelf.{Shown}
+use Rattle.review_machine_deliveries.proofs.Ran.{ran_none, ran_one, ran-append}
+use Rattle.review_machine_deliveries.specs.Delivered.{WasRun}
 use Rattle.review_http.specs.Peers.{Exchange, Came, WereTold, TookOf, ServedOne, CountsBefore, ServedEach}
 use Rattle.review_http.specs.Responses.{response}
 use Rattle.review_http.specs.Served.{IsWritten, IsToldOf, IsAnswered, IsServedOnWire, WasServed}

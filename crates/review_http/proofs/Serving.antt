@@ -2,14 +2,14 @@
 use Rattle.std.proofs.Common.{ℕ, List, [], Bool, Option, Result, Ok, Err, inr}
 use Rattle.std.{proofs.KnownBytes.Appends-nil, specs.Io.KnownBytes.Appends}
 use Rattle.review_words.specs.declared.{command.Delivery.Delivery, reply.Reply.Reply}
-use Rattle.review_paths.specs.declared.fault.HttpFault.{HttpFault}
-use Rattle.review_requests.specs.{Told.IsTold, Told.WasTold, Wire.CallsFor, declared.fault.RequestFault.RequestFault}
-use Rattle.review_rows.specs.Shelf.{Shown}
+use Rattle.review_http_requests.specs.{Told.IsTold, Told.WasTold, Wire.CallsFor}
+use Rattle.review_http_requests.specs.declared.{fault.RequestFault.RequestFault, http_fault.HttpFault.HttpFault}
+use Rattle.review_machine_rows.specs.Shelf.{Shown}
 use Rattle.review_http.specs.Served.{IsWritten, IsToldOf, IsServedOnWire, WasServed}
 use Rattle.review_http.specs.declared.serve.ServeFault.{ServeFault}
 use Rattle.review_http.specs.declared.serve.ServeFault.TheVariants.{Read, Reads, Write, Memory}
 use Rattle.review_http.specs.declared.serve.Served.{Served, TheVariants.Answered, TheVariants.Empty}
-use Rattle.review_requests.specs.declared.fault.RequestFault.TheVariants as request
+use Rattle.review_http_requests.specs.declared.fault.RequestFault.TheVariants as request
 
 -- what reading a request answers, from what its bytes call for
 abbrev pub asks : Result Delivery HttpFault → Result Delivery RequestFault

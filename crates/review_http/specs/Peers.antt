@@ -1,10 +1,9 @@
 -- What serving connections does, one after the other.
 use Rattle.std.specs.Prelude.{◌≡◌, ◌≢◌, ◌≤◌, ◌<◌, ◌+◌, ◌⊎◌, ℕ, List, [], ◌∷◌, ◌++◌, Bool, Option, Some, None, Result, Ok, IfOk, OnOk, length, map}
-use Rattle.review_counted.specs.Bytes.{IsFirstPart}
 use Rattle.review_words.specs.declared.{command.Delivery.Delivery, reply.Reply.Reply}
-use Rattle.review_requests.specs.Wire.{CallsFor}
-use Rattle.review_rows.specs.Shelf.{Shown}
-use Rattle.review_deliveries.specs.Delivered.{IsDelivered, WasRun}
+use Rattle.review_http_requests.specs.{Bytes.IsFirstPart, Wire.CallsFor}
+use Rattle.review_machine_rows.specs.Shelf.{Shown}
+use Rattle.review_machine_deliveries.specs.Delivered.{IsDelivered, WasRun}
 use Rattle.review_http.specs.{Responses.response, Served.WasServed}
 use Rattle.review_http.specs.declared.serve.{ServeFault.ServeFault, Served.Served}
 

@@ -1,12 +1,11 @@
 -- What serving one request does, for the bytes that were read and those that were written.
 use Rattle.std.specs.Io.KnownBytes.{Appends}
 use Rattle.std.specs.Prelude.{◌≡◌, ◌⊎◌, ℕ, List, [], Bool, true, false, Option, Result, Ok, Err}
-use Rattle.review_counted.specs.Bytes.{Gave, IsFirstPart}
 use Rattle.review_words.specs.declared.{command.Delivery.Delivery, reply.Reply.Reply}
-use Rattle.review_paths.specs.declared.fault.HttpFault.{HttpFault}
-use Rattle.review_requests.specs.Wire.{CallsFor, IsNotWhole}
-use Rattle.review_rows.specs.Shelf.{Shown}
-use Rattle.review_deliveries.specs.Delivered.{IsDelivered}
+use Rattle.review_http_requests.specs.Bytes.{Gave, IsFirstPart}
+use Rattle.review_http_requests.specs.{Wire.CallsFor, Wire.IsNotWhole, declared.http_fault.HttpFault.HttpFault}
+use Rattle.review_machine_rows.specs.Shelf.{Shown}
+use Rattle.review_machine_deliveries.specs.Delivered.{IsDelivered}
 use Rattle.review_http.specs.{Responses.response, Statuses.status_of, declared.serve.ServeFault.ServeFault}
 use Rattle.review_http.specs.declared.serve.ServeFault.TheVariants.{Read, Reads, Write, Memory}
 use Rattle.review_http.specs.declared.serve.Served.{Served, TheVariants.Answered, TheVariants.Empty}

@@ -2,8 +2,8 @@
 use Rattle.std.specs.Prelude.{ℕ, List, codes, Result, Ok, Err}
 use Rattle.review_words.specs.{Refusals.refusal_status, declared.reply.Reply.Reply}
 use Rattle.review_words.specs.declared.reply.Reply.TheVariants.{Done, Refused, IdentityReused, EpochClosed, NotTaken}
-use Rattle.review_paths.specs.declared.fault.HttpFault.{HttpFault}
-use Rattle.review_paths.specs.declared.fault.HttpFault.TheVariants.{BadHead, HeadTooLarge, NoRoute, Method, NoCaller, NoRequestId, BadEpoch, LengthRequired, TooLarge, BadBody}
+use Rattle.review_http_requests.specs.declared.http_fault.HttpFault.{HttpFault}
+use Rattle.review_http_requests.specs.declared.http_fault.HttpFault.TheVariants.{BadHead, HeadTooLarge, NoRoute, Method, NoCaller, NoRequestId, BadEpoch, LengthRequired, TooLarge, BadBody}
 
 -- the status of a reply
 abbrev pub reply_status : Reply → ℕ

@@ -4,10 +4,9 @@ ghost use Rattle.review_words.specs.declared.{command.Delivery.Delivery, reply.R
 ghost use Rattle.review_http.specs.Peers.{ServedOne, ServedAll, WereTold};
 
 use crate::serve::serve_request;
-use review_counted::Counted;
-use review_deliveries::Rules;
-use review_paths::Routes;
-use review_rows::Shelf;
+use review_http_requests::{Counted, Routes};
+use review_machine_deliveries::Rules;
+use review_machine_rows::Shelf;
 use std::alloc::Global;
 use std::io::{Read, Write};
 
@@ -64,7 +63,7 @@ pub enum ConnectionsFault {
 }
 
 /// Serves a connection, whatever becomes of it, and closes it.
-fn serve<C: Connections, S: Shelf, D: Rules>(
+fn serve_connection<C: Connections, S: Shelf, D: Rules>(
     alloc: Global,
     routes: &Routes,
     connections: &mut C,
@@ -115,7 +114,7 @@ pub fn serve_connections<C: Connections, S: Shelf, D: Rules>(
             return Ok(count - served);
         }
         let (reader, writer) = connections.accept()?;
-        serve(alloc, routes, connections, reader, writer, shelf, rules);
+        serve_connection(alloc, routes, connections, reader, writer, shelf, rules);
     }
     Ok(0)
 }

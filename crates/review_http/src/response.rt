@@ -7,8 +7,8 @@ ghost use Rattle.review_http.specs.Statuses.{status_of};
 
 use crate::status::{fault_name, status_of};
 use http::StatusCode;
+use review_http_requests::HttpFault;
 use review_json::answer_text;
-use review_paths::HttpFault;
 use review_words::Reply;
 use serde_json::{Value, json};
 use std::alloc::{AllocError, Global};

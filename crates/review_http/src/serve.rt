@@ -1,17 +1,17 @@
 //! One request, taken and answered.
 ghost use Rattle.std.specs.Io.KnownBytes.{Appends};
 ghost use Rattle.std.specs.Prelude.{◌≡◌, ◌+◌, ◌≤◌, ℕ, List, length, Err, IfSome, min};
-ghost use Rattle.review_counted.specs.Counts.{greatest, one_more};
-ghost use Rattle.review_counted.specs.Shown.{inner_of, reads_of, faults_of};
+ghost use Rattle.review_http_requests.specs.Counts.{greatest, one_more};
+ghost use Rattle.review_http_requests.specs.Shown.{inner_of, reads_of, faults_of};
 ghost use Rattle.review_http.specs.Served.{IsWritten, WasServed};
 
 use crate::response::response_of;
 use crate::status::status_of;
-use review_counted::{Counted, write_and_flush};
-use review_deliveries::{Rules, deliver};
-use review_paths::{HttpFault, Routes};
-use review_requests::{RequestFault, read_request};
-use review_rows::Shelf;
+use review_http_requests::{
+    Counted, HttpFault, RequestFault, Routes, read_request, write_and_flush,
+};
+use review_machine_deliveries::{Rules, deliver};
+use review_machine_rows::Shelf;
 use review_words::Reply;
 use std::alloc::Global;
 use std::io::{Read, Write};
@@ -56,7 +56,7 @@ fn respond<W: Write>(
     }
 }
 
-/// The same, of what is told once.
+/// Writes the response to a reply or a fault, and lets go of it here, where there is no `?`.
 fn tell<W: Write>(
     alloc: Global,
     writer: &mut Counted<W>,

@@ -3,7 +3,7 @@ ghost use Rattle.std.specs.Prelude.{◌≡◌};
 ghost use Rattle.http.specs.StatusCode.{IsStatusCode};
 ghost use Rattle.review_http.specs.Statuses.{reply_status, fault_status, fault_name, status_of};
 
-use review_paths::HttpFault;
+use review_http_requests::HttpFault;
 use review_words::Reply;
 
 fn reply_status(reply: &Reply) -> u16

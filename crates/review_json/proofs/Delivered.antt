@@ -6,18 +6,18 @@ use Rattle.serde_json.specs.{Data.Data, Data.object, Data.no_members, Find.get, 
 use Rattle.review_names.specs.{Forms.is_commit, Forms.is_line, Names.is_word}
 use Rattle.review_words.specs.declared.changes.NewComment.{NewComment}
 use Rattle.review_words.specs.declared.command.{ChangeCommand.ChangeCommand, Command.Command, Delivery.Delivery}
-use Rattle.review_routes.specs.Changes.{new_change, new_patch}
-use Rattle.review_routes.specs.Commands.{change_command_in, command_in, command_of}
-use Rattle.review_routes.specs.Comments.{comments_in}
-use Rattle.review_routes.specs.Parts.{text_at, name_at, members_at, account_at, epoch_at, epoch_or_first}
-use Rattle.review_routes.specs.Questions.{query_of, is_question}
-use Rattle.review_routes.specs.Reviews.{message_in, has_refused, said}
-use Rattle.review_routes.specs.Roles.{account_named_at, role_in}
-use Rattle.review_routes.specs.Texts.{text_of, value_spelled, if_object, body_spelled}
-use Rattle.review_routes.specs.{Votes.labels_in, declared.route.ChangeRoute.ChangeRoute}
-use Rattle.review_routes.specs.declared.route.ChangeRoute.TheVariants.{Upload, Review, AddReviewer, RemoveReviewer, SetWip, SetReady, Abandon, Restore, AddAttention, RemoveAttention}
-use Rattle.review_routes.specs.declared.route.Route.{Route}
-use Rattle.review_routes.specs.declared.route.Route.TheVariants.{CreateAccount, PutGroup, PutProject, RecordBase, CreateChange, OnChange, Submit, CloseEpoch, Branch, AskChange}
+use Rattle.review_json_routes.specs.Changes.{new_change, new_patch}
+use Rattle.review_json_routes.specs.Commands.{change_command_in, command_in, command_of}
+use Rattle.review_json_routes.specs.Comments.{comments_in}
+use Rattle.review_json_routes.specs.Parts.{text_at, name_at, members_at, account_at, epoch_at, epoch_or_first}
+use Rattle.review_json_routes.specs.Questions.{query_of, is_question}
+use Rattle.review_json_routes.specs.Reviews.{message_in, has_refused, said}
+use Rattle.review_json_routes.specs.Roles.{account_named_at, role_in}
+use Rattle.review_json_routes.specs.Texts.{text_of, value_spelled, if_object, body_spelled}
+use Rattle.review_json_routes.specs.{Votes.labels_in, declared.route.ChangeRoute.ChangeRoute}
+use Rattle.review_json_routes.specs.declared.route.ChangeRoute.TheVariants.{Upload, Review, AddReviewer, RemoveReviewer, SetWip, SetReady, Abandon, Restore, AddAttention, RemoveAttention}
+use Rattle.review_json_routes.specs.declared.route.Route.{Route}
+use Rattle.review_json_routes.specs.declared.route.Route.TheVariants.{CreateAccount, PutGroup, PutProject, RecordBase, CreateChange, OnChange, Submit, CloseEpoch, Branch, AskChange}
 use Rattle.review_json.proofs.Ordered.{map_some, map_any, then_some, then_any, either_some, IsInOrder, read_in_order, get_in_order}
 use Rattle.review_json.proofs.Places.{bind_some, next_some, absent_some, GoByPlace, comments_by_place, sorted}
 use Rattle.review_json.specs.Laws.{asked_comments, made_comments, delivered_comments, CommentsOfBodiesGoByPlace, CommentsGoByPlace}

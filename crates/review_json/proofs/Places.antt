@@ -8,8 +8,8 @@ use Rattle.serde_json.specs.Data.{Data, Items, no_items, item, Members, no_membe
 use Rattle.serde_json.specs.Find.{get, as_array, as_object}
 use Rattle.review_names.specs.{Forms.is_message, Forms.is_place, Numerals.◌>>=◌}
 use Rattle.review_words.specs.{Reviews.all_written, declared.changes.NewComment.NewComment}
-use Rattle.review_routes.specs.Comments.{line_in, answered_in, comment_of, comments_on, comments_at, comments_from, written, comments_of, comments_in}
-use Rattle.review_routes.specs.Parts.{formed, or_absent, name_at, flag_at}
+use Rattle.review_json_routes.specs.Comments.{line_in, answered_in, comment_of, comments_on, comments_at, comments_from, written, comments_of, comments_in}
+use Rattle.review_json_routes.specs.Parts.{formed, or_absent, name_at, flag_at}
 use Rattle.review_json.proofs.Ordered.{map_some, then_some, either_some, IsBelow, AreAbove, IsInOrder, MembersInOrder, get_in_order, object_in_order}
 
 pub bind_some : {A B : Type 0} (P : A → Type 0) (Q : B → Type 0) (f : A → Option B) → ((a : A) → P a → IfSome (f a) Q) → (o : Option A) → IfSome o P → IfSome (o >>= f) Q

@@ -10,7 +10,7 @@ use Rattle.review_words.specs.declared.reply.NotTaken.TheVariants.{Memory, Store
 use Rattle.review_words.specs.declared.reply.Refusal.{Refusal, TheVariants.BadFile, TheVariants.RequirementUnsatisfied}
 use Rattle.review_words.specs.declared.reply.Reply.{Reply}
 use Rattle.review_words.specs.declared.reply.Reply.TheVariants.{Done, Refused, IdentityReused, EpochClosed, NotTaken}
-use Rattle.review_json.specs.Shown.{joined_data, change_data, requirements_data, threads_data, calls_data}
+use Rattle.review_json.specs.Shown.{joined_data, change_data, requirements_data, threads_data, attention_data}
 use Rattle.review_json.specs.Values.{number_data, texts_data, numbers_data}
 
 -- the name of a cause for which a delivery was not taken
@@ -37,7 +37,7 @@ answer_data (Branch bases joined) = object (member (codes "bases") (array (texts
 answer_data (Shown change) = change_data change
 answer_data (Requirements requirements) = array (requirements_data requirements)
 answer_data (Threads threads) = array (threads_data threads)
-answer_data (Attention calls) = array (calls_data calls)
+answer_data (Attention calls) = array (attention_data calls)
 
 -- a refusal for a file with a fault of this name
 abbrev pub named_fault_data : List ℕ → Data
@@ -56,7 +56,7 @@ bad_file_data (Expr fault) =
     (member (codes "refused") (string (codes "BAD_FILE")) no_members)))))
 bad_file_data fault = named_fault_data (file_fault_name fault)
 
--- a refusal for a change whose requirement isn't satisfied
+-- a refusal for a change whose requirement is unsatisfied
 abbrev pub unsatisfied_data : ℕ → List ℕ → Data
 unsatisfied_data change requirement =
     object (member (codes "change") (number_data change)

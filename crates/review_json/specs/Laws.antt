@@ -5,7 +5,7 @@ use Rattle.review_words.specs.declared.changes.NewComment.{NewComment}
 use Rattle.review_words.specs.declared.command.ChangeCommand.{ChangeCommand, TheVariants.Review}
 use Rattle.review_words.specs.declared.command.Command.{Command, TheVariants.OnChange}
 use Rattle.review_words.specs.declared.command.Delivery.{Delivery, TheVariants.Write, TheVariants.Read}
-use Rattle.review_routes.specs.{Commands.command_of, declared.route.Route.Route}
+use Rattle.review_json_routes.specs.{Commands.command_of, declared.route.Route.Route}
 use Rattle.review_json.specs.Line.{delivery_spelled}
 
 -- the comments that something asked of a change makes, which is a review alone

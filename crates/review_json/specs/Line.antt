@@ -4,10 +4,10 @@ use Rattle.serde_json.specs.{Data.Data, Data.object, Data.no_members, Find.get}
 use Rattle.review_names.specs.{Names.is_word, Numerals.◌>>=◌}
 use Rattle.review_words.specs.declared.command.{Command.Command, Delivery.Delivery}
 use Rattle.review_words.specs.declared.command.Delivery.TheVariants.{Write, Read}
-use Rattle.review_routes.specs.Commands.{command_in}
-use Rattle.review_routes.specs.Parts.{or_absent, text_at, name_at, account_at, epoch_or_first}
-use Rattle.review_routes.specs.Questions.{query_of, is_question}
-use Rattle.review_routes.specs.{Texts.value_spelled, Texts.if_object, declared.route.Route.Route}
+use Rattle.review_json_routes.specs.Commands.{command_in}
+use Rattle.review_json_routes.specs.Parts.{or_absent, text_at, name_at, account_at, epoch_or_first}
+use Rattle.review_json_routes.specs.Questions.{query_of, is_question}
+use Rattle.review_json_routes.specs.{Texts.value_spelled, Texts.if_object, declared.route.Route.Route}
 use Rattle.review_json.specs.Routes.{route_named}
 
 -- the body of a line, an object, `{}` where it is absent

@@ -5,11 +5,11 @@ use Rattle.serde_json.specs.Data.{Data}
 use Rattle.review_names.specs.{Forms.is_slashed_name, Names.is_word, Numerals.◌>>=◌}
 use Rattle.review_words.specs.declared.command.ChangeQuery.{ChangeQuery}
 use Rattle.review_words.specs.declared.command.ChangeQuery.TheVariants.{Change, Requirements, Threads, Attention}
-use Rattle.review_routes.specs.Parts.{name_at, account_at, change_at}
-use Rattle.review_routes.specs.{Reviews.patch_in, declared.route.ChangeRoute.ChangeRoute}
-use Rattle.review_routes.specs.declared.route.ChangeRoute.TheVariants.{Upload, Review, AddReviewer, RemoveReviewer, SetWip, SetReady, Abandon, Restore, AddAttention, RemoveAttention}
-use Rattle.review_routes.specs.declared.route.Route.{Route}
-use Rattle.review_routes.specs.declared.route.Route.TheVariants.{CreateAccount, PutGroup, PutProject, RecordBase, CreateChange, OnChange, Submit, CloseEpoch, Branch, AskChange}
+use Rattle.review_json_routes.specs.Parts.{name_at, account_at, change_at}
+use Rattle.review_json_routes.specs.{Reviews.patch_in, declared.route.ChangeRoute.ChangeRoute}
+use Rattle.review_json_routes.specs.declared.route.ChangeRoute.TheVariants.{Upload, Review, AddReviewer, RemoveReviewer, SetWip, SetReady, Abandon, Restore, AddAttention, RemoveAttention}
+use Rattle.review_json_routes.specs.declared.route.Route.{Route}
+use Rattle.review_json_routes.specs.declared.route.Route.TheVariants.{CreateAccount, PutGroup, PutProject, RecordBase, CreateChange, OnChange, Submit, CloseEpoch, Branch, AskChange}
 
 -- what a question of the name asks of a change
 unfoldable pub change_query_named : List ℕ → Option ChangeQuery

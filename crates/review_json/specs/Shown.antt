@@ -2,27 +2,11 @@
 use Rattle.std.specs.Prelude.{ℕ, List, map, codes, Option, Some, None}
 use Rattle.serde_json.specs.Data.{Data, boolean, number, string, array, object, Items, Members, no_members, member}
 use Rattle.serde_json.specs.{Find.of_integer, View.items_of}
-use Rattle.review_words.specs.declared.shown.{JoinedChange.JoinedChange, ShownCall.ShownCall, ShownChange.ShownChange}
-use Rattle.review_words.specs.declared.shown.{ShownComment.ShownComment, ShownRequirement.ShownRequirement}
-use Rattle.review_words.specs.declared.shown.{ShownVote.ShownVote, State.State}
-use Rattle.review_words.specs.declared.shown.State.TheVariants.{New, Merged, Abandoned}
-use Rattle.review_words.specs.declared.shown.Status.{Status}
-use Rattle.review_words.specs.declared.shown.Status.TheVariants.{NotApplicable, Overridden, Satisfied, Unsatisfied}
-use Rattle.review_words.specs.declared.shown.Thread.{Thread}
+use Rattle.review_words.specs.States.{state_name, status_name}
+use Rattle.review_words.specs.declared.shown.{JoinedChange.JoinedChange, ShownAttentionEntry.ShownAttentionEntry}
+use Rattle.review_words.specs.declared.shown.{ShownChange.ShownChange, ShownComment.ShownComment}
+use Rattle.review_words.specs.declared.shown.{ShownRequirement.ShownRequirement, ShownVote.ShownVote, Thread.Thread}
 use Rattle.review_json.specs.Values.{number_data, numbers_data}
-
--- the name of where a change stands
-abbrev pub state_name : State → List ℕ
-state_name New = codes "NEW"
-state_name Merged = codes "MERGED"
-state_name Abandoned = codes "ABANDONED"
-
--- the name of how a submit requirement stands
-abbrev pub status_name : Status → List ℕ
-status_name NotApplicable = codes "NOT_APPLICABLE"
-status_name Overridden = codes "OVERRIDDEN"
-status_name Satisfied = codes "SATISFIED"
-status_name Unsatisfied = codes "UNSATISFIED"
 
 -- a vote
 abbrev pub vote_data : ShownVote → Data
@@ -118,12 +102,12 @@ abbrev pub threads_data : List Thread → Items
 threads_data threads = items_of (map thread_data threads)
 
 -- that an account is in the attention set
-abbrev pub call_data : ShownCall → Data
-call_data call =
+abbrev pub attention_entry_data : ShownAttentionEntry → Data
+attention_entry_data call =
     object (member (codes "account") (number_data call.account)
     (member (codes "reason") (string call.reason)
     (member (codes "request") (number_data call.request) no_members)))
 
 -- an attention set in its order
-abbrev pub calls_data : List ShownCall → Items
-calls_data calls = items_of (map call_data calls)
+abbrev pub attention_data : List ShownAttentionEntry → Items
+attention_data calls = items_of (map attention_entry_data calls)

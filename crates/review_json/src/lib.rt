@@ -1,12 +1,15 @@
-//! Deliveries and answers as JSON, over the routes of `review_routes`.
+//! Deliveries and answers as JSON, over the routes of `review_json_routes`.
 //!
-//! A delivery is a line such as `{"caller":1,"id":"a1","do":"CreateAccount","body":{"name":"ann"}}`, or for a query
+//! A delivery is a line such as `{"caller":1,"id":"a1","do":"CreateAccount","body":{"name":"ann"}}`, or for a question
 //! `{"caller":1,"do":"Branch","project":"tools","branch":"main"}`, and the answer to it a text such as `{"account":2}`,
-//! `{"bases":[],"joined":[]}` or `[{"name":"Code-Review","status":"SATISFIED"}]`. `delivery_of_line` gives the delivery that
-//! a line spells, and refuses a line exactly where it spells none, by the JSON reader's own definition of what a text
-//! spells. `answer_text` gives the compact text of an answer, with the members in the order of their keys.
+//! `{"bases":[],"joined":[]}` or `[{"name":"Code-Review","status":"SATISFIED"}]`.
 //!
-//! A law of lines and bodies stands as the contract of a call that does nothing: the comments that they spell go by the bytes of their places.
+//! - **Proved**: [`delivery_of_line`] gives the delivery that a line spells, and refuses a line exactly where it spells none;
+//!   [`answer_text`] is the compact text of an answer, members in the order of their keys; the comments that lines and bodies spell go by
+//!   the bytes of their places ([`comments_go_by_place`]).
+//! - **Assumed**: nothing beyond the kit.
+//! - **Only tested**: `word_scripts`, `scripts/desk.txt`.
+//! - **Must not know**: readers, shelves or HTTP.
 #![tactic(auto)]
 
 pub mod answer;
@@ -20,4 +23,4 @@ mod values;
 pub use answer::answer_text;
 pub use laws::comments_go_by_place;
 pub use line::delivery_of_line;
-pub use review_routes::BadBody;
+pub use review_json_routes::BadBody;

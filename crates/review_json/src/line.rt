@@ -1,10 +1,10 @@
 //! The delivery that a line spells.
 ghost use Rattle.serde_json.specs.View.{view};
-ghost use Rattle.review_routes.specs.Parts.{Gives};
+ghost use Rattle.review_json_routes.specs.Parts.{Gives};
 ghost use Rattle.review_json.specs.Line.{command_in_line, write_in, read_in, delivery_in, delivery_spelled};
 
 use crate::routes::route_named;
-use review_routes::{
+use review_json_routes::{
     BadBody, Route, account_at, command_in, epoch_or_first, is_question, name_at, query_of,
     text_at, value_of,
 };

@@ -2,42 +2,22 @@
 ghost use Rattle.std.specs.Prelude.{◌≡◌, OnOk, Some};
 ghost use Rattle.json.specs.Tree.{members_tokens};
 ghost use Rattle.serde_json.specs.{Data.string, Written.members_outline};
-ghost use Rattle.review_json.specs.Shown.{state_name, status_name, vote_data, first_members, last_members, change_data, joined_change_data, requirement_data, with_answered, words_members, comment_data, thread_data, call_data};
+ghost use Rattle.review_words.specs.States.{state_name, status_name};
+ghost use Rattle.review_json.specs.Shown.{vote_data, first_members, last_members, change_data, joined_change_data, requirement_data, with_answered, words_members, comment_data, thread_data, attention_entry_data};
 ghost use Rattle.review_json.specs.Tokens.{HasPut};
 
 use crate::text::{JsonText, Written};
 use review_words::{
-    CommentNo, JoinedChange, ShownCall, ShownChange, ShownComment, ShownRequirement, ShownVote,
-    State, Status, Thread,
+    CommentNo, JoinedChange, ShownAttentionEntry, ShownChange, ShownComment, ShownRequirement,
+    ShownVote, State, Status, Thread,
 };
 use std::alloc::AllocError;
-
-fn state_name(state: State) -> &'static str
-    ensures { result.now ≡ state_name state }
-{
-    match state {
-        State::New => "NEW",
-        State::Merged => "MERGED",
-        State::Abandoned => "ABANDONED",
-    }
-}
 
 impl Written for State {
     ghost value_of = { λ state. string (state_name state) };
 
     fn write_to(&self, text: &mut JsonText) -> Result<(), AllocError> {
-        text.text(state_name(*self))
-    }
-}
-
-fn status_name(status: Status) -> &'static str
-    ensures { result.now ≡ status_name status }
-{
-    match status {
-        Status::NotApplicable => "NOT_APPLICABLE",
-        Status::Overridden => "OVERRIDDEN",
-        Status::Satisfied => "SATISFIED",
-        Status::Unsatisfied => "UNSATISFIED",
+        text.text(self.name())
     }
 }
 
@@ -45,7 +25,7 @@ impl Written for Status {
     ghost value_of = { λ status. string (status_name status) };
 
     fn write_to(&self, text: &mut JsonText) -> Result<(), AllocError> {
-        text.text(status_name(*self))
+        text.text(self.name())
     }
 }
 
@@ -185,8 +165,8 @@ impl Written for Thread {
     }
 }
 
-impl Written for ShownCall {
-    ghost value_of = { call_data };
+impl Written for ShownAttentionEntry {
+    ghost value_of = { attention_entry_data };
 
     fn write_to(&self, text: &mut JsonText) -> Result<(), AllocError> {
         text.begin_object()?;

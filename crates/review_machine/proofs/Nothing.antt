@@ -1,8 +1,8 @@
 -- From the desk of no request, in memory.
 use Rattle.std.proofs.Common.{ℕ, List, [], Option, Result}
-use Rattle.review_rows.specs.{Rows.Tables, Shelf.in_memory, View.IsView}
-use Rattle.review_deliveries.specs.Delivered.{WasRun}
-use Rattle.review_lines.specs.{Answers.WereAnswered, declared.fault.Fault.Fault, declared.fault.Outcome.Outcome}
+use Rattle.review_machine_rows.specs.{Rows.Tables, Shelf.in_memory, View.IsView}
+use Rattle.review_machine_deliveries.specs.Delivered.{WasRun}
+use Rattle.review_json_lines.specs.{Answers.WereAnswered, declared.fault.Fault.Fault, declared.fault.Outcome.Outcome}
 use Rattle.review_machine.specs.Memory.{RanFromNothing, RunsFromNothing}
 
 -- a run from its tables is one from the history of no request

@@ -2,12 +2,11 @@
 use Rattle.std.specs.Io.KnownBytes.{Appends}
 use Rattle.std.specs.Prelude.{◌≡◌, ◌⊎◌, ℕ, List, [], Option, Result, Err}
 use Rattle.review_words.specs.declared.{command.Delivery.Delivery, reply.Reply.Reply}
-use Rattle.review_rows.specs.{Rows.Tables, Shelf.in_memory, View.IsView}
-use Rattle.review_ancestors.specs.Sound.{AreSoundProjects}
-use Rattle.review_branch_laws.specs.Sound.{AreSoundBranches}
-use Rattle.review_deliveries.specs.{Delivered.CountsVotesOnce, Replies.IsRun, Replies.history_after}
-use Rattle.review_lines.specs.{Answers.WereAnswered, declared.fault.Fault.Fault, declared.fault.Outcome.Outcome}
-use Rattle.review_lines.specs.declared.fault.Fault.TheVariants as fault
+use Rattle.review_machine_rows.specs.{Rows.Tables, Shelf.in_memory, View.IsView}
+use Rattle.review_machine_laws.specs.{SoundBranches.AreSoundBranches, SoundProjects.AreSoundProjects}
+use Rattle.review_machine_deliveries.specs.{Delivered.CountsVotesOnce, Replies.IsRun, Replies.history_after}
+use Rattle.review_json_lines.specs.{Answers.WereAnswered, declared.fault.Fault.Fault, declared.fault.Outcome.Outcome}
+use Rattle.review_json_lines.specs.declared.fault.Fault.TheVariants as fault
 
 -- there was no memory for a desk, and nothing was written
 abbrev pub HadNoMemory : Option (List ℕ) → Option (List ℕ) → Result Outcome Fault → Type 0

@@ -1,10 +1,10 @@
 //! Deliveries by the line.
-ghost use Rattle.review_deliveries.specs.Delivered.{WasRun};
-ghost use Rattle.review_lines.specs.Answers.{WereAnswered};
+ghost use Rattle.review_machine_deliveries.specs.Delivered.{WasRun};
+ghost use Rattle.review_json_lines.specs.Answers.{WereAnswered};
 
 use crate::rules::DeskRules;
-use review_lines::{Fault, Outcome};
-use review_rows::Shelf;
+use review_json_lines::{Fault, Outcome};
+use review_machine_rows::Shelf;
 use std::alloc::Global;
 use std::io::{Read, Write};
 
@@ -34,5 +34,5 @@ pub fn apply_lines<R: Read, W: Write, S: Shelf>(
 ) -> Result<Outcome, Fault>
     ensures { WereAnswered (λ ds replies. WasRun ds replies (S.state shelf.old) (S.state shelf.new)) (R.remaining reader.old) (W.contents writer.old) (W.contents writer.new) result }
 {
-    review_lines::apply_lines(alloc, reader, writer, shelf, &mut DeskRules::new(alloc))
+    review_json_lines::apply_lines(alloc, reader, writer, shelf, &mut DeskRules::new(alloc))
 }

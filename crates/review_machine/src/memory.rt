@@ -2,8 +2,8 @@
 ghost use Rattle.review_machine.specs.Memory.{RanInMemory};
 
 use crate::apply::apply_lines;
-use review_lines::{Fault, Outcome};
-use review_shelves::MemoryShelf;
+use review_json_lines::{Fault, Outcome};
+use review_memory::MemoryShelf;
 use std::alloc::Global;
 use std::io::{Read, Write};
 use std::mem::forget;

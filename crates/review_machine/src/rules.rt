@@ -1,11 +1,11 @@
 //! The decisions as rules.
 use crate::decisions::decide;
-use review_deliveries::Rules;
-use review_effective::FileMemo;
 use review_file::ProjectFile;
-use review_needs::{next_need, read_file_for};
-use review_questions::show;
-use review_rows::{Delta, Matter, Need, Rows, Step};
+use review_file_lines::FileMemo;
+use review_machine_deliveries::Rules;
+use review_machine_needs::{next_need, read_file_for};
+use review_machine_rows::{Delta, Matter, Need, Rows, Step};
+use review_machine_submits::show;
 use review_words::{AccountNo, Command, Epoch, NotTaken, Query, Reply};
 use std::alloc::{AllocError, Global};
 
@@ -28,13 +28,13 @@ impl Rules for DeskRules {
     fn next_need(
         &mut self,
         alloc: Global,
-        read: Option<&ProjectFile>,
+        effective: Option<&ProjectFile>,
         rows: &Rows,
         caller: AccountNo,
         matter: Matter<'_>,
         come: &mut Step,
     ) -> Result<Option<Need>, AllocError> {
-        next_need(alloc, &mut self.memo, read, rows, caller, matter, come)
+        next_need(alloc, &mut self.memo, effective, rows, caller, matter, come)
     }
 
     fn read(
@@ -49,23 +49,31 @@ impl Rules for DeskRules {
     fn decide(
         &mut self,
         alloc: Global,
-        read: Option<&ProjectFile>,
+        effective: Option<&ProjectFile>,
         rows: &Rows,
         caller: AccountNo,
         epoch: Epoch,
         command: &Command,
     ) -> Result<(Delta, Reply), NotTaken> {
-        decide(alloc, &mut self.memo, read, rows, caller, epoch, command)
+        decide(
+            alloc,
+            &mut self.memo,
+            effective,
+            rows,
+            caller,
+            epoch,
+            command,
+        )
     }
 
     fn show(
         &mut self,
         alloc: Global,
-        read: Option<&ProjectFile>,
+        effective: Option<&ProjectFile>,
         rows: &Rows,
         caller: AccountNo,
         query: &Query,
     ) -> Result<Reply, NotTaken> {
-        show(alloc, read, rows, caller, query)
+        show(alloc, effective, rows, caller, query)
     }
 }

@@ -5,8 +5,8 @@ ghost use Rattle.std.specs.Prelude.{◌≡◌, ◌==◌, ℕ, List, Bool, Some, 
 ghost use Rattle.std.specs.Rc.{rc_str_bytes};
 ghost use Rattle.std.specs.Cmp as Cmp;
 
+use crate::Key;
 use crate::names::BadName;
-use review_key::Key;
 use std::alloc::{AllocError, Global};
 use std::cmp::Ordering;
 use std::marker::{Model, PhantomData};
@@ -71,7 +71,7 @@ impl<F: Form> Name<F> {
         self.text.as_str()
     }
 
-    /// The same name once more, which shares the text and takes no memory. An error where there are
+    /// A copy of the name, which shares its text and takes no memory. An error where there are
     /// as many copies as can be counted.
     pub fn copy(&self, _alloc: Global) -> Result<Name<F>, AllocError>
         ensures { IfOk result (λ n. n ≡ self.now) }

@@ -87,7 +87,7 @@ impl Paths {
         Ok(Paths { paths: sorted })
     }
 
-    /// The same paths once more. An error where there was no memory for them.
+    /// A copy of these paths. An error where there was no memory for them.
     pub fn copy(&self, alloc: Global) -> Result<Paths, AllocError>
         ensures { IfOk result (λ p. p ≡ self.now) }
     {

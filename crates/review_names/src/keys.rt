@@ -1,9 +1,9 @@
 //! Names and numbers as keys of tables.
 ghost use Rattle.std.specs.Prelude.{◌≡◌, IfOk};
 
+use crate::Key;
 use crate::changes::{ChangeNo, CommentNo, PatchNo};
 use crate::names::AccountNo;
-use review_key::Key;
 use std::alloc::{AllocError, Global};
 
 impl Key for AccountNo {

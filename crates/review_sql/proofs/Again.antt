@@ -3,10 +3,9 @@ use Rattle.std.proofs.Common.{◌≡◌, ◌≢◌, ◌⊎◌, inl, inr, ◌∙�
 use Rattle.std.proofs.lemmas.Option.{same_Some}
 use Rattle.sqlite.specs.{Effect.Database, Held.Held, Held.state, State.State}
 use Rattle.sqlite_trees.specs.declared.store.Store.{Ghosts}
-use Rattle.review_statements.specs.Ran.{IsReady}
-use Rattle.review_tables.specs.{Versions.schema_at, declared.versions.TablesVersion.TablesVersion}
-use Rattle.review_tables.specs.declared.versions.TablesVersion.TheVariants.{First, Second, Third}
-use Rattle.review_transactions.specs.{Numbers.IsDesk, declared.numbers.Numbers.Numbers}
+use Rattle.review_sql_tables.specs.{Ran.IsReady, Versions.schema_at, declared.versions.TablesVersion.TablesVersion}
+use Rattle.review_sql_tables.specs.declared.versions.TablesVersion.TheVariants.{First, Second, Third}
+use Rattle.review_sql_writes.specs.{Numbers.IsDesk, declared.numbers.Numbers.Numbers}
 use Rattle.review_sql.proofs.Saying.{desk_says, never_earlier, never_no_desk, never_other_version, never_there_earlier}
 use Rattle.review_sql.proofs.Shown.{stays}
 use Rattle.review_sql.specs.Migrated.{IsNotMigrated, IsUnfit}

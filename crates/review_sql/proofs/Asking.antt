@@ -14,7 +14,7 @@ use Rattle.sqlite_syntax.specs.declared.statement.Parsed.{Parsed}
 use Rattle.sqlite_tied.specs.Compute.{everything}
 use Rattle.sqlite_trees.specs.Tree.{Trees}
 use Rattle.sqlite_value.specs.Order.{Row}
-use Rattle.review_statements.specs.declared.texts.TheConstants.{FIND_DESK, FIND_EPOCHS}
+use Rattle.review_sql_tables.specs.declared.texts.TheConstants.{FIND_DESK, FIND_EPOCHS}
 use Rattle.review_sql.specs.{Said.ShowsRows, Shelf.Stays}
 use Rattle.sqlite_ast.specs.declared.Statement.TheVariants as written
 use Rattle.sqlite_ast.specs.declared.Select as written_select

@@ -2,15 +2,14 @@
 use Rattle.std.proofs.Common.{◌≡◌, ◌∙◌, inl, inr, ℕ, ◌+◌, ◌<◌, Bool, true, false, List, take, get_or, length, None, Result, Ok, Err, refl, sym, subst}
 use Rattle.sqlite.specs.{Held.Held, Held.state, State.State, declared.error.Error.Error}
 use Rattle.sqlite_trees.specs.{Tree.Trees, declared.store.Store.Ghosts}
-use Rattle.review_statements.specs.Ran.{Looks}
-use Rattle.review_tables.proofs.Found.{look_on, look_both}
-use Rattle.review_rows.proofs.Looked.{asked_more, looked_agrees}
-use Rattle.review_rows.specs.Known.{AreAsked, Agrees, known}
-use Rattle.review_rows.specs.declared.rows.{Rows.Rows, Want.Want}
-use Rattle.review_database.specs.{Loads.HasLearnt, Loads.Sees, Tables.tables_at, declared.sights.Sight.Sight}
-use Rattle.review_lookups.specs.{Counts.AreBounded, Counts.SeesBounded, declared.counts.Counts.Counts}
+use Rattle.review_sql_tables.{proofs.Found.look_on, proofs.Found.look_both, specs.Ran.Looks}
+use Rattle.review_machine_rows.proofs.Looked.{asked_more, looked_agrees}
+use Rattle.review_machine_rows.specs.Known.{AreAsked, Agrees, known}
+use Rattle.review_machine_rows.specs.declared.rows.{Rows.Rows, Want.Want}
+use Rattle.review_sql_lookups.specs.{Counts.AreBounded, Counts.SeesBounded, Loads.HasLearnt, Loads.Sees}
+use Rattle.review_sql_lookups.specs.{Tables.tables_at, declared.counts.Counts.Counts, declared.sights.Sight.Sight}
 use Rattle.review_sql.specs.Loading.{LooksIf, LooksOnce, WereSeen}
-use Rattle.review_database.specs.declared.sights.Sight.TheVariants as sight
+use Rattle.review_sql_lookups.specs.declared.sights.Sight.TheVariants as sight
 
 -- what rows know is so, and what is known of counts, where what was known is so
 abbrev pub Have : Rows → Counts → Counts → Trees → Unit {0} → Type 0

@@ -2,12 +2,12 @@
 use Rattle.std.proofs.Common.{◌≡◌, List, Ok, Err, refl, sym, subst}
 use Rattle.std.specs.Prelude.{Result, IfOk}
 use Rattle.sqlite.specs.{State.State, declared.error.Error.Error}
-use Rattle.review_statements.specs.Ran.{Serves}
-use Rattle.review_rows.specs.{Known.AreAsked, declared.rows.Rows.Rows, declared.rows.Want.Want}
-use Rattle.review_database.specs.{Loads.WereAsked, declared.sights.Loaded.Loaded, declared.sights.Sight.Sight}
-use Rattle.review_lookups.specs.declared.counts.Counts.{Counts}
+use Rattle.review_sql_tables.specs.Ran.{Serves}
+use Rattle.review_machine_rows.specs.{Known.AreAsked, declared.rows.Rows.Rows, declared.rows.Want.Want}
+use Rattle.review_sql_lookups.specs.Loads.{WereAsked}
+use Rattle.review_sql_lookups.specs.declared.{counts.Counts.Counts, sights.Loaded.Loaded, sights.Sight.Sight}
 use Rattle.review_sql.specs.Loading.{AreLoadedBounded, WereSeen, loaded_by}
-use Rattle.review_database.specs.declared.sights.Sight.TheVariants as sight
+use Rattle.review_sql_lookups.specs.declared.sights.Sight.TheVariants as sight
 
 on_loaded : (rows : Rows) (known more : Counts) (old new : State) (r : Result Sight Error) → Serves (WereSeen rows known more) old new r → Serves (AreLoadedBounded known more) old new (loaded_by rows r)
 on_loaded rows known more old new (Ok sight.Learnt) it = record { found = it.found; undone = it.undone; survives = it.survives }

@@ -2,12 +2,11 @@
 use Rattle.std.proofs.Common.{◌≡◌, ◌≢◌, ◌⊎◌, inl, inr, List, IsTrue, refl, sym, subst, arith}
 use Rattle.sqlite.specs.{Effect.Database, Effect.IsDatabase, State.State, State.IsLive}
 use Rattle.sqlite_trees.specs.declared.store.Store.{Ghosts}
-use Rattle.review_statements.proofs.OneSchema.{one_schema}
-use Rattle.review_statements.specs.{Desk.desk_schema, Desk.schema_0, Ran.IsReady}
 use Rattle.review_words.specs.History.{Entry}
-use Rattle.review_tables.specs.Made.{IsBlank}
-use Rattle.review_rows.{proofs.Readings.reading_of, specs.Answer.IsHistory, specs.View.IsView}
-use Rattle.review_database.specs.Tables.{tables_at}
+use Rattle.review_sql_tables.proofs.OneSchema.{one_schema}
+use Rattle.review_sql_tables.specs.{Desk.desk_schema, Desk.schema_0, Made.IsBlank, Ran.IsReady}
+use Rattle.review_machine_rows.{proofs.Readings.reading_of, specs.Answer.IsHistory, specs.View.IsView}
+use Rattle.review_sql_lookups.specs.Tables.{tables_at}
 use Rattle.review_sql.proofs.{Again.cause_left, Again.unfit_left, Shown.ready_ours}
 use Rattle.review_sql.specs.{Left.MakesOurs, Left.StopLeavesDesk, Migrated.IsUnfit, Opened.IsRefused}
 use Rattle.review_sql.specs.{Shelf.AreLeftOfOurs, Shelf.AreOurs, Shelf.no_tables, declared.faults.DeskFault.DeskFault}

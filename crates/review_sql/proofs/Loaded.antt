@@ -2,16 +2,16 @@
 use Rattle.std.proofs.Common.{◌≡◌, Bool, List, Option, Ok, IfOk, IsTrue, subst, sym}
 use Rattle.sqlite.specs.{Effect.Database, Held.Held, Held.state, State.HasCleanDisk}
 use Rattle.sqlite_trees.specs.declared.store.Store.{Ghosts}
-use Rattle.review_statements.specs.Ran.{Serves}
-use Rattle.review_rows.specs.{Known.Agrees, Known.AreAsked, Rows.Tables}
-use Rattle.review_rows.specs.Shelf.{BlamesTables, IsDamaged, KeepsTables, Shows}
-use Rattle.review_rows.specs.declared.rows.Want.{Want}
-use Rattle.review_database.specs.{Loads.AreLoaded, Loads.WereAsked, Tables.tables_at, declared.sights.Loaded.Loaded}
-use Rattle.review_lookups.specs.{Counts.AreBounded, declared.counts.Counts.Counts}
-use Rattle.review_transactions.specs.declared.numbers.Numbers.{Numbers}
+use Rattle.review_sql_tables.specs.Ran.{Serves}
+use Rattle.review_machine_rows.specs.{Known.Agrees, Known.AreAsked, Rows.Tables}
+use Rattle.review_machine_rows.specs.Shelf.{BlamesTables, IsDamaged, KeepsTables, Shows}
+use Rattle.review_machine_rows.specs.declared.rows.Want.{Want}
+use Rattle.review_sql_lookups.specs.{Counts.AreBounded, Loads.AreLoaded, Loads.WereAsked, Tables.tables_at}
+use Rattle.review_sql_lookups.specs.declared.{counts.Counts.Counts, sights.Loaded.Loaded}
+use Rattle.review_sql_writes.specs.declared.numbers.Numbers.{Numbers}
 use Rattle.review_sql.proofs.Shown.{desk_if_open, same_shown, shown_now}
 use Rattle.review_sql.specs.{Loading.AreLoadedBounded, Shelf.Holds, Shelf.KnowsCounts, Shelf.answer_of, Shelf.tables_of}
-use Rattle.review_database.specs.declared.sights.Loaded.TheVariants as loaded
+use Rattle.review_sql_lookups.specs.declared.sights.Loaded.TheVariants as loaded
 
 pub was_asked : (wants : List Want) (found : Loaded) → WereAsked wants found → IfOk (answer_of found) (AreAsked wants)
 was_asked wants (loaded.Rows rows) asked = asked

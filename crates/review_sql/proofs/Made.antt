@@ -3,10 +3,9 @@ use Rattle.std.proofs.Common.{◌≡◌, ◌∙◌, ◌⊎◌, inl, inr, Bool, S
 use Rattle.sqlite.{proofs.StateLemmas.survives_then, specs.Effect.Database}
 use Rattle.sqlite.specs.{Held.Held, Held.state, State.State, State.HasCleanDisk, declared.error.Error.Error}
 use Rattle.sqlite_trees.specs.{Tree.Trees, declared.store.Store.Ghosts}
-use Rattle.review_statements.specs.{Desk.schema_0, Ran.Transacts, Ran.IsReady}
-use Rattle.review_tables.specs.Made.{IsBlank}
-use Rattle.review_database.specs.Tables.{tables_at}
-use Rattle.review_transactions.specs.{First.MakesDesk, Numbers.IsDesk}
+use Rattle.review_sql_tables.specs.{Desk.schema_0, Made.IsBlank, Ran.Transacts, Ran.IsReady}
+use Rattle.review_sql_lookups.specs.Tables.{tables_at}
+use Rattle.review_sql_writes.specs.{First.MakesDesk, Numbers.IsDesk}
 use Rattle.review_sql.proofs.{Saying.never_shown, Shown.of_ours, Shown.ready_ours}
 use Rattle.review_sql.specs.{Created.IsCreated, Opened.IsOpened, Opened.IsRefused, Opened.IsSeen}
 use Rattle.review_sql.specs.Shelf.{AreOurs, Holds, IsAnyThere, IsUnmade, Stays}

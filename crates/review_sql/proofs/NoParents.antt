@@ -3,18 +3,19 @@ use Rattle.std.proofs.Common.{◌≡◌, ◌&&◌, ℕ, List, [], ◌∷◌, cod
 use Rattle.std.specs.{List.AllByRecursion, Option.option_map_or}
 use Rattle.std.specs.{Prelude.MatchOption, Prelude.length, Prelude.nat_lt, Prelude.option_and_then, Str.bytes_eq}
 use Rattle.toml.specs.{Data.Data, Data.Members, Data.as_str, Data.table, Data.get, Parse.parse_document}
-use Rattle.review_document.specs.Limits.{most_bytes}
+use Rattle.review_file_document.specs.Limits.{most_bytes}
 use Rattle.review_words.specs.History.{Entry, asking_of, file_text, if_done, text_put}
 use Rattle.review_words.specs.declared.command.Command.{Command}
 use Rattle.review_words.specs.declared.command.Command.TheVariants.{CreateAccount, PutGroup, PutProject, RecordBase, CreateChange, OnChange, Submit, CloseEpoch}
 use Rattle.review_words.specs.declared.faults.FileFault.TheVariants.{UnknownKey}
 use Rattle.review_words.specs.declared.reply.{Answer.Answer, Refusal.Refusal, Refusal.TheVariants.BadFile, Reply.Reply}
 use Rattle.review_words.specs.declared.reply.Reply.TheVariants.{Done, Refused, IdentityReused, EpochClosed, NotTaken}
-use Rattle.review_project.specs.{Reading.has_parent_key, Reading.named_parent, Spelled.parent_in, Spelled.project_name}
-use Rattle.review_rows.proofs.Readings.{reading_of}
-use Rattle.review_rows.specs.Answer.{IsAnswerIn, IsAnswerWithoutParents, IsHistory, refused_by}
-use Rattle.review_rows.specs.Changes.{own_of, placed}
-use Rattle.review_records.specs.Forms.{file_without_parent}
+use Rattle.review_file_rules.specs.Reading.{has_parent_key, named_parent}
+use Rattle.review_file_rules.specs.Spelled.{parent_in, project_name}
+use Rattle.review_machine_rows.proofs.Readings.{reading_of}
+use Rattle.review_machine_rows.specs.Answer.{IsAnswerIn, IsAnswerWithoutParents, IsHistory, refused_by}
+use Rattle.review_machine_rows.specs.Changes.{own_of, placed}
+use Rattle.review_sql_records.specs.Forms.{file_without_parent}
 
 -- a document without the key names no parent
 unnamed : (d : Data) → is_some (get (codes "parent") d) ≡ false → parent_in d ≡ None

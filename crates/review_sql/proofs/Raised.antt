@@ -6,17 +6,16 @@ use Rattle.sqlite.specs.{Effect.Database, Held.Held, Held.state, Listing.listing
 use Rattle.sqlite.specs.{State.State, State.HasCleanDisk, State.Survives, declared.error.Error.Error}
 use Rattle.sqlite_tied.specs.Compute.{everything}
 use Rattle.sqlite_trees.specs.{Tree.Trees, declared.store.Store.Ghosts}
-use Rattle.review_statements.specs.{Content.Then, Desk.desk_schema}
-use Rattle.review_statements.specs.Ran.{Inside, Looks, OnDesk, Transacts, Within}
-use Rattle.review_statements.specs.declared.texts.TheConstants.{FIND_ANSWER}
 use Rattle.review_words.specs.History.{Entry}
-use Rattle.review_tables.proofs.{Migrated.apart_after, Sequences.Next, Sequences.follow, Sequences.settled_as}
-use Rattle.review_tables.specs.{Migrated.Migrates, Versions.schema_at, Versions.version_of}
-use Rattle.review_tables.specs.declared.versions.EarlierVersion.{EarlierVersion}
-use Rattle.review_tables.specs.declared.versions.TablesVersion.{TablesVersion, TheVariants.Third}
-use Rattle.review_rows.specs.View.{IsView}
-use Rattle.review_database.specs.{EarlierTables.tables_in, Tables.tables_at}
-use Rattle.review_transactions.specs.{Changes.SetsDesk, Changes.SetsLeast, declared.numbers.Numbers.Numbers}
+use Rattle.review_sql_tables.proofs.{Migrated.apart_after, Sequences.Next, Sequences.follow, Sequences.settled_as}
+use Rattle.review_sql_tables.specs.{Desk.desk_schema, Migrated.Migrates}
+use Rattle.review_sql_tables.specs.Ran.{Inside, Looks, OnDesk, Transacts, Within}
+use Rattle.review_sql_tables.specs.{Versions.schema_at, Versions.version_of, declared.texts.TheConstants.FIND_ANSWER}
+use Rattle.review_sql_tables.specs.declared.versions.{EarlierVersion.EarlierVersion, TablesVersion.TablesVersion}
+use Rattle.review_sql_tables.specs.{declared.versions.TablesVersion.TheVariants.Third, inner.Words.Then}
+use Rattle.review_machine_rows.specs.View.{IsView}
+use Rattle.review_sql_lookups.specs.{EarlierTables.tables_in, Tables.tables_at}
+use Rattle.review_sql_writes.specs.{declared.numbers.Numbers.Numbers, inner.Changes.SetsDesk, inner.Changes.SetsLeast}
 use Rattle.review_sql.proofs.{Again.goes_on, Made.holds_opened, Made.is_opened}
 use Rattle.review_sql.proofs.Saying.{earlier_of_ours, first_least, not_ok}
 use Rattle.review_sql.proofs.{Shown.of_ours, Shown.ready_ours, Staying.stays_then}
@@ -26,7 +25,7 @@ use Rattle.review_sql.specs.Opened.{AreAllApart, AreApartIn, IsLacking, IsSeen}
 use Rattle.review_sql.specs.{Said.IsThere, Shelf.AreOurs, Shelf.Holds, Shelf.Stays, declared.faults.DeskFault.DeskFault}
 use Rattle.review_sql.specs.declared.faults.DeskFault.TheVariants.{NotADesk, WrongVersion, NotEmpty, NotOurs}
 use Rattle.review_sql.specs.declared.seen.Seen.{Seen}
-use Rattle.review_tables.specs.declared.versions.EarlierVersion.TheVariants as earlier
+use Rattle.review_sql_tables.specs.declared.versions.EarlierVersion.TheVariants as earlier
 
 -- what was looked at, as a step that changes nothing
 looked : {X : Type 0} (Found : Trees → X → Type 0) (a b : State) (x : X) → Looks Found a b (Ok x) → Within {X = X} (λ old new. old.schema ≡ desk_schema → (new ≡ old) × Found old.trees x) a b (Ok x)

@@ -4,13 +4,13 @@ use Rattle.std.specs.Prelude.{nat_lt}
 use Rattle.sqlite.specs.Held.{Held, state}
 use Rattle.sqlite_trees.specs.declared.store.Store.{Ghosts}
 use Rattle.review_words.specs.History.{Identity}
-use Rattle.review_rows.specs.Rows.{AnswerRow, Answered, Tables, kept_row}
-use Rattle.review_rows.specs.Shelf.{Answers, BlamesTables, IsDamaged, IsRecalled, KeepsTables, LeavesBy, Shows, Blames, cause_of}
-use Rattle.review_rows.specs.declared.rows.{Kept.Kept, Recalled.Recalled}
-use Rattle.review_rows.specs.declared.shelf.ShelfFault.{ShelfFault, TheVariants.Damaged}
-use Rattle.review_records.specs.Forms.{request_key}
-use Rattle.review_database.specs.Tables.{least_in, stored_as, tables_at}
-use Rattle.review_transactions.specs.{Numbers.IsDesk, declared.numbers.Numbers.Numbers}
+use Rattle.review_machine_rows.specs.Rows.{AnswerRow, Answered, Tables, kept_row}
+use Rattle.review_machine_rows.specs.Shelf.{Answers, BlamesTables, IsDamaged, IsRecalled, KeepsTables, LeavesBy, Shows, Blames, cause_of}
+use Rattle.review_machine_rows.specs.declared.rows.{Kept.Kept, Recalled.Recalled}
+use Rattle.review_machine_rows.specs.declared.shelf.ShelfFault.{ShelfFault, TheVariants.Damaged}
+use Rattle.review_sql_records.specs.Forms.{request_key}
+use Rattle.review_sql_lookups.specs.Tables.{least_in, stored_as, tables_at}
+use Rattle.review_sql_writes.specs.{Numbers.IsDesk, declared.numbers.Numbers.Numbers}
 use Rattle.review_sql.proofs.Shown.{odd_is_damage, shown_now}
 use Rattle.review_sql.specs.{LookedUp.IsLookedUp, LookedUp.IsLookedUpIn, Shelf.tables_of}
 use Rattle.review_sql.specs.declared.serving.LookedUp.{LookedUp, TheVariants.Closed, TheVariants.Open}

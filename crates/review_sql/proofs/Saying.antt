@@ -10,21 +10,21 @@ use Rattle.sqlite_schema.specs.declared.{command.Command.TheVariants.Select, sch
 use Rattle.sqlite_sql.specs.Term.{Term, col}
 use Rattle.sqlite_tied.specs.Compute.{everything}
 use Rattle.sqlite_value.specs.{Order.Row, Order.column, declared.value.Value.TheVariants.Null}
-use Rattle.review_statements.proofs.{Meaning.plain, Queries.passes, Queries.selects, Queries.shows}
-use Rattle.review_statements.specs.{Content.has_key, Desk.desk_schema, Desk.schema_0}
-use Rattle.review_statements.specs.{Search.only, Search.reads, Search.row_at, Texts.over_table}
-use Rattle.review_statements.specs.declared.texts.TheConstants.{FIND_DESK, FIND_EPOCHS, READ_ROWS}
 use Rattle.review_words.specs.Epochs.{is_epoch}
-use Rattle.review_tables.specs.Versions.{schema_at, version_number, version_of}
-use Rattle.review_tables.specs.declared.versions.{EarlierVersion.EarlierVersion, TablesVersion.TablesVersion}
-use Rattle.review_tables.specs.declared.versions.TablesVersion.TheVariants.{First, Second, Third}
-use Rattle.review_records.specs.Forms.{desk, desk_row, epochs, first_epoch, where_is}
-use Rattle.review_records.specs.declared.rows.DeskRow.{DeskRow}
-use Rattle.review_database.specs.EarlierTables.{IsEarlierDesk}
-use Rattle.review_transactions.specs.{Numbers.IsDesk, declared.numbers.Numbers.Numbers}
+use Rattle.review_sql_tables.proofs.{Meaning.plain, Queries.passes, Queries.selects, Queries.shows}
+use Rattle.review_sql_tables.specs.{Content.has_key, Desk.desk_schema, Desk.schema_0}
+use Rattle.review_sql_tables.specs.{Search.only, Search.reads, Search.row_at, Texts.over_table}
+use Rattle.review_sql_tables.specs.Versions.{schema_at, version_number, version_of}
+use Rattle.review_sql_tables.specs.declared.texts.TheConstants.{FIND_DESK, FIND_EPOCHS, READ_ROWS}
+use Rattle.review_sql_tables.specs.declared.versions.{EarlierVersion.EarlierVersion, TablesVersion.TablesVersion}
+use Rattle.review_sql_tables.specs.declared.versions.TablesVersion.TheVariants.{First, Second, Third}
+use Rattle.review_sql_records.specs.Forms.{desk, desk_row, epochs, first_epoch, where_is}
+use Rattle.review_sql_records.specs.declared.rows.DeskRow.{DeskRow}
+use Rattle.review_sql_lookups.specs.EarlierTables.{IsEarlierDesk}
+use Rattle.review_sql_writes.specs.{Numbers.IsDesk, declared.numbers.Numbers.Numbers}
 use Rattle.review_sql.specs.Said.{number_of_one, version_shown, requests_shown, ShowsDesk, ShowsEpochs, ShowsRows, IsDeskThere, IsThere, IsNoDesk, IsNone, IsOtherVersion, LacksDesk, least_shown, SaysLeast}
 use Rattle.review_sql.specs.Shelf.{AreAllRead, IsUnderstood}
-use Rattle.review_tables.specs.declared.versions.EarlierVersion.TheVariants as earlier
+use Rattle.review_sql_tables.specs.declared.versions.EarlierVersion.TheVariants as earlier
 
 -- ---- the texts over our form
 

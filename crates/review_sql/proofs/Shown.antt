@@ -3,18 +3,17 @@ use Rattle.std.proofs.Common.{◌≡◌, ◌≢◌, ◌∙◌, ◌⊎◌, inl, i
 use Rattle.std.proofs.lemmas.Bool.{cases_Bool}
 use Rattle.sqlite.specs.{Effect.Database, Held.Held, Held.state, State.HasCleanDisk, declared.error.Error.Error}
 use Rattle.sqlite_trees.specs.{Tree.Trees, declared.store.Store.Ghosts}
-use Rattle.review_statements.specs.Ran.{IsReady, IsDeskIfOpen, Serves, Transacts}
 use Rattle.review_words.specs.History.{Entry, Identity, is_same, is_closed}
-use Rattle.review_rows.proofs.Readings.{reading_of}
-use Rattle.review_rows.specs.Rows.{AnswerRow, Tables, OddAnswer, kept_row}
-use Rattle.review_rows.specs.Shelf.{Blames, LeavesBy, StaysOrShuts, Shows, IsCommitted, IsDamaged, cause_of}
-use Rattle.review_rows.specs.View.{stored_answer, kept_answer}
-use Rattle.review_rows.specs.declared.{rows.Delta.Delta, rows.Kept.Kept as Request, shelf.ShelfFault.ShelfFault}
-use Rattle.review_rows.specs.declared.shelf.ShelfFault.TheVariants.{Memory, Store, Damaged}
-use Rattle.review_database.specs.Tables.{tables_at}
-use Rattle.review_lookups.specs.{Counts.AreBounded, declared.counts.Counts.Counts}
-use Rattle.review_transactions.specs.Commits.{AreSingle, Commits}
-use Rattle.review_transactions.specs.{Numbers.IsDesk, Numbers.with_request, declared.numbers.Numbers.Numbers}
+use Rattle.review_sql_tables.specs.Ran.{IsReady, IsDeskIfOpen, Serves, Transacts}
+use Rattle.review_machine_rows.proofs.Readings.{reading_of}
+use Rattle.review_machine_rows.specs.Rows.{AnswerRow, Tables, OddAnswer, kept_row}
+use Rattle.review_machine_rows.specs.Shelf.{Blames, LeavesBy, StaysOrShuts, Shows, IsCommitted, IsDamaged, cause_of}
+use Rattle.review_machine_rows.specs.View.{stored_answer, kept_answer}
+use Rattle.review_machine_rows.specs.declared.{rows.Delta.Delta, rows.Kept.Kept as Request, shelf.ShelfFault.ShelfFault}
+use Rattle.review_machine_rows.specs.declared.shelf.ShelfFault.TheVariants.{Memory, Store, Damaged}
+use Rattle.review_sql_lookups.specs.{Counts.AreBounded, Tables.tables_at, declared.counts.Counts.Counts}
+use Rattle.review_sql_writes.specs.Commits.{AreSingle, Commits}
+use Rattle.review_sql_writes.specs.{Numbers.IsDesk, Numbers.with_request, declared.numbers.Numbers.Numbers}
 use Rattle.review_sql.specs.Shelf.{AreOurs, Holds, KnowsCounts, ShowsLeft, Stays, tables_of, stops_of}
 
 -- a stored request that is odd is one of no history

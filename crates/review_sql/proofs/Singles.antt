@@ -7,13 +7,14 @@ use Rattle.sqlite_schema.specs.Rules.{agree, differ}
 use Rattle.sqlite_trees.specs.Tree.{Trees, rowid}
 use Rattle.sqlite_value.specs.{Keys.plain, Keys.first_key, Order.column, Order.value_cmp}
 use Rattle.sqlite_value.specs.declared.value.Value.{Value, TheVariants.Int, TheVariants.Text}
-use Rattle.review_statements.specs.Content.{has_key, is_value, AreApart}
-use Rattle.review_statements.specs.Desk.{desk_schema, projects_2 as project_table, bases as base_table}
-use Rattle.review_statements.specs.{Ran.IsReady, Search.rows_at}
-use Rattle.review_tables.proofs.{Keys.int_is, Keys.itself, Single.equal_values, Single.differ_ids, Single.one_passes}
-use Rattle.review_rows.specs.declared.rows.PlaceKey.{PlaceKey}
-use Rattle.review_records.specs.Forms.{projects, bases}
-use Rattle.review_transactions.specs.Commits.{AreSingle}
+use Rattle.review_sql_tables.proofs.Keys.{int_is, itself}
+use Rattle.review_sql_tables.proofs.Single.{equal_values, differ_ids, one_passes}
+use Rattle.review_sql_tables.specs.Content.{has_key, is_value, AreApart}
+use Rattle.review_sql_tables.specs.Desk.{desk_schema, projects_2 as project_table, bases as base_table}
+use Rattle.review_sql_tables.specs.{Ran.IsReady, Search.rows_at}
+use Rattle.review_machine_rows.specs.declared.rows.PlaceKey.{PlaceKey}
+use Rattle.review_sql_records.specs.Forms.{projects, bases}
+use Rattle.review_sql_writes.specs.Commits.{AreSingle}
 
 -- a value that is a whole number equals it
 equal_whole : (v : Value) (n : ℤ) → is_value v (Int n) ≡ true → is_eq (value_cmp v (Int n)) ≡ true

@@ -5,31 +5,31 @@ use Rattle.std.specs.{Bool.Decides, List.AllByRecursion, List.list_any}
 use Rattle.sqlite.specs.Effect.{Database}
 use Rattle.sqlite_trees.specs.Tree.{Trees}
 use Rattle.sqlite_value.specs.{Order.Row as Raw, declared.value.Value.TheVariants.Text}
-use Rattle.review_statements.specs.{Content.AreApart, Content.Then, Desk.desk_schema, Desk.desk_tables, Desk.is_tree}
-use Rattle.review_statements.specs.Moved.{AreMoved, with_first_epoch, without_parent}
-use Rattle.review_statements.specs.{Ran.IsReady, Ran.OnDesk, Search.only, Search.reads, Search.row_at, Search.rows_at}
 use Rattle.review_words.specs.History.{Entry, Identity}
-use Rattle.review_tables.proofs.{ByTree.at_tree, Sequences.Next}
-use Rattle.review_tables.specs.Migrated.{AllMoved, Migrates}
-use Rattle.review_tables.specs.Versions.{is_new, schema_at, version_of}
-use Rattle.review_tables.specs.declared.versions.EarlierVersion.{EarlierVersion}
-use Rattle.review_changes.specs.Parts.{Part}
-use Rattle.review_rows.specs.Changes.{Reading, own_of}
-use Rattle.review_rows.specs.Rows.{Key, AccountKey, MemberKey, FileKey, BaseKey, PartKey, OddKey, Row, AccountRow, MemberRow, FileRow, BaseRow, OddRow, Count, Projects, BasesOf, ClosedEpochs}
-use Rattle.review_rows.specs.View.{IsViewBy, fact, counted, tables_version, kept_answer}
-use Rattle.review_rows.specs.declared.rows.StoredFile.{StoredFile}
-use Rattle.review_records.proofs.ReadAlike.{answer_moved, answers_keyed, file_moved, projects_counted, projects_keyed, answers_of_others}
-use Rattle.review_records.specs.Forms.{accounts, members, projects, bases, answers, earlier_answers, epochs, request_key, earlier_key, first_epoch}
-use Rattle.review_records.specs.Keyed.{answer_keyed, earlier_answer_keyed, project_keyed}
-use Rattle.review_records.specs.declared.rows.Answered.{Answered as Rest}
-use Rattle.review_change_records.specs.Forms.{headers, patches, votes, roles, comments, calls}
-use Rattle.review_database.specs.EarlierTables.{IsEarlierDesk, keyed_tables_in, projects_in, tables_in}
-use Rattle.review_database.specs.Tables.{answer_in, count_in, has_unkeyed, keyed_tables, number_of, row_in, stored_as, tables_at, told, least_in, version_in}
-use Rattle.review_transactions.{proofs.Edits.part_same, specs.Changes.SetsDesk, specs.Changes.SetsLeast}
-use Rattle.review_transactions.specs.{Numbers.IsDesk, declared.numbers.Numbers.Numbers}
+use Rattle.review_sql_tables.proofs.{ByTree.at_tree, Sequences.Next}
+use Rattle.review_sql_tables.specs.{Content.AreApart, Desk.desk_schema, Desk.desk_tables, Desk.is_tree}
+use Rattle.review_sql_tables.specs.Migrated.{AllMoved, Migrates}
+use Rattle.review_sql_tables.specs.Moved.{AreMoved, with_first_epoch, without_parent}
+use Rattle.review_sql_tables.specs.{Ran.IsReady, Ran.OnDesk, Search.only, Search.reads, Search.row_at, Search.rows_at}
+use Rattle.review_sql_tables.specs.Versions.{is_new, schema_at, version_of}
+use Rattle.review_sql_tables.specs.{declared.versions.EarlierVersion.EarlierVersion, inner.Words.Then}
+use Rattle.review_core_rules.specs.Parts.{Part}
+use Rattle.review_machine_rows.specs.Changes.{Reading, own_of}
+use Rattle.review_machine_rows.specs.Rows.{Key, AccountKey, MemberKey, FileKey, BaseKey, PartKey, OddKey, Row, AccountRow, MemberRow, FileRow, BaseRow, OddRow, Count, Projects, BasesOf, ClosedEpochs}
+use Rattle.review_machine_rows.specs.View.{IsViewBy, fact, counted, tables_version, kept_answer}
+use Rattle.review_machine_rows.specs.declared.rows.StoredFile.{StoredFile}
+use Rattle.review_sql_records.proofs.ReadAlike.{answer_moved, answers_keyed, file_moved, projects_counted, projects_keyed, answers_of_others}
+use Rattle.review_sql_records.specs.Forms.{accounts, members, projects, bases, answers, earlier_answers, epochs, request_key, earlier_key, first_epoch}
+use Rattle.review_sql_records.specs.Keyed.{answer_keyed, earlier_answer_keyed, project_keyed}
+use Rattle.review_sql_records.specs.declared.rows.Answered.{Answered as Rest}
+use Rattle.review_sql_change_records.specs.Forms.{headers, patches, votes, roles, comments, attention_entries}
+use Rattle.review_sql_lookups.specs.EarlierTables.{IsEarlierDesk, keyed_tables_in, projects_in, tables_in}
+use Rattle.review_sql_lookups.specs.Tables.{answer_in, count_in, has_unkeyed, keyed_tables, number_of, row_in, stored_as, tables_at, told, least_in, version_in}
+use Rattle.review_sql_writes.{proofs.Edits.part_same, specs.Numbers.IsDesk, specs.declared.numbers.Numbers.Numbers}
+use Rattle.review_sql_writes.specs.inner.Changes.{SetsDesk, SetsLeast}
 use Rattle.review_sql.proofs.Shown.{not_kept_odd}
 use Rattle.review_sql.specs.{Migrated.KeepsRows, Migrated.Upgrades, Opened.AreAllApart}
-use Rattle.review_tables.specs.declared.versions.EarlierVersion.TheVariants as earlier
+use Rattle.review_sql_tables.specs.declared.versions.EarlierVersion.TheVariants as earlier
 
 -- what tells no odd row reads as what is told
 pub told_file : (found : Option (Option StoredFile)) (file : Option StoredFile) → told FileRow found ≡ option_map FileRow file → found ≡ option_map Some file
@@ -177,7 +177,7 @@ module _ (version : EarlierVersion) (numbers : Numbers) (old mid new : Trees) (s
                           stay_keyed 16 roles.keyed (kept 16 refl refl (λ e. omega (arith, e))) rest.1.1.1.0,
                           (
                             stay_keyed 18 comments.keyed (kept 18 refl refl (λ e. omega (arith, e))) rest.1.1.1.1.0,
-                            (stay_keyed 20 calls.keyed (kept 20 refl refl (λ e. omega (arith, e))) rest.1.1.1.1.1.0, tt),
+                            (stay_keyed 20 attention_entries.keyed (kept 20 refl refl (λ e. omega (arith, e))) rest.1.1.1.1.1.0, tt),
                           ),
                         ),
                       ),

@@ -4,11 +4,11 @@ use Rattle.sqlite.specs.{Effect.Database, Held.state}
 use Rattle.sqlite_catalog.specs.Listing.{IsSound}
 use Rattle.sqlite_schema.specs.declared.schema.Schema.{Schema}
 use Rattle.sqlite_trees.specs.{Tree.Trees, declared.store.Store.Ghosts}
-use Rattle.review_statements.specs.Desk.{schema_0}
 use Rattle.review_words.specs.History.{Entry}
-use Rattle.review_rows.specs.{Answer.IsHistory, Rows.Tables, Shelf.Shown, View.IsView}
-use Rattle.review_database.specs.Tables.{tables_at}
-use Rattle.review_transactions.specs.First.{MakesDesk}
+use Rattle.review_sql_tables.specs.Desk.{schema_0}
+use Rattle.review_machine_rows.specs.{Answer.IsHistory, Rows.Tables, Shelf.Shown, View.IsView}
+use Rattle.review_sql_lookups.specs.Tables.{tables_at}
+use Rattle.review_sql_writes.specs.First.{MakesDesk}
 use Rattle.review_sql.specs.Shelf.{AreLeftOfOurs, AreOurs, ShelfView, shown}
 
 -- all tables that a stop may leave are those of histories

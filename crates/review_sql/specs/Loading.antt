@@ -2,13 +2,12 @@
 use Rattle.std.specs.Prelude.{◌≡◌, ◌⊎◌, Bool, true, false, Result, Ok, Err}
 use Rattle.sqlite.specs.{Held.Held, Held.state, declared.error.Error.Error}
 use Rattle.sqlite_trees.specs.{Tree.Trees, declared.store.Store.Ghosts}
-use Rattle.review_statements.specs.Ran.{Looks}
-use Rattle.review_rows.specs.{Known.Agrees, Shelf.IsDamaged, declared.rows.Rows.Rows}
-use Rattle.review_database.specs.{Loads.AreLoaded, Tables.tables_at}
-use Rattle.review_database.specs.declared.sights.{Loaded.Loaded, Sight.Sight}
-use Rattle.review_lookups.specs.{Counts.AreBounded, declared.counts.Counts.Counts}
-use Rattle.review_database.specs.declared.sights.Loaded.TheVariants as loaded
-use Rattle.review_database.specs.declared.sights.Sight.TheVariants as sight
+use Rattle.review_sql_tables.specs.Ran.{Looks}
+use Rattle.review_machine_rows.specs.{Known.Agrees, Shelf.IsDamaged, declared.rows.Rows.Rows}
+use Rattle.review_sql_lookups.specs.{Counts.AreBounded, Loads.AreLoaded, Tables.tables_at}
+use Rattle.review_sql_lookups.specs.declared.{counts.Counts.Counts, sights.Loaded.Loaded, sights.Sight.Sight}
+use Rattle.review_sql_lookups.specs.declared.sights.Loaded.TheVariants as loaded
+use Rattle.review_sql_lookups.specs.declared.sights.Sight.TheVariants as sight
 
 -- what all found, by how the last one ended, and the rows that learnt it
 abbrev pub all_found : Rows → Sight → Loaded

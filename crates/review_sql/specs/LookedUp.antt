@@ -1,11 +1,11 @@
 -- What is seen of an identity.
 use Rattle.std.specs.Prelude.{ℕ, ◌≡◌, true, false, nat_lt}
 use Rattle.sqlite_trees.specs.Tree.{Trees}
-use Rattle.review_statements.specs.Search.{row_at}
 use Rattle.review_words.specs.History.{Identity}
-use Rattle.review_rows.specs.{Rows.Tables, Shelf.Answers, Shelf.IsClosedIn}
-use Rattle.review_records.specs.{Forms.answers, declared.rows.RequestKey.RequestKey}
-use Rattle.review_database.specs.Tables.{stored_as}
+use Rattle.review_sql_tables.specs.Search.{row_at}
+use Rattle.review_machine_rows.specs.{Rows.Tables, Shelf.Answers, Shelf.IsClosedIn}
+use Rattle.review_sql_records.specs.{Forms.answers, declared.rows.RequestKey.RequestKey}
+use Rattle.review_sql_lookups.specs.Tables.{stored_as}
 use Rattle.review_sql.specs.declared.serving.LookedUp.{LookedUp, TheVariants.Closed, TheVariants.Open}
 
 -- the epoch of the key is below the least open one; or it isn't, and this is what the key has

@@ -4,21 +4,20 @@ use Rattle.std.specs.Prelude.{◌≡◌, ◌≢◌, ◌⊎◌, [], ◌∷◌, Li
 use Rattle.sqlite.specs.{Effect.Database, Held.Held, Held.state, State.State, State.HasCleanDisk, State.Survives}
 use Rattle.sqlite.specs.declared.error.Error.{Error, TheVariants.InvalidQuery}
 use Rattle.sqlite_trees.specs.{Tree.Trees, declared.store.Store.Ghosts}
-use Rattle.review_statements.specs.Ran.{IsReady, Transacts}
 use Rattle.review_words.specs.History.{Entry}
-use Rattle.review_tables.specs.Migrated.{AllMoved}
-use Rattle.review_tables.specs.Versions.{is_new, schema_at, version_number, version_of}
-use Rattle.review_tables.specs.declared.versions.{EarlierVersion.EarlierVersion, TablesVersion.TablesVersion}
-use Rattle.review_tables.specs.declared.versions.TablesVersion.TheVariants.{First, Second, Third}
-use Rattle.review_rows.specs.{Rows.Tables, Shelf.StopLeavesOwnTables, View.IsView, View.tables_version}
-use Rattle.review_records.specs.Forms.{first_epoch}
-use Rattle.review_database.specs.{EarlierTables.tables_in, EarlierTables.IsEarlierDesk, Tables.tables_at}
-use Rattle.review_transactions.specs.{Numbers.IsDesk, declared.numbers.Numbers.Numbers}
+use Rattle.review_sql_tables.specs.{Migrated.AllMoved, Ran.IsReady, Ran.Transacts}
+use Rattle.review_sql_tables.specs.Versions.{is_new, schema_at, version_number, version_of}
+use Rattle.review_sql_tables.specs.declared.versions.{EarlierVersion.EarlierVersion, TablesVersion.TablesVersion}
+use Rattle.review_sql_tables.specs.declared.versions.TablesVersion.TheVariants.{First, Second, Third}
+use Rattle.review_machine_rows.specs.{Rows.Tables, Shelf.StopLeavesOwnTables, View.IsView, View.tables_version}
+use Rattle.review_sql_records.specs.Forms.{first_epoch}
+use Rattle.review_sql_lookups.specs.{EarlierTables.tables_in, EarlierTables.IsEarlierDesk, Tables.tables_at}
+use Rattle.review_sql_writes.specs.{Numbers.IsDesk, declared.numbers.Numbers.Numbers}
 use Rattle.review_sql.specs.Opened.{AreApartIn, IsOpened, IsSeen}
 use Rattle.review_sql.specs.{Reopened.ReopensLast, Said.IsNone, Said.IsThere, Said.SaysOther}
 use Rattle.review_sql.specs.{Shelf.ShelfView, Shelf.Stays, Shelf.shown, declared.faults.DeskFault.DeskFault}
 use Rattle.review_sql.specs.declared.faults.DeskFault.TheVariants.{NotADesk, WrongVersion, NotEmpty, NotOurs}
-use Rattle.review_statements.specs.Desk as table
+use Rattle.review_sql_tables.specs.Desk as table
 
 -- The tables of a history as an earlier version keeps them: but for the version, they have just what the history says. They tell of no other epoch than 0, and that none is closed,
 -- so they can be so only for a history in which each request is of epoch 0. Tables of version 1, which tell of no parents, can be so for a history whose entries are all of

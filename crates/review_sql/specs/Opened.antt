@@ -3,10 +3,10 @@ use Rattle.std.specs.List.{AllByRecursion}
 use Rattle.std.specs.Prelude.{◌≡◌, ◌≢◌, ◌⊎◌, true, Result, IsTrue, IfOk}
 use Rattle.sqlite.specs.{Held.Held, Held.state, State.State, State.HasCleanDisk, declared.error.Error.Error}
 use Rattle.sqlite_trees.specs.{Tree.Trees, declared.store.Store.Ghosts}
-use Rattle.review_statements.specs.{Content.AreApart, Desk.desk_schema, Ran.IsDeskIfOpen, Ran.IsReady}
-use Rattle.review_tables.specs.Versions.{schema_at}
-use Rattle.review_tables.specs.declared.versions.TablesVersion.{TablesVersion, TheVariants.Third}
-use Rattle.review_transactions.specs.{Numbers.IsDesk, declared.numbers.Numbers.Numbers}
+use Rattle.review_sql_tables.specs.{Content.AreApart, Desk.desk_schema, Ran.IsDeskIfOpen, Ran.IsReady}
+use Rattle.review_sql_tables.specs.Versions.{schema_at}
+use Rattle.review_sql_tables.specs.declared.versions.TablesVersion.{TablesVersion, TheVariants.Third}
+use Rattle.review_sql_writes.specs.{Numbers.IsDesk, declared.numbers.Numbers.Numbers}
 use Rattle.review_sql.specs.Said.{IsDeskThere, IsNoDesk, IsNone, IsOtherVersion}
 use Rattle.review_sql.specs.{Shelf.ShelfView, Shelf.Stays, declared.faults.DeskFault.DeskFault}
 use Rattle.review_sql.specs.declared.faults.DeskFault.TheVariants.{NotADesk, WrongVersion, NotEmpty, NotOurs, Memory, Store}

@@ -2,7 +2,7 @@
 use Rattle.std.specs.Prelude.{◌≡◌, ◌⊎◌, Bool, IsTrue}
 use Rattle.sqlite.specs.{Held.Held, Held.state, State.HasCleanDisk}
 use Rattle.sqlite_trees.specs.declared.store.Store.{Ghosts}
-use Rattle.review_rows.specs.Shelf.{AddsNoStop, StaysOrShuts}
+use Rattle.review_machine_rows.specs.Shelf.{AddsNoStop, StaysOrShuts}
 use Rattle.review_sql.specs.Shelf.{IsHandedBack, ShelfView, shown, tables_of}
 use Rattle.review_sql.specs.declared.faults.DeskFault.{DeskFault, TheVariants.Memory, TheVariants.Store}
 

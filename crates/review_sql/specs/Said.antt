@@ -4,13 +4,13 @@ use Rattle.std.specs.Prelude.{ℕ, ◌≡◌, ◌≢◌, ◌⊎◌, List, [], �
 use Rattle.sqlite.specs.{Effect.Database, Effect.Reads, Listing.understood}
 use Rattle.sqlite_resolve.specs.declared.compiled.Compiled.{Compiled}
 use Rattle.sqlite_value.specs.Order.{Row, column}
-use Rattle.review_statements.specs.declared.texts.TheConstants.{FIND_DESK, FIND_EPOCHS}
 use Rattle.review_words.specs.Epochs.{is_epoch}
-use Rattle.review_tables.specs.{Columns.number_in, Versions.version_number}
-use Rattle.review_tables.specs.declared.versions.TablesVersion.{TablesVersion}
-use Rattle.review_tables.specs.declared.versions.TablesVersion.TheVariants.{First, Second, Third}
-use Rattle.review_records.specs.Forms.{first_epoch, where_is}
-use Rattle.review_transactions.specs.declared.numbers.Numbers.{Numbers}
+use Rattle.review_sql_tables.specs.{Columns.number_in, Versions.version_number}
+use Rattle.review_sql_tables.specs.declared.texts.TheConstants.{FIND_DESK, FIND_EPOCHS}
+use Rattle.review_sql_tables.specs.declared.versions.TablesVersion.{TablesVersion}
+use Rattle.review_sql_tables.specs.declared.versions.TablesVersion.TheVariants.{First, Second, Third}
+use Rattle.review_sql_records.specs.Forms.{first_epoch, where_is}
+use Rattle.review_sql_writes.specs.declared.numbers.Numbers.{Numbers}
 use Rattle.review_sql.specs.{Shelf.AreAllRead, Shelf.IsUnderstood, declared.seen.Said.Said}
 
 -- the query that a text is understood as shows these rows

@@ -7,16 +7,16 @@ use Rattle.sqlite.specs.State.{State, HasCleanDisk, Survives}
 use Rattle.sqlite_resolve.specs.declared.compiled.Compiled.{Compiled}
 use Rattle.sqlite_schema.specs.declared.schema.Schema.{Schema}
 use Rattle.sqlite_trees.specs.{Tree.Trees, declared.store.Store.Ghosts}
-use Rattle.review_statements.specs.{Desk.desk_schema, Ran.IsReady}
-use Rattle.review_statements.specs.declared.texts.TheConstants.{ANY_ROW, READ_ROWS, READ_ROWS_1, READ_ROWS_2}
-use Rattle.review_tables.specs.declared.versions.TablesVersion.{TablesVersion}
-use Rattle.review_tables.specs.declared.versions.TablesVersion.TheVariants.{First, Second, Third}
-use Rattle.review_rows.specs.{Count.greatest_count, Rows.Tables, Shelf.Shown, declared.rows.Rows.Rows}
-use Rattle.review_rows.specs.declared.shelf.ShelfFault.{ShelfFault, TheVariants.Memory, TheVariants.Damaged}
-use Rattle.review_database.specs.{Tables.tables_at, declared.sights.Loaded.Loaded}
-use Rattle.review_lookups.specs.{Counts.AreBounded, declared.counts.Counts.Counts}
-use Rattle.review_transactions.specs.{First.MakesDesk, Numbers.IsDesk, declared.numbers.Numbers.Numbers}
-use Rattle.review_database.specs.declared.sights.Loaded.TheVariants as loaded
+use Rattle.review_sql_tables.specs.{Desk.desk_schema, Ran.IsReady}
+use Rattle.review_sql_tables.specs.declared.texts.TheConstants.{ANY_ROW, READ_ROWS, READ_ROWS_1, READ_ROWS_2}
+use Rattle.review_sql_tables.specs.declared.versions.TablesVersion.{TablesVersion}
+use Rattle.review_sql_tables.specs.declared.versions.TablesVersion.TheVariants.{First, Second, Third}
+use Rattle.review_machine_rows.specs.{Count.greatest_count, Rows.Tables, Shelf.Shown, declared.rows.Rows.Rows}
+use Rattle.review_machine_rows.specs.declared.shelf.ShelfFault.{ShelfFault, TheVariants.Memory, TheVariants.Damaged}
+use Rattle.review_sql_lookups.specs.{Counts.AreBounded, Tables.tables_at}
+use Rattle.review_sql_lookups.specs.declared.{counts.Counts.Counts, sights.Loaded.Loaded}
+use Rattle.review_sql_writes.specs.{First.MakesDesk, Numbers.IsDesk, declared.numbers.Numbers.Numbers}
+use Rattle.review_sql_lookups.specs.declared.sights.Loaded.TheVariants as loaded
 
 -- the connection, what the desk says of itself, and how many calls were refused
 pub record ShelfView (S : Type 0) : Type 0 where

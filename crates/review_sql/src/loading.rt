@@ -1,20 +1,18 @@
 //! What the look-ups of a need find.
 ghost use Rattle.std.specs.Prelude.{◌≡◌, None, false, IfOk};
 ghost use Rattle.sqlite.specs.Held.{state};
-ghost use Rattle.review_statements.specs.Ran.{Looks, Serves};
-ghost use Rattle.review_rows.specs.Known.{AreAsked, known};
-ghost use Rattle.review_database.specs.Loads.{HasLearnt, WereAsked};
-ghost use Rattle.review_lookups.specs.Counts.{SeesBounded};
+ghost use Rattle.review_sql_tables.specs.Ran.{Looks, Serves};
+ghost use Rattle.review_machine_rows.specs.Known.{AreAsked, known};
+ghost use Rattle.review_sql_lookups.specs.{Counts.SeesBounded, Loads.HasLearnt, Loads.WereAsked};
 ghost use Rattle.review_sql.specs.Loading.{AreLoadedBounded, LooksIf, LooksOnce, WereSeen, loaded_by};
 
-use review_change_lookups::{bases, joins, places, reviews, senders};
-use review_database::{Loaded, Sight};
-use review_lookups::counts::Counts;
-use review_lookups::known::find_known;
-use review_lookups::{branches, people};
-use review_records::desk::Desk;
-use review_rows::{Counted, Rows, Want};
-use review_tables::reads::find as find_row;
+use review_machine_rows::{Counted, Rows, Want};
+use review_sql_change_lookups::{bases, joins, places, reviews, senders};
+use review_sql_lookups::counts::Counts;
+use review_sql_lookups::known::find_known;
+use review_sql_lookups::{Loaded, Sight, branches, people};
+use review_sql_records::desk::Desk;
+use review_sql_tables::reads::find as find_row;
 use sqlite::{Alter, Connection, Error, Transaction};
 use std::alloc::Global;
 

@@ -1,23 +1,23 @@
 //! Tables of an earlier version become those of a desk, in one transaction.
 ghost use Rattle.std.specs.Prelude.{◌≡◌, ◌≢◌, ◌⊎◌, true, false, IsTrue, IfOk, IfErr};
 ghost use Rattle.sqlite.specs.{Held.state, State.HasCleanDisk};
-ghost use Rattle.review_statements.specs.{Content.Then, Ran.Inside, Ran.Within, Ran.Opens, Ran.Transacts};
-ghost use Rattle.review_tables.specs.Versions.{schema_at, version_of};
-ghost use Rattle.review_transactions.specs.Changes.{SetsDesk, SetsLeast};
+ghost use Rattle.review_sql_tables.specs.Ran.{Inside, Within, Opens, Transacts};
+ghost use Rattle.review_sql_tables.specs.{Versions.schema_at, Versions.version_of, inner.Words.Then};
+ghost use Rattle.review_sql_writes.specs.inner.Changes.{SetsDesk, SetsLeast};
 ghost use Rattle.review_sql.specs.Migrated.{IsBrought, IsHindered, IsKept, IsNotMigrated, IsRaised, IsUnfit, Upgrades, if_whole};
 ghost use Rattle.review_sql.specs.{Opened.AreApartIn, Opened.TellsShut, Said.SaysVersion, Shelf.Stays};
 
 use crate::faults::DeskFault;
 use crate::opening::{ask, see_desk, see_tables, version_of};
 use crate::seen::Said;
-use review_records::desk::Desk;
-use review_records::epochs::Epochs;
-use review_records::rows::DeskRow;
-use review_tables::changes;
-use review_tables::migrating::migrate_tables;
-use review_tables::rowids::are_all_apart;
-use review_tables::versions::{EarlierVersion, TablesVersion};
-use review_transactions::Numbers;
+use review_sql_records::desk::Desk;
+use review_sql_records::epochs::Epochs;
+use review_sql_records::rows::DeskRow;
+use review_sql_tables::changes;
+use review_sql_tables::migrating::migrate_tables;
+use review_sql_tables::rowids::are_all_apart;
+use review_sql_tables::versions::{EarlierVersion, TablesVersion};
+use review_sql_writes::Numbers;
 use sqlite::{Alter, Connection, Error, Transaction};
 use std::alloc::Global;
 

@@ -1,6 +1,6 @@
 //! What is seen of a desk before it is opened.
 
-use review_transactions::Numbers;
+use review_sql_writes::Numbers;
 
 /// What the table `desk` says: a version, and how many requests there are, each where its one row has a number there.
 #[derive(Clone, Copy, PartialEq, Eq)]

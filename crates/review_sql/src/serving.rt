@@ -1,13 +1,13 @@
-//! The calls of a shelf.
+//! What is stored under an identity, looked up.
 ghost use Rattle.std.specs.Prelude.{◌≡◌, false};
 ghost use Rattle.sqlite.specs.Held.{state};
-ghost use Rattle.review_statements.specs.Ran.{Looks, Serves};
+ghost use Rattle.review_sql_tables.specs.Ran.{Looks, Serves};
 ghost use Rattle.review_sql.specs.LookedUp.{IsLookedUp};
 
-use review_records::answers::Answers;
-use review_records::epochs::Epochs;
-use review_records::rows::{Answered, RequestKey};
-use review_tables::reads::find;
+use review_sql_records::answers::Answers;
+use review_sql_records::epochs::Epochs;
+use review_sql_records::rows::{Answered, RequestKey};
+use review_sql_tables::reads::find;
 use review_words::Epoch;
 use sqlite::{Alter, Connection, Error, Transaction};
 use std::alloc::Global;

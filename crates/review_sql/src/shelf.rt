@@ -2,9 +2,9 @@
 ghost use Rattle.std.specs.Bool.{Decides};
 ghost use Rattle.std.specs.Prelude.{ℕ, ◌≡◌, ◌≢◌, ◌≤◌, ◌⊎◌, Some, None, true, false, IfOk, IfErr, IsTrue, min};
 ghost use Rattle.sqlite.specs.{Held.state, State.HasCleanDisk};
-ghost use Rattle.review_statements.specs.Desk.{schema_0};
-ghost use Rattle.review_rows.specs.Rows.{ClosedEpochs, Tables, kept_row};
-ghost use Rattle.review_rows.specs.Shelf.{CountsFaults, IsCounted, IsRecalled, greatest_count};
+ghost use Rattle.review_sql_tables.specs.Desk.{schema_0};
+ghost use Rattle.review_machine_rows.specs.Rows.{ClosedEpochs, Tables, kept_row};
+ghost use Rattle.review_machine_rows.specs.Shelf.{CountsFaults, IsCounted, IsRecalled, greatest_count};
 ghost use Rattle.review_sql.specs.{LookedUp.IsLookedUpIn, Shelf.Stays, Shelf.answer_of};
 
 use crate::faults::DeskFault;
@@ -13,13 +13,13 @@ use crate::migrating::bring;
 use crate::opening::see;
 use crate::serving::{LookedUp, find_stored};
 use crate::there::{is_any_there, seen};
-use review_database::Loaded;
-use review_lookups::counts::Counts;
-use review_records::rows::{Answered, RequestKey};
-use review_rows::{Delta, Kept, Need, Recalled, Rows, Shelf, ShelfFault};
-use review_transactions::Numbers;
-use review_transactions::creating::make_desk;
-use review_transactions::writing::transact;
+use review_machine_rows::{Delta, Kept, Need, Recalled, Rows, Shelf, ShelfFault};
+use review_sql_lookups::Loaded;
+use review_sql_lookups::counts::Counts;
+use review_sql_records::rows::{Answered, RequestKey};
+use review_sql_writes::Numbers;
+use review_sql_writes::creating::make_desk;
+use review_sql_writes::writing::transact;
 use review_words::{AccountNo, Epoch, RequestId};
 use sqlite::{Alter, Connection, Error, ErrorCode};
 use sqlite_schema::schema::Schema;
@@ -272,7 +272,7 @@ fn refuse(faults: &mut u64) -> ShelfFault
 }
 
 // What is told of an error of the store: want of memory where it is open still, and else a fault, which is counted.
-fn told<S: Alter>(conn: &mut Connection<S>, faults: &mut u64, error: Error) -> ShelfFault
+fn fault_for<S: Alter>(conn: &mut Connection<S>, faults: &mut u64, error: Error) -> ShelfFault
     requires mode { conn.old.in_transaction ≡ false }
     ensures mode { conn.new.in_transaction ≡ false }
     ensures stays { Stays (state S.Store conn.old) (state S.Store conn.new) }
@@ -319,7 +319,7 @@ impl<S: Alter, O: Origin> Shelf for SqlShelf<S, O> {
         let _settled = self.conn.is_autocommit();
         match find_stored(&mut self.conn, alloc, &key, self.numbers.least) {
             Ok(looked) => recalled(key, looked),
-            Err(error) => Err(told(&mut self.conn, &mut self.faults, error)),
+            Err(error) => Err(fault_for(&mut self.conn, &mut self.faults, error)),
         }
     }
 
@@ -329,7 +329,7 @@ impl<S: Alter, O: Origin> Shelf for SqlShelf<S, O> {
             Ok(found) => answered(found),
             Err(error) => {
                 self.counts = Counts::new(alloc);
-                Err(told(&mut self.conn, &mut self.faults, error))
+                Err(fault_for(&mut self.conn, &mut self.faults, error))
             }
         }
     }
@@ -347,7 +347,7 @@ impl<S: Alter, O: Origin> Shelf for SqlShelf<S, O> {
                 self.counts.note(alloc, delta);
                 Ok(())
             }
-            Err(error) => Err(told(&mut self.conn, &mut self.faults, error)),
+            Err(error) => Err(fault_for(&mut self.conn, &mut self.faults, error)),
         }
     }
 

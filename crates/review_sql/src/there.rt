@@ -1,11 +1,11 @@
 //! Whether a text is understood by the tables of a connection.
 ghost use Rattle.std.specs.Prelude.{◌≡◌, ◌≢◌, ◌<◌, ℕ, List, length, true, false, map, slice_index_or, IsTrue, IfOk};
 ghost use Rattle.sqlite.specs.{Held.state, State.HasCleanDisk};
-ghost use Rattle.review_statements.specs.declared.texts.TheConstants.{ANY_ROW};
+ghost use Rattle.review_sql_tables.specs.declared.texts.TheConstants.{ANY_ROW};
 ghost use Rattle.review_sql.specs.Shelf.{Stays, IsUnderstood, IsAnyThere, AreAllRead, rows_read};
 
-use review_statements::texts;
-use review_tables::versions::TablesVersion;
+use review_sql_tables::texts;
+use review_sql_tables::versions::TablesVersion;
 use sqlite::{Alter, Connection, Error, ErrorCode};
 
 /// Whether a text is understood.

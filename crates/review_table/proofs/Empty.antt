@@ -1,36 +1,16 @@
 -- Which places have no row.
-use Rattle.std.proofs.Common.{◌≡◌, ℕ, ◌+◌, ◌<◌, suc, List, [], ◌∷◌, ◌++◌, Option, Some, None, IfSome, Bool, true, false, cond, ◌||◌, refl, ap, ap₂, sym, ◌∙◌, length, take, drop, get_or}
-use Rattle.std.proofs.lemmas.{Cmp.tied_itself, Cmp.alike_right, List.take-append-drop, List.take_more}
-use Rattle.std.proofs.lemmas.{List.Elements.All-head, List.Elements.All-tail, Map.lookup-none}
-use Rattle.std.{proofs.lemmas.Map.Entries.none_past_head, proofs.lemmas.Map.Keys.IsDistinct-tail, specs.BTreeMap.is_at}
-use Rattle.std.specs.{Cmp.IsTotalOrder, Cmp.eq_by_cmp_equiv, Cmp.Equal-is, List.All, List.IsDistinct, Map.keys_of}
-use Rattle.std.specs.{Option.IsSome, Option.is_some, Ordering.is_eq, Ordering.eq_by_cmp, Ordering.ordering_reverse}
-use Rattle.std.specs.{Prelude.option_map, declared.cmp.Ordering.Ordering, declared.cmp.Ordering.TheVariants.Equal}
+use Rattle.std.proofs.Common.{◌≡◌, ℕ, ◌+◌, ◌<◌, suc, List, [], ◌∷◌, ◌++◌, Option, Some, None, IfSome, Bool, true, false, cond, ◌||◌, refl, ap, sym, ◌∙◌, length, take, drop, get_or}
+use Rattle.std.proofs.lemmas.Cmp.{tied_itself}
+use Rattle.std.proofs.lemmas.List.{take-append-drop, take_more, Elements.All-head, Elements.All-tail}
+use Rattle.std.proofs.lemmas.Map.{lookup-none, Entries.none_past_head, Keys.IsDistinct-tail}
+use Rattle.std.specs.{BTreeMap.is_at, Cmp.IsTotalOrder, Cmp.eq_by_cmp_equiv, List.All, List.IsDistinct, Map.keys_of}
+use Rattle.std.specs.Option.{IsSome, is_some}
+use Rattle.std.specs.{Ordering.eq_by_cmp, Prelude.option_map, declared.cmp.Ordering.Ordering}
 use Rattle.review_table.proofs.Places.{changed_pushed}
-use Rattle.review_table.specs.Rows.{flat, rows_of, changed, change_of, after_change, is_named, place_at, HasNoEmptyPlace}
-use Rattle.review_table.specs.declared.table.Change.{Change}
+use Rattle.review_table.specs.Rows.{flat, rows_of, changed, row_edit_of, after_row_edit, is_named, place_at, HasNoEmptyPlace}
+use Rattle.review_table.specs.declared.table.RowEdit.{RowEdit}
 
 -- ---- equal keys have one place
-
-left_alike : {K : Type 0} {R : K → K → Ordering} → IsTotalOrder R → (p q k : K) → R p q ≡ Equal → R p k ≡ R q k
-left_alike o p q k e = o.antisymm p k ∙ (ap ordering_reverse (alike_right o p q k e) ∙ sym (o.antisymm q k))
-
-pub place_alike : {K X : Type 0} {R : K → K → Ordering} → IsTotalOrder R → (t : List (K × Option X)) (p q : K) → is_at (R p) q ≡ true → place_at R t p ≡ place_at R t q
-place_alike o [] p q same = refl
-place_alike o (x ∷ t) p q same = ap₂ (λ b r. cond b (Some x.1) r) (ap is_eq (left_alike o p q x.0 ((Equal-is _).0 same))) (place_alike o t p q same)
-
--- ---- one key
-
--- a place that was dropped, or kept since it has a row
-pub dropped : {X : Type 0} (b : Bool) (was : Option (Option X)) → (b ≡ true → was ≡ Some None) → cond b None was ≡ cond b (option_map Some (flat was)) was
-dropped true was empty = ap (λ (o : Option (Option _)). option_map Some (flat o)) (sym (empty refl))
-dropped false was empty = refl
-
-pub kept : {X : Type 0} (b : Bool) (was : Option (Option X)) → (b ≡ true → was ≡ Some None → ⊥) → was ≡ cond b (option_map Some (flat was)) was
-kept false was full = refl
-kept true None full = refl
-kept true (Some None) full = absurd (full refl refl)
-kept true (Some (Some v)) full = refl
 
 -- where a place is only empty if it is asked for, it is not once it was dropped, unless it has a row
 pub released : {X : Type 0} (b : Bool) (row : Option X) (was now : Option (Option X)) → now ≡ cond b (option_map Some row) was → (was ≡ Some None → b ≡ true) → now ≡ Some None → ⊥
@@ -38,29 +18,11 @@ released true None was now is only empty = absurd (let none : None ≡ Some None
 released true (Some v) was now is only empty = absurd (let none : Some (Some v) ≡ Some None = sym is ∙ empty in cc)
 released false row was now is only empty = let other : false ≡ true = only (sym is ∙ empty) in cc
 
-pub removed : {X : Type 0} (b : Bool) (was now : Option (Option X)) → now ≡ cond b None was → (was ≡ Some None → b ≡ true) → now ≡ Some None → ⊥
-removed true was now is only empty = absurd (let none : None ≡ Some None = sym is ∙ empty in cc)
-removed false was now is only empty = let other : false ≡ true = only (sym is ∙ empty) in cc
-
-pub filled : {X : Type 0} (b : Bool) (row : X) (was now : Option (Option X)) → now ≡ cond b (Some (Some row)) was → (was ≡ Some None → ⊥) → now ≡ Some None → ⊥
-filled true row was now is full empty = absurd (let none : Some (Some row) ≡ Some None = sym is ∙ empty in cc)
-filled false row was now is full empty = full (sym is ∙ empty)
-
-pub restored : {X : Type 0} (b : Bool) (row : X) (was now : Option (Option X)) → now ≡ option_map (λ o. cond b (Some row) o) was → (was ≡ Some None → b ≡ true) → now ≡ Some None → ⊥
-restored b row None now is only empty = absurd (let none : None ≡ Some None = sym is ∙ empty in cc)
-restored true row (Some o) now is only empty = absurd (let none : Some (Some row) ≡ Some None = sym is ∙ empty in cc)
-restored false row (Some o) now is only empty = let other : false ≡ true = only (sym is ∙ empty) in cc
-
-pub taken : {X : Type 0} (b : Bool) (was now : Option (Option X)) → now ≡ option_map (λ o. cond b None o) was → (was ≡ Some None → b ≡ true) → now ≡ Some None → b ≡ true
-taken true was now is only empty = refl
-taken false None now is only empty = absurd (let none : None ≡ Some None = sym is ∙ empty in cc)
-taken false (Some o) now is only empty = only (sym is ∙ empty)
-
 pub reserved : {X : Type 0} (b : Bool) (row : Option X) (was now : Option (Option X)) → now ≡ cond b (Some row) was → (was ≡ Some None → ⊥) → now ≡ Some None → b ≡ true
 reserved true row was now is full empty = refl
 reserved false row was now is full empty = absurd (full (sym is ∙ empty))
 
--- ---- keys that changes name
+-- ---- keys that edits name
 
 some_or : {X : Type 0} (b : Bool) (x : X) (o : Option X) → is_some (cond b (Some x) o) ≡ b || is_some o
 some_or true x o = refl
@@ -82,31 +44,31 @@ or_true : (a b : Bool) → a ≡ true → a || b ≡ true
 or_true true b h = refl
 or_true false b h = absurd (let none : false ≡ true = h in cc)
 
-pub named_append : {K X : Type 0} (cmp : K → K → Ordering) (cs ds : List (Change K X)) (q : K) → is_named cmp (cs ++ ds) q ≡ is_named cmp cs q || is_named cmp ds q
+pub named_append : {K X : Type 0} (cmp : K → K → Ordering) (cs ds : List (RowEdit K X)) (q : K) → is_named cmp (cs ++ ds) q ≡ is_named cmp cs q || is_named cmp ds q
 named_append cmp [] ds q = refl
 named_append cmp (c ∷ cs) ds q =
-    some_or (is_at (cmp c.key) q) c.row (change_of cmp (cs ++ ds) q) ∙ (ap (λ b. is_at (cmp c.key) q || b) (named_append cmp cs ds q)
-    ∙ (or_assoc (is_at (cmp c.key) q) (is_named cmp cs q) (is_named cmp ds q) ∙ ap (λ b. b || is_named cmp ds q) (sym (some_or (is_at (cmp c.key) q) c.row (change_of cmp cs q)))))
+    some_or (is_at (cmp c.key) q) c.row (row_edit_of cmp (cs ++ ds) q) ∙ (ap (λ b. is_at (cmp c.key) q || b) (named_append cmp cs ds q)
+    ∙ (or_assoc (is_at (cmp c.key) q) (is_named cmp cs q) (is_named cmp ds q) ∙ ap (λ b. b || is_named cmp ds q) (sym (some_or (is_at (cmp c.key) q) c.row (row_edit_of cmp cs q)))))
 
-named_one : {K X : Type 0} (cmp : K → K → Ordering) (c : Change K X) (q : K) → is_named cmp (c ∷ []) q ≡ is_at (cmp c.key) q
+named_one : {K X : Type 0} (cmp : K → K → Ordering) (c : RowEdit K X) (q : K) → is_named cmp (c ∷ []) q ≡ is_at (cmp c.key) q
 named_one cmp c q = some_or (is_at (cmp c.key) q) c.row None ∙ or_false (is_at (cmp c.key) q)
 
-pub named_more : {K X : Type 0} (cmp : K → K → Ordering) (cs : List (Change K X)) (i : ℕ) (d c : Change K X) (q : K) → i < length cs → get_or cs i d ≡ c →
+pub named_more : {K X : Type 0} (cmp : K → K → Ordering) (cs : List (RowEdit K X)) (i : ℕ) (d c : RowEdit K X) (q : K) → i < length cs → get_or cs i d ≡ c →
     is_named cmp (take (i + 1) cs) q ≡ is_named cmp (take i cs) q || is_at (cmp c.key) q
 named_more cmp cs i d c q lt is =
     ap (λ xs. is_named cmp xs q) (take_more cs i d lt) ∙ (named_append cmp (take i cs) (get_or cs i d ∷ []) q
     ∙ (ap (λ x. is_named cmp (take i cs) q || is_named cmp (x ∷ []) q) is ∙ ap (λ b. is_named cmp (take i cs) q || b) (named_one cmp c q)))
 
-named_front : {K X : Type 0} (cmp : K → K → Ordering) (cs : List (Change K X)) (i : ℕ) (q : K) → is_named cmp cs q ≡ is_named cmp (take i cs) q || is_named cmp (drop i cs) q
+named_front : {K X : Type 0} (cmp : K → K → Ordering) (cs : List (RowEdit K X)) (i : ℕ) (q : K) → is_named cmp cs q ≡ is_named cmp (take i cs) q || is_named cmp (drop i cs) q
 named_front cmp cs i q = ap (λ xs. is_named cmp xs q) (sym (take-append-drop i cs)) ∙ named_append cmp (take i cs) (drop i cs) q
 
-pub unnamed_front : {K X : Type 0} (cmp : K → K → Ordering) (cs : List (Change K X)) (i : ℕ) (q : K) → is_named cmp cs q ≡ false → is_named cmp (take i cs) q ≡ false
+pub unnamed_front : {K X : Type 0} (cmp : K → K → Ordering) (cs : List (RowEdit K X)) (i : ℕ) (q : K) → is_named cmp cs q ≡ false → is_named cmp (take i cs) q ≡ false
 unnamed_front cmp cs i q none = or_left (is_named cmp (take i cs) q) (is_named cmp (drop i cs) q) (sym (named_front cmp cs i q) ∙ none)
 
-pub named_whole : {K X : Type 0} (cmp : K → K → Ordering) (cs : List (Change K X)) (i : ℕ) (q : K) → is_named cmp (take i cs) q ≡ true → is_named cmp cs q ≡ true
+pub named_whole : {K X : Type 0} (cmp : K → K → Ordering) (cs : List (RowEdit K X)) (i : ℕ) (q : K) → is_named cmp (take i cs) q ≡ true → is_named cmp cs q ≡ true
 named_whole cmp cs i q some = named_front cmp cs i q ∙ or_true (is_named cmp (take i cs) q) (is_named cmp (drop i cs) q) some
 
--- ---- one change more was reserved, or released
+-- ---- one edit more was reserved, or released
 
 pub reserve_more : {X : Type 0} (n b : Bool) (start was : Option (Option X)) → was ≡ cond n (Some (flat start)) start → cond b (Some (flat was)) was ≡ cond (n || b) (Some (flat start)) start
 reserve_more true true start was is = ap (λ (o : Option (Option _)). Some (flat o)) is
@@ -125,41 +87,36 @@ release_more true false start was is = is
 release_more false true start was is = ap (λ (o : Option (Option _)). option_map Some (flat o)) is
 release_more false false start was is = is
 
--- ---- changes that are made at places
+-- ---- edits that are made at places
 
-pub set_more : {K X : Type 0} (cmp : K → K → Ordering) (cs : List (Change K X)) (c : Change K X) (q : K) (o : Option (Option X)) →
+pub set_more : {K X : Type 0} (cmp : K → K → Ordering) (cs : List (RowEdit K X)) (c : RowEdit K X) (q : K) (o : Option (Option X)) →
     option_map (changed cmp cs q) (option_map (λ was. cond (is_at (cmp c.key) q) c.row was) o) ≡ option_map (changed cmp (cs ++ c ∷ []) q) o
 set_more cmp cs c q None = refl
 set_more cmp cs c q (Some was) = ap Some (sym (changed_pushed cmp cs c q was))
 
-pub set_none : {K X : Type 0} (cmp : K → K → Ordering) (cs : List (Change K X)) (q : K) (o : Option (Option X)) → cs ≡ [] → option_map (changed cmp cs q) o ≡ o
-set_none cmp [] q None none = refl
-set_none cmp [] q (Some was) none = refl
-set_none cmp (c ∷ cs) q o none = absurd (cc)
-
-pub applied : {X : Type 0} (c : Option (Option X)) (was now : Option (Option X)) → now ≡ option_map (after_change c) was → (was ≡ Some None → is_some c ≡ true) → now ≡ Some None → is_some c ≡ true
+pub applied : {X : Type 0} (c : Option (Option X)) (was now : Option (Option X)) → now ≡ option_map (after_row_edit c) was → (was ≡ Some None → is_some c ≡ true) → now ≡ Some None → is_some c ≡ true
 applied (Some row) was now is only empty = refl
 applied None None now is only empty = absurd (let none : None ≡ Some None = sym is ∙ empty in cc)
 applied None (Some o) now is only empty = only (sym is ∙ empty)
 
-change_rows : {K X : Type 0} (cmp : K → K → Ordering) (cs : List (Change K X)) (q : K) → All (λ c. IsSome c.row) cs → IfSome (change_of cmp cs q) (λ row. IsSome row)
+change_rows : {K X : Type 0} (cmp : K → K → Ordering) (cs : List (RowEdit K X)) (q : K) → All (λ c. IsSome c.row) cs → IfSome (row_edit_of cmp cs q) (λ row. IsSome row)
 change_rows cmp [] q all = tt
-change_rows {X = X} cmp (c ∷ cs) q all = first (is_at (cmp c.key) q) c.row (change_of cmp cs q) (All-head (λ d. IsSome d.row) c cs all) (change_rows cmp cs q (All-tail (λ d. IsSome d.row) c cs all))
+change_rows {X = X} cmp (c ∷ cs) q all = first (is_at (cmp c.key) q) c.row (row_edit_of cmp cs q) (All-head (λ d. IsSome d.row) c cs all) (change_rows cmp cs q (All-tail (λ d. IsSome d.row) c cs all))
   where
     first : (b : Bool) (row : Option X) (o : Option (Option X)) → IsSome row → IfSome o (λ r. IsSome r) → IfSome (cond b (Some row) o) (λ r. IsSome r)
     first true row o here later = here
     first false row o here later = later
 
-full_by : {X : Type 0} (c : Option (Option X)) (was now : Option (Option X)) → IfSome c (λ row. IsSome row) → now ≡ option_map (after_change c) was → (was ≡ Some None → is_some c ≡ true) → now ≡ Some None → ⊥
+full_by : {X : Type 0} (c : Option (Option X)) (was now : Option (Option X)) → IfSome c (λ row. IsSome row) → now ≡ option_map (after_row_edit c) was → (was ≡ Some None → is_some c ≡ true) → now ≡ Some None → ⊥
 full_by None None now rows is only empty = absurd (let none : None ≡ Some None = sym is ∙ empty in cc)
 full_by None (Some o) now rows is only empty = let other : false ≡ true = only (sym is ∙ empty) in cc
 full_by (Some None) was now rows is only empty = absurd (let none : false ≡ true = rows in cc)
 full_by (Some (Some v)) None now rows is only empty = absurd (let none : None ≡ Some None = sym is ∙ empty in cc)
 full_by (Some (Some v)) (Some o) now rows is only empty = absurd (let none : Some (Some v) ≡ Some None = sym is ∙ empty in cc)
 
-pub full_applied : {K X : Type 0} (cmp : K → K → Ordering) (cs : List (Change K X)) (q : K) (was now : Option (Option X)) → All (λ c. IsSome c.row) cs →
+pub full_applied : {K X : Type 0} (cmp : K → K → Ordering) (cs : List (RowEdit K X)) (q : K) (was now : Option (Option X)) → All (λ c. IsSome c.row) cs →
     now ≡ option_map (changed cmp cs q) was → (was ≡ Some None → is_named cmp cs q ≡ true) → now ≡ Some None → ⊥
-full_applied cmp cs q was now all is only empty = full_by (change_of cmp cs q) was now (change_rows cmp cs q all) is only empty
+full_applied cmp cs q was now all is only empty = full_by (row_edit_of cmp cs q) was now (change_rows cmp cs q all) is only empty
 
 -- ---- as many places as rows
 

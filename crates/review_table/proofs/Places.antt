@@ -2,22 +2,21 @@
 use Rattle.std.proofs.Common.{◌≡◌, ◌≤◌, map, subst, List, [], ◌∷◌, ◌++◌, Option, Some, None, Bool, true, false, cond, refl, ap, sym, ◌∙◌, append-nil, length, length-append, arith, ◌&&◌, not}
 use Rattle.std.proofs.lemmas.Cmp.{tied_itself, alike_right}
 use Rattle.std.proofs.lemmas.List.Elements.{All-head, All-tail, filter-append}
-use Rattle.std.proofs.lemmas.Map.{NonePasses, lookup-none, none_passes_from_lookup}
+use Rattle.std.proofs.lemmas.Map.{NonePasses}
 use Rattle.std.proofs.lemmas.Map.Entries.{length-keys_of, none_past_head, lookup-filter-keys}
-use Rattle.std.proofs.lemmas.Map.Keys.{IsDistinct-head, IsDistinct-tail, IsDistinct-cons, IsDistinct-from_sorted}
-use Rattle.std.proofs.lemmas.Map.Lookups.{CmpEqualImpliesEq}
+use Rattle.std.proofs.lemmas.Map.{Keys.IsDistinct-tail, Lookups.CmpEqualImpliesEq}
 use Rattle.std.proofs.lemmas.Map.Made.{distinct_count-le, distinct_count-from_IsDistinct, IsDistinct-from_count, update_all_none, lookup-map_values, keys_of-map_values}
-use Rattle.std.proofs.lemmas.Map.Views.{tells_apart, Contains-from_lookup, lookup-from_Contains, btree_map_len-from_list}
+use Rattle.std.proofs.lemmas.Map.Views.{btree_map_len-from_list}
 use Rattle.std.specs.BTreeMap.{BTreeMap, btree_map_len, is_at, insert_entry, IsFromIterResult, Range.range_contains}
 use Rattle.std.specs.Cmp.{IsTotalOrder, eq_by_cmp_equiv, Equal-is}
-use Rattle.std.specs.List.{filter, All, AllByRecursion, IsDistinct, Contains, Sorted.IsStrictlySortedBy}
+use Rattle.std.specs.List.{filter, All, AllByRecursion, IsDistinct, Sorted.IsStrictlySortedBy}
 use Rattle.std.specs.{Map.lookup, Map.keys_of, Map.remove_entry, Option.IsSome, Option.is_some, Option.option_map}
 use Rattle.std.specs.Ordering.{is_eq, match_ordering, eq_by_cmp, ordering_then, ordering_reverse, is_le, is_lt}
-use Rattle.std.specs.{Prelude.◌↔◌, Set.distinct_count, declared.cmp.Ordering.Ordering}
+use Rattle.std.specs.{Set.distinct_count, declared.cmp.Ordering.Ordering}
 use Rattle.std.specs.declared.cmp.Ordering.TheVariants.{Less, Equal, Greater}
 use Rattle.std.specs.declared.ops.Bound.TheVariants.{Included}
-use Rattle.review_table.specs.Rows.{place_of, flat, row_at, row_in, with_row, rows_of, changed, change_of, after_change, has_place, placed, HavePlaces}
-use Rattle.review_table.specs.declared.table.Change.{Change}
+use Rattle.review_table.specs.Rows.{flat, row_at, row_in, with_row, rows_of, changed, row_edit_of, after_row_edit, has_place, placed, HavePlaces}
+use Rattle.review_table.specs.{declared.table.RowEdit.RowEdit, inner.Words.place_of}
 
 inserted : {K X : Type 0} (o : Ordering) (k : K) (e : K × Option X) (t rest : List (K × Option X)) (l : Option (Option X)) → cond (is_eq o) (Some e.1) l ≡ None
     → (l ≡ None → rows_of rest ≡ rows_of t) → rows_of (match_ordering o ((k, None) ∷ e ∷ t) ((e.0, None) ∷ t) (e ∷ rest)) ≡ rows_of (e ∷ t)
@@ -30,16 +29,16 @@ pub rows_of_inserted : {K X : Type 0} (cmp : K → K → Ordering) (t : List (K 
 rows_of_inserted cmp [] k h = refl
 rows_of_inserted cmp (e ∷ t) k h = inserted (cmp k e.0) k e t (insert_entry cmp t k None) (lookup (is_at (cmp k)) t) h (rows_of_inserted cmp t k)
 
-after_cond : {X : Type 0} (b : Bool) (row : X) (o : Option X) (was : X) → after_change (cond b (Some row) o) was ≡ cond b row (after_change o was)
+after_cond : {X : Type 0} (b : Bool) (row : X) (o : Option X) (was : X) → after_row_edit (cond b (Some row) o) was ≡ cond b row (after_row_edit o was)
 after_cond true row o was = refl
 after_cond false row o was = refl
 
-pub changed_pushed : {K X : Type 0} (cmp : K → K → Ordering) (cs : List (Change K X)) (c : Change K X) (q : K) (o : Option X) → changed cmp (cs ++ c ∷ []) q o ≡ changed cmp cs q (cond (is_at (cmp c.key) q) c.row o)
+pub changed_pushed : {K X : Type 0} (cmp : K → K → Ordering) (cs : List (RowEdit K X)) (c : RowEdit K X) (q : K) (o : Option X) → changed cmp (cs ++ c ∷ []) q o ≡ changed cmp cs q (cond (is_at (cmp c.key) q) c.row o)
 changed_pushed cmp [] c q o = after_cond (is_at (cmp c.key) q) c.row None o
 changed_pushed cmp (d ∷ cs) c q o =
-    after_cond (is_at (cmp d.key) q) d.row (change_of cmp (cs ++ c ∷ []) q) o
+    after_cond (is_at (cmp d.key) q) d.row (row_edit_of cmp (cs ++ c ∷ []) q) o
     ∙ (ap (cond (is_at (cmp d.key) q) d.row) (changed_pushed cmp cs c q o)
-    ∙ sym (after_cond (is_at (cmp d.key) q) d.row (change_of cmp cs q) (cond (is_at (cmp c.key) q) c.row o)))
+    ∙ sym (after_cond (is_at (cmp d.key) q) d.row (row_edit_of cmp cs q) (cond (is_at (cmp c.key) q) c.row o)))
 
 -- rows of a part
 with_row_filtered : {K X : Type 0} (test : K → Bool) (k : K) (o : Option X) (rows : List (K × X)) (b : Bool) → test k ≡ b → filter (λ e. test e.0) (with_row k o rows) ≡ cond b (with_row k o (filter (λ e. test e.0) rows)) (filter (λ e. test e.0) rows)
@@ -56,27 +55,6 @@ rows_of_filtered test [] = refl
 rows_of_filtered test (e ∷ t) =
     filtered_cond (test e.0) e.0 e.1 (filter (λ e. test e.0) t) ∙ ap (λ r. cond (test e.0) (with_row e.0 e.1 r) r) (rows_of_filtered test t)
     ∙ sym (with_row_filtered test e.0 e.1 (rows_of t) (test e.0) refl)
-
--- keys that differ
-none_of_keys : {K X : Type 0} (test : K → Bool) (es : List (K × X)) → NonePasses test es → AllByRecursion (λ k. test k ≡ false) (keys_of es)
-none_of_keys test [] h = tt
-none_of_keys test (e ∷ es) h = (h.0, none_of_keys test es h.1)
-
-none_from_keys : {K X : Type 0} (test : K → Bool) (es : List (K × X)) → AllByRecursion (λ k. test k ≡ false) (keys_of es) → NonePasses test es
-none_from_keys test [] h = tt
-none_from_keys test (e ∷ es) h = (h.0, none_from_keys test es h.1)
-
-pub distinct_with : {K X : Type 0} (cmp : K → K → Ordering) (k : K) (v : X) (es : List (K × X)) → lookup (is_at (cmp k)) es ≡ None → IsDistinct (eq_by_cmp cmp) (keys_of es) → IsDistinct (eq_by_cmp cmp) (keys_of ((k, v) ∷ es))
-distinct_with cmp k v es h d = IsDistinct-cons (eq_by_cmp cmp) k (keys_of es) (none_of_keys (is_at (cmp k)) es (none_passes_from_lookup (is_at (cmp k)) es h)) d
-
-distinct_rest : {K X : Type 0} (e : K → K → Bool) (xs ys : List (K × X)) → IsDistinct e (keys_of (xs ++ ys)) → IsDistinct e (keys_of ys)
-distinct_rest e [] ys d = d
-distinct_rest e (x ∷ xs) ys d = distinct_rest e xs ys (IsDistinct-tail e x.0 (keys_of (xs ++ ys)) d)
-
-pub none_twice : {K X : Type 0} (cmp : K → K → Ordering) (xs es : List (K × X)) (k : K) (v : X) → IsDistinct (eq_by_cmp cmp) (keys_of (xs ++ (k, v) ∷ es)) → lookup (is_at (cmp k)) es ≡ None
-none_twice cmp xs es k v d =
-    let rest = distinct_rest (eq_by_cmp cmp) xs ((k, v) ∷ es) d in
-    lookup-none (is_at (cmp k)) es (none_from_keys (is_at (cmp k)) es (IsDistinct-head (eq_by_cmp cmp) k (keys_of es) rest))
 
 -- the row at a key, among the rows
 no_rows : {K X : Type 0} (test : K → Bool) (t : List (K × Option X)) → NonePasses test t → lookup test (rows_of t) ≡ None
@@ -112,10 +90,6 @@ unfolding IsStrictlySortedBy
 rows_sorted R [] h = tt
 rows_sorted R ((k, None) ∷ t) h = rows_sorted R t h.1
 rows_sorted R ((k, Some v) ∷ t) h = (all_rows (λ y. R k y ≡ Less) t h.0, rows_sorted R t h.1)
-
--- a row is a member of the rows, and the row at its key, where only equal keys tie
-pub member : {K X : Type 0} {R : K → K → Ordering} → IsTotalOrder R → CmpEqualImpliesEq R → (rows : List (K × X)) → IsStrictlySortedBy R (keys_of rows) → (k : K) (v : X) → Contains rows (k, v) ↔ (row_in R rows k ≡ Some v)
-member {R = R} o exact rows sorted k v = (lookup-from_Contains (eq_by_cmp_equiv o) k v rows (IsDistinct-from_sorted R (keys_of rows) sorted), Contains-from_lookup (tells_apart exact) k v rows)
 
 both_equal : (a b : Ordering) → ordering_then a b ≡ Equal → (a ≡ Equal) × (b ≡ Equal)
 both_equal Less b e = absurd (cc)
@@ -189,7 +163,7 @@ pub row_between : {K X : Type 0} {R : K → K → Ordering} → IsTotalOrder R �
 row_between {R = R} o from to rows q =
     lookup-filter-keys (is_at (R q)) (range_contains R (Included from) (Included to)) (range_contains R (Included from) (Included to) q) (λ k at. in_range_alike o from to q k ((Equal-is _).0 at)) rows
 
--- where all keys have places, all changes are made
+-- where all keys have places, all edits are made
 filter_here : {X : Type 0} (b : Bool) (x : X) (xs ys : List X) → b ≡ true → ys ≡ xs → cond b (x ∷ ys) ys ≡ x ∷ xs
 filter_here true x xs ys here same = ap (λ l. x ∷ l) same
 filter_here false x xs ys here same = absurd (cc)
@@ -199,16 +173,16 @@ filter_all p [] all = refl
 filter_all p (x ∷ xs) all =
     filter_here (p x) x xs (filter p xs) (All-head (λ y. p y ≡ true) x xs all) (filter_all p xs (All-tail (λ y. p y ≡ true) x xs all))
 
-pub all_placed : {K X : Type 0} (cmp : K → K → Ordering) (t : List (K × Option X)) (cs : List (Change K X)) → HavePlaces cmp t cs → placed cmp t cs ≡ cs
+pub all_placed : {K X : Type 0} (cmp : K → K → Ordering) (t : List (K × Option X)) (cs : List (RowEdit K X)) → HavePlaces cmp t cs → placed cmp t cs ≡ cs
 all_placed cmp t cs places = filter_all (λ c. has_place cmp t c.key) cs places
 
--- one change more, which is made where its key has a place
-changed_pushed_if : {K X : Type 0} (cmp : K → K → Ordering) (b : Bool) (cs : List (Change K X)) (c : Change K X) (q : K) (o : Option X) →
+-- one edit more, which is made where its key has a place
+changed_pushed_if : {K X : Type 0} (cmp : K → K → Ordering) (b : Bool) (cs : List (RowEdit K X)) (c : RowEdit K X) (q : K) (o : Option X) →
     changed cmp (cs ++ cond b (c ∷ []) []) q o ≡ changed cmp cs q (cond (b && is_at (cmp c.key) q) c.row o)
 changed_pushed_if cmp true cs c q o = changed_pushed cmp cs c q o
 changed_pushed_if cmp false cs c q o = ap (λ l. changed cmp l q o) (append-nil cs)
 
-pub placed_pushed : {K X : Type 0} (cmp : K → K → Ordering) (t : List (K × Option X)) (cs : List (Change K X)) (c : Change K X) (q : K) (o : Option X) →
+pub placed_pushed : {K X : Type 0} (cmp : K → K → Ordering) (t : List (K × Option X)) (cs : List (RowEdit K X)) (c : RowEdit K X) (q : K) (o : Option X) →
     changed cmp (placed cmp t (cs ++ c ∷ [])) q o ≡ changed cmp (placed cmp t cs) q (cond (has_place cmp t c.key && is_at (cmp c.key) q) c.row o)
 placed_pushed cmp t cs c q o =
     ap (λ l. changed cmp l q o) (filter-append (λ d. has_place cmp t d.key) cs (c ∷ [])) ∙ changed_pushed_if cmp (has_place cmp t c.key) (placed cmp t cs) c q o

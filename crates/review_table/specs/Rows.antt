@@ -1,8 +1,8 @@
 -- Places by key, each with a row or none; the rows are what callers see.
 use Rattle.std.specs.{BTreeMap.is_at, List.All, List.filter, Map.lookup}
-use Rattle.std.specs.Prelude.{◌≡◌, List, [], ◌∷◌, Option, Some, None, Bool, true, is_some, if◌then◌else◌}
+use Rattle.std.specs.Prelude.{[], Option, Some, None, List, ◌∷◌, Bool, is_some, ◌≡◌, true, if◌then◌else◌}
 use Rattle.std.specs.declared.cmp.Ordering.{Ordering}
-use Rattle.review_table.specs.declared.table.Change.{Change}
+use Rattle.review_table.specs.declared.table.RowEdit.{RowEdit}
 
 -- a row that may be missing twice over
 abbrev pub flat : {X : Type 0} → Option (Option X) → Option X
@@ -17,10 +17,6 @@ row_at cmp t k = flat (lookup (is_at (cmp k)) t)
 abbrev pub with_row : {K X : Type 0} → K → Option X → List (K × X) → List (K × X)
 with_row k None rows = rows
 with_row k (Some v) rows = (k, v) ∷ rows
-
--- the place of a row
-abbrev pub place_of : {K X : Type 0} → K × X → K × Option X
-place_of e = (e.0, Some e.1)
 
 -- the rows, in the order of their keys
 abbrev pub rows_of : {K X : Type 0} → List (K × Option X) → List (K × X)
@@ -39,31 +35,31 @@ has_place cmp t k = is_some (lookup (is_at (cmp k)) t)
 abbrev pub HasPlace : {K X : Type 0} → (K → K → Ordering) → List (K × Option X) → K → Type 0
 HasPlace cmp t k = has_place cmp t k ≡ true
 
--- each key that changes has a place
-abbrev pub HavePlaces : {K X : Type 0} → (K → K → Ordering) → List (K × Option X) → List (Change K X) → Type 0
-HavePlaces cmp t changes = All (λ c. HasPlace cmp t c.key) changes
+-- the key of each edit has a place
+abbrev pub HavePlaces : {K X : Type 0} → (K → K → Ordering) → List (K × Option X) → List (RowEdit K X) → Type 0
+HavePlaces cmp t edits = All (λ c. HasPlace cmp t c.key) edits
 
--- the changes whose keys have places
-abbrev pub placed : {K X : Type 0} → (K → K → Ordering) → List (K × Option X) → List (Change K X) → List (Change K X)
-placed cmp t changes = filter (λ c. has_place cmp t c.key) changes
+-- the edits whose keys have places
+abbrev pub placed : {K X : Type 0} → (K → K → Ordering) → List (K × Option X) → List (RowEdit K X) → List (RowEdit K X)
+placed cmp t edits = filter (λ c. has_place cmp t c.key) edits
 
 -- a key has a place without a row
 abbrev pub IsEmptyPlace : {K X : Type 0} → (K → K → Ordering) → List (K × Option X) → K → Type 0
 IsEmptyPlace cmp t k = lookup (is_at (cmp k)) t ≡ Some None
 
--- the change of a key: the first that names it, with its new row or none
-abbrev pub change_of : {K X : Type 0} → (K → K → Ordering) → List (Change K X) → K → Option (Option X)
-change_of cmp [] q = None
-change_of cmp (c ∷ cs) q = if is_at (cmp c.key) q then Some c.row else change_of cmp cs q
+-- the edit of a key: the first that names it, with its new row or none
+abbrev pub row_edit_of : {K X : Type 0} → (K → K → Ordering) → List (RowEdit K X) → K → Option (Option X)
+row_edit_of cmp [] q = None
+row_edit_of cmp (c ∷ cs) q = if is_at (cmp c.key) q then Some c.row else row_edit_of cmp cs q
 
 -- what was there, unless it is changed
-abbrev pub after_change : {X : Type 0} → Option X → X → X
-after_change None was = was
-after_change (Some now) was = now
+abbrev pub after_row_edit : {X : Type 0} → Option X → X → X
+after_row_edit None was = was
+after_row_edit (Some now) was = now
 
--- what a key has after changes
-abbrev pub changed : {K X : Type 0} → (K → K → Ordering) → List (Change K X) → K → Option X → Option X
-changed cmp changes q was = after_change (change_of cmp changes q) was
+-- what a key has after edits
+abbrev pub changed : {K X : Type 0} → (K → K → Ordering) → List (RowEdit K X) → K → Option X → Option X
+changed cmp edits q was = after_row_edit (row_edit_of cmp edits q) was
 
 -- ---- places without a row
 
@@ -71,9 +67,9 @@ changed cmp changes q was = after_change (change_of cmp changes q) was
 abbrev pub place_at : {K X : Type 0} → (K → K → Ordering) → List (K × Option X) → K → Option (Option X)
 place_at cmp t k = lookup (is_at (cmp k)) t
 
--- whether one of these changes names the key
-abbrev pub is_named : {K X : Type 0} → (K → K → Ordering) → List (Change K X) → K → Bool
-is_named cmp changes q = is_some (change_of cmp changes q)
+-- whether one of these edits names the key
+abbrev pub is_named : {K X : Type 0} → (K → K → Ordering) → List (RowEdit K X) → K → Bool
+is_named cmp edits q = is_some (row_edit_of cmp edits q)
 
 -- Every place has a row.
 abbrev pub HasNoEmptyPlace : {K X : Type 0} → (K → K → Ordering) → List (K × Option X) → Type 0

@@ -1,7 +1,15 @@
-//! Keyed tables. Places for changes are made first, which changes no row; then all changes are made, and that can't fail.
+//! Keyed tables: rows in the order of their keys, each key once. `put` a row under 3 and then another under 3, and `get` gives the second.
+//!
+//! Edits are made in two steps. [`Table::reserve_all`] makes places for them, which changes no row and may want memory; then
+//! [`Table::apply`] makes them all, which can't fail. [`Table::release`] gives places back that have no row.
+//!
+//! - **Proved**: a look-up gives the row, a range the rows between two keys; each call says what every key's place is after it ([`Table`]).
+//! - **Assumed**: nothing beyond the kit.
+//! - **Only tested**: nothing.
+//! - **Must not know**: what its rows mean.
 #![tactic(auto)]
 
 pub mod table;
 
-pub use review_key::Key;
-pub use table::{BadRows, Change, Table};
+pub use review_names::Key;
+pub use table::{BadRows, RowEdit, Table};

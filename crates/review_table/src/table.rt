@@ -4,10 +4,10 @@ ghost use Rattle.std.specs.List.{All, IsDistinct, filter, Sorted.IsStrictlySorte
 ghost use Rattle.std.specs.{Map.keys_of, Map.Iter.deref_pair, Ordering.eq_by_cmp};
 ghost use Rattle.std.specs.Prelude.{◌≡◌, ◌∷◌, ◌++◌, ◌&&◌, List, Option, Some, None, [], IfOk, IfErr, IfNone, IfSome, IsNone, OnOk, OnErr, ◌↔◌, map, length, option_copied, option_map, if◌then◌else◌, Result, Ok, Err, IsSome, true, false};
 ghost use Rattle.std.specs.declared.{cmp.Ordering.TheVariants.Less, ops.Bound.TheVariants.Included};
-ghost use Rattle.review_table.specs.Rows.{place_of, row_at, row_in, rows_of, HasEmptyOnly, HasNoEmptyPlace, HasPlace, HavePlaces, IsEmptyPlace, changed, has_place, is_named, place_at, placed};
-ghost use Rattle.review_table.specs.declared.table.BadRows.TheVariants.{Double};
+ghost use Rattle.review_table.specs.Rows.{row_at, row_in, rows_of, HasEmptyOnly, HasNoEmptyPlace, HasPlace, HavePlaces, IsEmptyPlace, changed, has_place, is_named, place_at, placed};
+ghost use Rattle.review_table.specs.{declared.table.BadRows.TheVariants.Double, inner.Words.place_of};
 
-use review_key::Key;
+use review_names::Key;
 use std::alloc::{AllocError, AllocFailed, Global};
 use std::cmp::Ordering;
 use std::collections::BTreeMap;
@@ -15,7 +15,7 @@ use std::marker::Model;
 
 /// A row for a key, or that the key has none.
 #[derive(Drop)]
-pub struct Change<K, V> {
+pub struct RowEdit<K, V> {
     pub key: K,
     pub row: Option<V>,
 }
@@ -112,7 +112,7 @@ impl<K: Key, V: Drop> Table<K, V> {
         Ok(())
     }
 
-    /// Makes a change, where its key has a place.
+    /// Makes an edit, where its key has a place.
     fn set(&mut self, key: K, row: Option<V>)
         ensures rows { (q : K) → row_at K.cmp self.new q ≡ (if has_place K.cmp self.old key && is_at (K.cmp key) q then row else row_at K.cmp self.old q) }
         ensures stay { (q : K) → has_place K.cmp self.new q ≡ has_place K.cmp self.old q }
@@ -123,32 +123,32 @@ impl<K: Key, V: Drop> Table<K, V> {
         }
     }
 
-    /// Makes a place for each key that changes. An `Err` changes no row.
-    pub fn reserve_all(&mut self, alloc: Global, changes: &[Change<K, V>]) -> Result<(), AllocError>
+    /// Makes a place for the key of each edit. An `Err` changes no row.
+    pub fn reserve_all(&mut self, alloc: Global, edits: &[RowEdit<K, V>]) -> Result<(), AllocError>
         ensures same { rows_of self.new ≡ rows_of self.old }
         ensures rows { (q : K) → row_at K.cmp self.new q ≡ row_at K.cmp self.old q }
         ensures stay { (q : K) → HasPlace K.cmp self.old q → HasPlace K.cmp self.new q }
-        ensures ok { OnOk result (HavePlaces K.cmp self.new changes.now) }
-        ensures each { OnOk result ((q : K) → place_at K.cmp self.new q ≡ (if is_named K.cmp changes.now q then Some (row_at K.cmp self.old q) else place_at K.cmp self.old q)) }
-        ensures others { (q : K) → is_named K.cmp changes.now q ≡ false → place_at K.cmp self.new q ≡ place_at K.cmp self.old q }
-        ensures only { HasNoEmptyPlace K.cmp self.old → HasEmptyOnly K.cmp (is_named K.cmp changes.now) self.new }
+        ensures ok { OnOk result (HavePlaces K.cmp self.new edits.now) }
+        ensures each { OnOk result ((q : K) → place_at K.cmp self.new q ≡ (if is_named K.cmp edits.now q then Some (row_at K.cmp self.old q) else place_at K.cmp self.old q)) }
+        ensures others { (q : K) → is_named K.cmp edits.now q ≡ false → place_at K.cmp self.new q ≡ place_at K.cmp self.old q }
+        ensures only { HasNoEmptyPlace K.cmp self.old → HasEmptyOnly K.cmp (is_named K.cmp edits.now) self.new }
     {
-        for change in changes {
-            self.reserve_like(alloc, &change.key)?;
+        for edit in edits {
+            self.reserve_like(alloc, &edit.key)?;
         }
         Ok(())
     }
 
-    /// Makes the changes whose keys have places: after `reserve_all` all of them, and it can't fail.
-    pub fn apply(&mut self, changes: Vec<Change<K, V>>)
-        ensures placed { (q : K) → row_in K.cmp (rows_of self.new) q ≡ changed K.cmp (placed K.cmp self.old changes.items) q (row_in K.cmp (rows_of self.old) q) }
-        ensures all { HavePlaces K.cmp self.old changes.items → (q : K) → row_in K.cmp (rows_of self.new) q ≡ changed K.cmp changes.items q (row_in K.cmp (rows_of self.old) q) }
-        ensures each { (q : K) → place_at K.cmp self.new q ≡ option_map (changed K.cmp changes.items q) (place_at K.cmp self.old q) }
-        ensures only { HasEmptyOnly K.cmp (is_named K.cmp changes.items) self.old → HasEmptyOnly K.cmp (is_named K.cmp changes.items) self.new }
-        ensures mended { All (λ c. IsSome c.row) changes.items → HasEmptyOnly K.cmp (is_named K.cmp changes.items) self.old → HasNoEmptyPlace K.cmp self.new }
+    /// Makes the edits whose keys have places: after `reserve_all` all of them, and it can't fail.
+    pub fn apply(&mut self, edits: Vec<RowEdit<K, V>>)
+        ensures placed { (q : K) → row_in K.cmp (rows_of self.new) q ≡ changed K.cmp (placed K.cmp self.old edits.items) q (row_in K.cmp (rows_of self.old) q) }
+        ensures all { HavePlaces K.cmp self.old edits.items → (q : K) → row_in K.cmp (rows_of self.new) q ≡ changed K.cmp edits.items q (row_in K.cmp (rows_of self.old) q) }
+        ensures each { (q : K) → place_at K.cmp self.new q ≡ option_map (changed K.cmp edits.items q) (place_at K.cmp self.old q) }
+        ensures only { HasEmptyOnly K.cmp (is_named K.cmp edits.items) self.old → HasEmptyOnly K.cmp (is_named K.cmp edits.items) self.new }
+        ensures mended { All (λ c. IsSome c.row) edits.items → HasEmptyOnly K.cmp (is_named K.cmp edits.items) self.old → HasNoEmptyPlace K.cmp self.new }
     {
         self.once();
-        self.set_all(changes);
+        self.set_all(edits);
         self.once();
     }
 
@@ -237,15 +237,15 @@ impl<K: Key, V: Drop> Table<K, V> {
     }
 
     /// Drops the places of these keys that hold no row: those that were reserved for nothing, or emptied.
-    pub fn release(&mut self, changes: &[Change<K, V>])
+    pub fn release(&mut self, edits: &[RowEdit<K, V>])
         ensures same { rows_of self.new ≡ rows_of self.old }
-        ensures gone { All (λ c. IsEmptyPlace K.cmp self.new c.key → ⊥) changes.now }
+        ensures gone { All (λ c. IsEmptyPlace K.cmp self.new c.key → ⊥) edits.now }
         ensures no_more { (q : K) → IsEmptyPlace K.cmp self.new q → IsEmptyPlace K.cmp self.old q }
-        ensures each { (q : K) → place_at K.cmp self.new q ≡ (if is_named K.cmp changes.now q then option_map Some (row_at K.cmp self.old q) else place_at K.cmp self.old q) }
-        ensures mended { HasEmptyOnly K.cmp (is_named K.cmp changes.now) self.old → HasNoEmptyPlace K.cmp self.new }
+        ensures each { (q : K) → place_at K.cmp self.new q ≡ (if is_named K.cmp edits.now q then option_map Some (row_at K.cmp self.old q) else place_at K.cmp self.old q) }
+        ensures mended { HasEmptyOnly K.cmp (is_named K.cmp edits.now) self.old → HasNoEmptyPlace K.cmp self.new }
     {
-        for change in changes {
-            self.release_one(&change.key);
+        for edit in edits {
+            self.release_one(&edit.key);
         }
     }
 
@@ -262,13 +262,13 @@ impl<K: Key, V: Drop> Table<K, V> {
         }
     }
 
-    fn set_all(&mut self, changes: Vec<Change<K, V>>)
-        ensures rows { (q : K) → row_at K.cmp self.new q ≡ changed K.cmp (placed K.cmp self.old changes.items) q (row_at K.cmp self.old q) }
-        ensures each { (q : K) → place_at K.cmp self.new q ≡ option_map (changed K.cmp changes.items q) (place_at K.cmp self.old q) }
+    fn set_all(&mut self, edits: Vec<RowEdit<K, V>>)
+        ensures rows { (q : K) → row_at K.cmp self.new q ≡ changed K.cmp (placed K.cmp self.old edits.items) q (row_at K.cmp self.old q) }
+        ensures each { (q : K) → place_at K.cmp self.new q ≡ option_map (changed K.cmp edits.items q) (place_at K.cmp self.old q) }
     {
-        let mut left = changes;
-        while let Some(change) = left.pop() {
-            self.set(change.key, change.row);
+        let mut left = edits;
+        while let Some(edit) = left.pop() {
+            self.set(edit.key, edit.row);
         }
     }
 

@@ -122,7 +122,7 @@ abbrev pub put : Option Command → List ℕ → List ℕ → List ℕ
 put (Some (PutGroup group members)) name before = if bytes_eq group name then members else before
 put _ name before = before
 
--- the listed members of a group: those that its last accepted PutGroup gave (`Registered-Users`, which holds every account, is never put)
+-- the listed members of a group: those that its last accepted PutGroup gave, of Administrators at first account 1 (`Registered-Users`, which holds every account, is never put)
 abbrev pub listed_members : List Entry → List ℕ → List ℕ
 listed_members [] group = if bytes_eq administrators group then 1 ∷ [] else []
 listed_members (e ∷ h) group = put (accepted e) group (listed_members h group)

@@ -4,11 +4,11 @@
 use crate::fault::Fault;
 use crate::shelves::{account_of, recall};
 use crate::sockets::{REQUEST, RESPONSE};
-use review_counted::Counted;
 use review_http::{ServeFault, Served};
+use review_http_requests::Counted;
 use review_machine::{MemoryShelf, serve_one};
-use review_rows::Shelf;
-use review_shelves::FaultyShelf;
+use review_machine_rows::Shelf;
+use review_memory::FaultyShelf;
 use std::alloc::Global;
 use std::io;
 use std::io::{ErrorKind, Read, Write};
@@ -212,7 +212,7 @@ fn is_not_taken(alloc: Global, shelf: &mut FaultyShelf<MemoryShelf>) -> Result<b
     Ok(is_refused && is_untouched? && is_told && is_made?)
 }
 
-/// The same on a new desk whose call of this number fails.
+/// Whether a request is told that it was not taken, and leaves nothing, on a new desk whose call of this number fails.
 fn is_not_taken_at(alloc: Global, turn: u64) -> Result<bool, Fault> {
     let mut shelf = FaultyShelf::new(MemoryShelf::new(alloc)?, turn);
     is_not_taken(alloc, &mut shelf)

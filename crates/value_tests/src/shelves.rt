@@ -2,9 +2,9 @@
 //! has which name, and whether the first request is stored.
 
 use crate::fault::Fault;
-use review_rows::{Delta, Kept, Need, Recalled, Shelf, ShelfFault, Want};
-use review_shelves::{FaultyShelf, MemoryShelf, ShuttingShelf};
-use review_table::Change;
+use review_machine_rows::{Delta, Kept, Need, Recalled, Shelf, ShelfFault, Want};
+use review_memory::{FaultyShelf, MemoryShelf, ShuttingShelf};
+use review_table::RowEdit;
 use review_words::{AccountName, AccountNo, Epoch, Name, RequestId};
 use std::alloc::Global;
 use std::test::Fail;
@@ -20,7 +20,7 @@ fn request_id(alloc: Global, text: &str) -> Result<RequestId, Fault> {
 /// Account 2 gets a name.
 fn second_account(alloc: Global, name: &str) -> Result<Delta, Fault> {
     let name = account_name(alloc, name)?;
-    let change = Change {
+    let change = RowEdit {
         key: AccountNo::from_number(2).unwrap_or(AccountNo::last()),
         row: Some(name),
     };
@@ -277,7 +277,7 @@ fn call_closing<S: Shelf>(alloc: Global, shelf: &mut S) -> Result<Closed, Fault>
     Ok(Closed { before, own, after })
 }
 
-/// The same on a new shelf.
+/// The answers to requests of a closed and of an open epoch on a new shelf in memory.
 fn close_in_memory(alloc: Global) -> Result<Closed, Fault> {
     let mut shelf = MemoryShelf::new(alloc)?;
     call_closing(alloc, &mut shelf)

@@ -1,8 +1,8 @@
 //! A request over a socket of this machine, with both ends in this process, sent twice: each time the peer is sent the same bytes, and no fault is counted where none came.
 
 use crate::fault::Fault;
-use review_counted::Counted;
 use review_http::Served;
+use review_http_requests::Counted;
 use review_machine::{MemoryShelf, serve_one};
 use std::alloc::Global;
 use std::io;
@@ -63,7 +63,7 @@ fn is_told_twice(rt: &HostRuntime, shelf: &mut MemoryShelf) -> Result<bool, Faul
     Ok(first && second)
 }
 
-/// The same on an empty desk in memory.
+/// Whether a request is answered, and its repeat with the same bytes, on an empty desk in memory.
 fn is_told_on_a_new_desk(rt: &HostRuntime) -> Result<bool, Fault> {
     let mut shelf = MemoryShelf::new(rt.alloc())?;
     is_told_twice(rt, &mut shelf)

@@ -1,6 +1,6 @@
 //! A writer that keeps back what was not flushed: lines that are sent are flushed, and none is sent while the next line is at hand.
 
-use review_lines::Output;
+use review_json_lines::Output;
 use std::io;
 use std::io::Write;
 use std::test::Fail;

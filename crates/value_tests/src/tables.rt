@@ -1,7 +1,7 @@
 //! Keys of tables, and tables by numbers of accounts: each call that can want for memory, with ample memory.
 
 use crate::fault::Fault;
-use review_table::{BadRows, Change, Key, Table};
+use review_table::{BadRows, Key, RowEdit, Table};
 use review_words::{AccountNo, Form, LabelName};
 use std::alloc::{AllocError, Global};
 use std::test::Fail;
@@ -37,13 +37,13 @@ fn row(table: &Table<AccountNo, u8>, number: u64) -> Option<u8> {
 }
 
 /// 20 at account 2 and nothing at account 3.
-fn changes(alloc: Global) -> Result<Vec<Change<AccountNo, u8>>, AllocError> {
+fn changes(alloc: Global) -> Result<Vec<RowEdit<AccountNo, u8>>, AllocError> {
     let mut changes = Vec::new(alloc);
-    changes.push(Change {
+    changes.push(RowEdit {
         key: account(2),
         row: Some(20u8),
     })?;
-    changes.push(Change {
+    changes.push(RowEdit {
         key: account(3),
         row: None,
     })?;

@@ -1,9 +1,9 @@
 //! A term that no word spells: `file:` with a path of several components.
 
 use crate::fault::Fault;
-use review_judging::{ChangeFacts, eval};
+use review_expr_judging::{ChangeFacts, eval};
+use review_expr_terms::{Node, RequirementTerm};
 use review_names::{AccountNo, BranchName, Groups, Path, Paths};
-use review_terms::{Node, RequirementTerm};
 use std::alloc::Global;
 use std::collections::BTreeMap;
 use std::test::Fail;

@@ -2,7 +2,7 @@
 //! second minus makes its word a bad one.
 
 use crate::fault::Fault;
-use review_terms::{ShapeFault, Token, parse};
+use review_expr_terms::{ShapeFault, Token, parse};
 use std::alloc::Global;
 use std::collections::VecDeque;
 use std::test::Fail;

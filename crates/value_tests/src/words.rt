@@ -1,7 +1,7 @@
 //! Words that no text has: none is empty, a minus in front is cut off, and a text in which a quote has no other half is refused before.
 
-use review_spelling::read_requirement;
-use review_terms::WordFault;
+use review_expr_spelling::read_requirement;
+use review_expr_terms::WordFault;
 use std::alloc::Global;
 use std::test::Fail;
 

@@ -3,11 +3,11 @@
 use crate::fault::Fault;
 use crate::texts::{on_a_line, with_byte};
 use review_json::routes::route_named;
-use review_routes::{
+use review_json_routes::{
     BadBody, Route, command_of, is_question, name_of_bytes, needs_body, text_at, value_of,
 };
-use review_texts::content_text;
 use review_words::{Command, RequestId};
+use review_words_texts::content_text;
 use std::alloc::Global;
 
 /// What bytes spell, or none where they spell nothing.

@@ -3,8 +3,8 @@
 use crate::fault::Fault;
 use crate::texts::{on_a_line, with_byte};
 use review_json::{BadBody, delivery_of_line};
-use review_texts::content_text;
 use review_words::{AccountNo, ChangeQuery, Command, Delivery, Epoch, Query, RequestId};
+use review_words_texts::content_text;
 use std::alloc::{AllocError, Global};
 
 /// Which request it is. The first epoch isn't told.

@@ -4,8 +4,8 @@ use crate::fault::Fault;
 use crate::lists::{Part, list};
 use crate::texts::cut;
 use review_json::answer_text;
-use review_texts::{BadReply, read_reply, reply_text};
 use review_words::{Answer, Bases, ChangeNo, CommitName, JoinedChange, Listed, NotTaken, Reply};
+use review_words_texts::{BadReply, read_reply, reply_text};
 use std::alloc::Global;
 
 /// The status of a refusal, and what a reply is stored as.

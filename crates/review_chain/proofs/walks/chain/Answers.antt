@@ -1,7 +1,8 @@
 use Rattle.std.proofs.Common.{◌≡◌, ◌≤◌, ◌<◌, [], ◌∷◌, length, refl, sym, ◌∙◌, arith, ap}
 use Rattle.std.proofs.lemmas.Grind.{common_steps}
 use Rattle.review_chain.proofs.Walking.{met, meets_chain, meets_bad, meets_wanted, bad_fault, goes_on}
-use Rattle.review_chain.specs.Steps.{TheBase, Change, Bad, Wants, before_of, want_of}
+use Rattle.review_chain.specs.Steps.{TheBase, Change, Bad, Wants, want_of}
+use Rattle.review_chain.specs.inner.Words.{before_of}
 use Rattle.review_chain.proofs.walks.chain.Goals as goal
 
 pub back-init : goal.back-init

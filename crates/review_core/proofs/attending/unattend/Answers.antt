@@ -1,8 +1,8 @@
 use Rattle.std.proofs.Common.{◌≡◌, ◌==◌, ◌&&◌, ◌∙◌, ap, not, None, Bool, true, false, refl}
 use Rattle.std.specs.Prelude.{if◌then◌else◌}
 use Rattle.review_words.specs.declared.command.ChangeCommand.TheVariants.{RemoveAttention}
-use Rattle.review_changes.specs.{Change.eligible, Change.no_copying, Change.settled, Seen.of_account, Seen.seen}
-use Rattle.review_parts.proofs.Accounts.{kept_nothing}
+use Rattle.review_core_rules.specs.{Change.eligible, Change.no_copying, Change.settled, Seen.of_account, Seen.seen}
+use Rattle.review_core_tables.proofs.Accounts.{kept_nothing}
 use Rattle.review_core.proofs.attending.unattend.Goals as goal
 
 and_true : (b : Bool) → (b && true) ≡ b

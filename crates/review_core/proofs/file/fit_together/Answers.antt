@@ -1,7 +1,7 @@
 use Rattle.std.proofs.Common.{◌≡◌, ◌&&◌, ◌∙◌, ap, sym, length, true}
 use Rattle.std.{proofs.lemmas.Bool.and_parts, specs.List.list_all}
 use Rattle.review_table.specs.Rows.{rows_of}
-use Rattle.review_changes.specs.{Change.last_uploader, Seen.of_account, Seen.seen, Sound.IsSound, Sound.are_in_order}
+use Rattle.review_core_rules.specs.{Change.last_uploader, Seen.of_account, Seen.seen, Sound.IsSound, Sound.are_in_order}
 use Rattle.review_core.proofs.Fitting.{call_test, fitting, passing, place_test}
 use Rattle.review_core.specs.Tests.{are_counted, is_called_in_place, is_in_place}
 use Rattle.review_core.proofs.file.fit_together.Goals as goal
@@ -17,9 +17,9 @@ returns c =
     c.are_in_order-ordered.ensures ∙ (λ i. are_in_order (current i) 0 (c.deref-4.ensures.value i)) in
     let votes : c.in_ok-votes.votes ≡ list_all (place_test rows) (rows_of rows.votes) =
     c.in_ok-votes.ensures ∙ (λ i. list_all (is_in_place (current i) (of_account rows.roles)) (rows_of rows.votes)) in
-    let uploader : c.uploader_of-uploader.result ≡ last_uploader owner rows.patches.items = c.uploader_of-uploader.ensures ∙ ap (last_uploader owner) c.deref.ensures.value in
+    let uploader : c.last_uploader-uploader.result ≡ last_uploader owner rows.patches.items = c.last_uploader-uploader.ensures ∙ ap (last_uploader owner) c.deref.ensures.value in
     let called : c.in_ok-called.called ≡ list_all (call_test rows) (rows_of rows.attention) =
-    c.in_ok-called.ensures ∙ (λ i. list_all (is_called_in_place (c.owner_of-owner.ensures i) (uploader i) (of_account rows.roles)) (rows_of rows.attention)) in
+    c.in_ok-called.ensures ∙ (λ i. list_all (is_called_in_place owner (uploader i) (of_account rows.roles)) (rows_of rows.attention)) in
     let whole = c.are_all.ensures ∙ (λ i. counted i && (ordered i && (votes i && called i))) in
     let fits : c.are_all.result ≡ true → IsSound (seen rows) =
     λ is.

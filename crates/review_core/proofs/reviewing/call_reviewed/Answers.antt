@@ -1,6 +1,6 @@
 use Rattle.std.proofs.Common.{◌==◌, ◌&&◌, ◌||◌, not, ◌∙◌, ap, None}
 use Rattle.std.specs.Prelude.{if◌then◌else◌, is_some}
-use Rattle.review_changes.specs.{Change.kept_or, Change.why_replied, Change.why_commented, Seen.of_account}
+use Rattle.review_core_rules.specs.{Change.kept_or, Change.why_replied, Change.why_commented, Seen.of_account}
 use Rattle.review_core.proofs.reviewing.call_reviewed.Goals as goal
 
 pub returns : goal.returns

@@ -1,8 +1,8 @@
 use Rattle.std.proofs.Common.{◌≡◌, ℕ, ◌==◌, ◌&&◌, ◌||◌, ◌++◌, not, ◌∙◌, ap, length, map, None}
 use Rattle.std.specs.Prelude.{if◌then◌else◌, unwrap_or, is_some}
-use Rattle.review_changes.specs.Change.{last_uploader, reviewed, given_or, stored_as, said, new_comments, posts, kept_or, why_replied, why_commented, writer_role, is_open}
-use Rattle.review_changes.specs.Seen.{seen, vote_in, of_account}
-use Rattle.review_parts.specs.declared.attention.Who.{Who}
+use Rattle.review_core_rules.specs.Change.{last_uploader, reviewed, given_or, stored_as, said, new_comments, posts, kept_or, why_replied, why_commented, writer_role, is_open}
+use Rattle.review_core_rules.specs.Seen.{seen, vote_in, of_account}
+use Rattle.review_core_tables.specs.declared.attention.Who.{Who}
 use Rattle.review_core.proofs.reviewing.review_rows.Goals as goal
 
 pub returns : goal.returns

@@ -1,9 +1,9 @@
 use Rattle.std.proofs.Common.{◌≡◌, ◌==◌, ◌&&◌, ◌||◌, not, ◌∙◌, ap, length, pos, None}
 use Rattle.std.specs.Prelude.{if◌then◌else◌}
 use Rattle.review_words.specs.declared.command.ChangeCommand.TheVariants.{RemoveReviewer}
-use Rattle.review_changes.specs.Change.{last_uploader, eligible, settled, no_copying}
-use Rattle.review_changes.specs.Seen.{seen, vote_in, of_account}
-use Rattle.review_parts.{proofs.Accounts.kept_nothing, specs.declared.attention.Who.Who}
+use Rattle.review_core_rules.specs.Change.{last_uploader, eligible, settled, no_copying}
+use Rattle.review_core_rules.specs.Seen.{seen, vote_in, of_account}
+use Rattle.review_core_tables.{proofs.Accounts.kept_nothing, specs.declared.attention.Who.Who}
 use Rattle.review_core.proofs.roles.without_reviewer.Goals as goal
 
 pub returns : goal.returns

@@ -2,13 +2,13 @@ use Rattle.std.proofs.Common.{◌≡◌, ◌==◌, ◌&&◌, ◌||◌, ◌+◌, 
 use Rattle.std.specs.Cmp.Lexicographic.{pointwise}
 use Rattle.std.specs.Prelude.{if◌then◌else◌, is_some, find, option_map}
 use Rattle.review_table.specs.Rows.{row_in, rows_of}
-use Rattle.review_judging.specs.declared.facts.VoteFacts.{VoteFacts}
-use Rattle.review_changes.specs.Change.{last_uploader, last_paths, kept_or}
-use Rattle.review_changes.specs.Seen.{seen, vote_in, vote_cmp, of_account}
-use Rattle.review_changes.specs.{Votes.voted, declared.rows.PatchRow.PatchRow, declared.rows.Why.TheVariants.NotCopied}
-use Rattle.review_parts.proofs.{Copied.votes_carried, Copied.lost_is, Counted.many_copied, Counted.many_lost}
-use Rattle.review_parts.specs.Copies.{copies_by, group_list, has_lost, with_groups}
-use Rattle.review_parts.specs.{Tables.put_in, declared.attention.Who.Who}
+use Rattle.review_expr_judging.specs.declared.facts.VoteFacts.{VoteFacts}
+use Rattle.review_core_rules.specs.Change.{last_uploader, last_paths, kept_or}
+use Rattle.review_core_rules.specs.{Seen.seen, Seen.vote_in, Seen.vote_cmp, Seen.of_account, Votes.voted}
+use Rattle.review_core_rules.specs.declared.rows.{PatchRow.PatchRow, Why.TheVariants.NotCopied}
+use Rattle.review_core_tables.proofs.{Copied.votes_carried, Copied.lost_is, Counted.many_copied, Counted.many_lost}
+use Rattle.review_core_tables.specs.Copies.{copies_by, group_list, has_lost, with_groups}
+use Rattle.review_core_tables.specs.{Tables.put_in, declared.attention.Who.Who}
 use Rattle.review_core.proofs.uploading.add_patch_set.Goals as goal
 
 pub returns : goal.returns
@@ -34,7 +34,7 @@ returns c =
     let F = copies_by file (with_groups c.upload_facts-facts.result c.args.groups.now) in
     let sorted = c.in_ok-parted.ensures.sorted in
     let parted = c.in_ok-parted.ensures.parted in
-    let former : c.uploader_of-former.result ≡ last_uploader owner ps = c.uploader_of-former.ensures ∙ ap (last_uploader owner) c.deref-2.ensures.value in
+    let former : c.last_uploader-former.result ≡ last_uploader owner ps = c.last_uploader-former.ensures ∙ ap (last_uploader owner) c.deref-2.ensures.value in
     let row : PatchRow = record { commit = p.commit; parent = p.parent; kind = p.kind; uploader = caller; paths = p.paths } in
     let pushed = c.in_ok-push.ensures.items ∙ ap (λ x. ps ++ x ∷ []) c.sent_by.ensures in
     let whole : Who = record { owner = owner; uploader = last_uploader owner (ps ++ row ∷ []); caller = caller; wip = rows.header.wip } in
@@ -48,7 +48,7 @@ returns c =
             ∙ (λ j. if next j == k then (if copies_by file (facts j) l u (vote_in rows.votes (n j) l u) then vote_in rows.votes (n j) l u else pos 0) else vote_in rows.votes k l u)) i;
         attention = λ u. (c.in_ok-call_eligible.ensures u ∙ (λ j.
             kept_or ((c.drop_called.ensures u
-            ∙ (ap (λ b. if (c.uploader_of-former.result == u) && not b then None else of_account rows.attention u) c.is_eligible-is_gone.ensures
+            ∙ (ap (λ b. if (c.last_uploader-former.result == u) && not b then None else of_account rows.attention u) c.is_eligible-is_gone.ensures
             ∙ (λ x. if (former x == u) && not (((who x).owner == former x) || (((who x).uploader == former x) || is_some (of_account rows.roles (former x)))) then None else of_account rows.attention u))) j)
             (if (((who j).owner == u) || (((who j).uploader == u) || is_some (of_account rows.roles u))) && (not ((who j).caller == u) && not (who j).wip)
             then option_map NotCopied (find

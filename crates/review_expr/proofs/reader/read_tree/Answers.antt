@@ -1,4 +1,4 @@
-use Rattle.review_terms.specs.Views.{toks}
+use Rattle.review_expr_terms.specs.Views.{toks}
 use Rattle.review_expr.proofs.Verdicts.{with_tokens, shape_refused}
 use Rattle.review_expr.proofs.reader.read_tree.Goals as goal
 

@@ -1,6 +1,6 @@
 use Rattle.std.proofs.Common.{◌∙◌, ap, sym, refl, lit<, Some, ◌∷◌, []}
 use Rattle.std.proofs.lemmas.Str.Pattern.{strip_prefix_char}
-use Rattle.review_terms.specs.{Grammar.Minus, Views.tok}
+use Rattle.review_expr_terms.specs.{Grammar.Minus, Views.tok}
 use Rattle.review_expr.proofs.Signs.{bare_word, bare_unsigned, no_minus, signed_term, fault_along, signed_alone, toks_more, toks_two}
 use Rattle.review_expr.specs.Tokens.{alone, behind_minus, lone_minus}
 use Rattle.review_expr.proofs.words.push_word.Goals as goal

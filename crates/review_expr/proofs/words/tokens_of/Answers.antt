@@ -1,5 +1,5 @@
 use Rattle.std.proofs.Common.{◌+◌, ap, ap₂, sym, ◌∙◌, arith, refl}
-use Rattle.review_terms.specs.{Scanned.lexemes, Views.toks}
+use Rattle.review_expr_terms.specs.{Scanned.lexemes, Views.toks}
 use Rattle.review_expr.proofs.Reached.{word_spans, word_refused, piece_more, to_the_end}
 use Rattle.review_expr.proofs.Signs.{toks_more}
 use Rattle.review_expr.proofs.words.tokens_of.Goals.{in-Open+in_ok-push_back-in-Open, in-Close+in_ok-push_back-in-Close, in-Word+in_default}

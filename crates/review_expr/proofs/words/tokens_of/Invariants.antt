@@ -1,5 +1,5 @@
 use Rattle.std.proofs.Common.{◌≡◌, Some, take, drop}
-use Rattle.review_terms.specs.{Scanned.lexemes, Views.toks}
+use Rattle.review_expr_terms.specs.{Scanned.lexemes, Views.toks}
 use Rattle.review_expr.specs.Tokens.{tokens_before}
 use Rattle.review_expr.proofs.words.tokens_of.Given as goal
 

@@ -1,4 +1,4 @@
-use Rattle.review_project.proofs.Spells.{pattern_spelled}
+use Rattle.review_file_rules.proofs.Spells.{pattern_spelled}
 use Rattle.review_file.proofs.NamesInOrder.{sound_file}
 use Rattle.review_file.proofs.read.read_file.Goals as goal
 

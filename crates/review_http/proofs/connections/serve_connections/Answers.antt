@@ -1,5 +1,5 @@
 use Rattle.std.proofs.Common.{◌≡◌, ◌+◌, ◌++◌, ◌∷◌, ◌∙◌, List, [], Option, ℕ, length, length-append, refl, sym, subst, rules, arith}
-use Rattle.review_deliveries.proofs.Ran.{ran_none}
+use Rattle.review_machine_deliveries.proofs.Ran.{ran_none}
 use Rattle.review_http.proofs.Connected.{came_none, came_one, each_more, ran_more, told_none, told_one, texts_of}
 use Rattle.review_http.specs.Peers.{Exchange, WereTold}
 use Rattle.review_http.proofs.connections.serve_connections.Goals as goal
@@ -16,20 +16,20 @@ accept-requires g c = record { idle = c.loop-served.invariant.1 }
 pub loop-served-preserved : goal.loop-served-preserved
 loop-served-preserved g c =
     let was = c.loop-served.invariant.0 in
-    let it = c.serve.ensures.served in
+    let it = c.serve_connection.ensures.served in
     let exchange : Exchange = record { input = g.C.Reader.Read.remaining c.in_ok-reader.reader; text = it.0 } in
     let count : length (was.0 ++ exchange ∷ []) ≡ c.loop-served.served + 1 = omega (arith, was.4, length-append was.0 (exchange ∷ [])) in
     let counted : (g.S.Shelf.state c.loop-served.shelf).faults ≡ (g.S.Shelf.state c.args.shelf.now).faults = sym c.faults.ensures ∙ (c.if-faults.false ∙ c.faults-faults.ensures) in (
       (
         was.0 ++ exchange ∷ [],
         was.1 ++ it.1,
-        came_one _ _ _ _ was.0 exchange was.2 c.in_ok-reader.ensures.coming c.serve.ensures.coming,
+        came_one _ _ _ _ was.0 exchange was.2 c.in_ok-reader.ensures.coming c.serve_connection.ensures.coming,
         told_one _ _ _ _ was.0 exchange was.3 c.in_ok-reader.ensures.told it.3,
         count,
         each_more g.S.Shelf.state _ was.0 exchange was.1 it.1 _ _ _ was.5 counted it.2,
         ran_more g.S.Shelf.state exchange was.1 it.1 _ _ _ was.6 it.2,
       ),
-      c.serve.ensures.idle,
+      c.serve_connection.ensures.idle,
     )
 
 pub returns-clause-served : goal.returns-clause-served

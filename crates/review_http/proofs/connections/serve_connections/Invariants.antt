@@ -1,5 +1,5 @@
 use Rattle.std.proofs.Common.{◌≡◌, List, length, true}
-use Rattle.review_deliveries.specs.Delivered.{WasRun}
+use Rattle.review_machine_deliveries.specs.Delivered.{WasRun}
 use Rattle.review_http.proofs.Connected.{Taken, asked, replies, inputs_of, texts_of}
 use Rattle.review_http.specs.Peers.{Exchange, Came, WereTold, ServedEach}
 use Rattle.review_http.proofs.connections.serve_connections.Given as goal

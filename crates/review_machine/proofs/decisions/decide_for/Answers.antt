@@ -3,101 +3,101 @@ use Rattle.std.specs.Option.{option_copied}
 use Rattle.review_words.specs.{History.Entry, History.is_account, declared.command.Command.Command}
 use Rattle.review_words.specs.declared.command.Command.TheVariants.{CreateAccount, PutGroup, PutProject, RecordBase, CreateChange, OnChange, Submit, CloseEpoch}
 use Rattle.review_words.specs.declared.reply.{NotTaken.NotTaken, Reply.Reply}
-use Rattle.review_rows.specs.Answer.{IsAnswerBy, IsAnswerAt, most_requests}
-use Rattle.review_rows.specs.{Changes.Reading, Decisions.RestsOn, Files.File, Steps.OfCommand}
-use Rattle.review_rows.specs.View.{AreEnough, IsDecided, IsDecidedAt}
-use Rattle.review_rows.specs.declared.rows.{Delta.Delta, Rows.Rows}
-use Rattle.review_account_decisions.proofs.Closing.{decided_in}
+use Rattle.review_machine_rows.specs.Answer.{IsAnswerBy, IsAnswerAt, most_requests}
+use Rattle.review_machine_rows.specs.{Changes.Reading, Decisions.RestsOn, Files.File, Steps.OfCommand}
+use Rattle.review_machine_rows.specs.View.{AreEnough, IsDecided, IsDecidedAt}
+use Rattle.review_machine_rows.specs.declared.rows.{Delta.Delta, Rows.Rows}
+use Rattle.review_machine_accounts.proofs.Closing.{decided_in}
 use Rattle.review_machine.proofs.decisions.decide_for.Goals as goal
 
 -- a command of an account is decided, where this file was read
 abbrev Decides : ℕ → ℕ → Option File → Rows → Command → Delta × Reply → Type 0
-Decides caller epoch had rows command r =
-    (reading : Reading) (h : List Entry) → length h < most_requests → RestsOn (OfCommand command) h → is_account h caller ≡ true → AreEnough reading h caller (OfCommand command) had rows → IsDecidedAt reading h caller epoch command r.0 r.1
+Decides caller epoch effective rows command r =
+    (reading : Reading) (h : List Entry) → length h < most_requests → RestsOn (OfCommand command) h → is_account h caller ≡ true → AreEnough reading h caller (OfCommand command) effective rows → IsDecidedAt reading h caller epoch command r.0 r.1
 
 -- the answer to a command does not depend on its epoch
 abbrev IsEpochless : Command → Type 0
 IsEpochless command = (reading : Reading) (h : List Entry) (caller epoch : ℕ) (reply : Reply) → IsAnswerBy reading h caller command reply → IsAnswerAt reading h caller epoch command reply
 
 -- one that asks for no number
-of_history : (result : Result (Delta × Reply) NotTaken) (caller epoch : ℕ) (had : Option File) (rows : Rows) (command : Command) → IsEpochless command →
-    IfOk result (λ r. (reading : Reading) (h : List Entry) → is_account h caller ≡ true → AreEnough reading h caller (OfCommand command) had rows → IsDecided reading h caller command r.0 r.1) →
-    IfOk result (Decides caller epoch had rows command)
-of_history (Ok r) caller epoch had rows command same decided = λ reading h room history account l. decided_in epoch (same reading h caller epoch r.1) (decided reading h account l)
-of_history (Err e) caller epoch had rows command same decided = tt
+of_history : (result : Result (Delta × Reply) NotTaken) (caller epoch : ℕ) (effective : Option File) (rows : Rows) (command : Command) → IsEpochless command →
+    IfOk result (λ r. (reading : Reading) (h : List Entry) → is_account h caller ≡ true → AreEnough reading h caller (OfCommand command) effective rows → IsDecided reading h caller command r.0 r.1) →
+    IfOk result (Decides caller epoch effective rows command)
+of_history (Ok r) caller epoch effective rows command same decided = λ reading h room history account l. decided_in epoch (same reading h caller epoch r.1) (decided reading h account l)
+of_history (Err e) caller epoch effective rows command same decided = tt
 
 -- one that asks for no file
-of_any_file : (result : Result (Delta × Reply) NotTaken) (caller epoch : ℕ) (had : Option File) (rows : Rows) (command : Command) → IsEpochless command →
+of_any_file : (result : Result (Delta × Reply) NotTaken) (caller epoch : ℕ) (effective : Option File) (rows : Rows) (command : Command) → IsEpochless command →
     IfOk result (λ r. (reading : Reading) (file : Option File) (h : List Entry) → is_account h caller ≡ true → AreEnough reading h caller (OfCommand command) file rows → IsDecided reading h caller command r.0 r.1) →
-    IfOk result (Decides caller epoch had rows command)
-of_any_file (Ok r) caller epoch had rows command same decided = λ reading h room history account l. decided_in epoch (same reading h caller epoch r.1) (decided reading had h account l)
-of_any_file (Err e) caller epoch had rows command same decided = tt
+    IfOk result (Decides caller epoch effective rows command)
+of_any_file (Ok r) caller epoch effective rows command same decided = λ reading h room history account l. decided_in epoch (same reading h caller epoch r.1) (decided reading effective h account l)
+of_any_file (Err e) caller epoch effective rows command same decided = tt
 
 -- one that asks nothing of the history but room
-of_room : (result : Result (Delta × Reply) NotTaken) (caller epoch : ℕ) (had : Option File) (rows : Rows) (command : Command) → IsEpochless command →
-    IfOk result (λ r. (reading : Reading) (h : List Entry) → length h < most_requests → is_account h caller ≡ true → AreEnough reading h caller (OfCommand command) had rows → IsDecided reading h caller command r.0 r.1) →
-    IfOk result (Decides caller epoch had rows command)
-of_room (Ok r) caller epoch had rows command same decided = λ reading h room history account l. decided_in epoch (same reading h caller epoch r.1) (decided reading h room account l)
-of_room (Err e) caller epoch had rows command same decided = tt
+of_room : (result : Result (Delta × Reply) NotTaken) (caller epoch : ℕ) (effective : Option File) (rows : Rows) (command : Command) → IsEpochless command →
+    IfOk result (λ r. (reading : Reading) (h : List Entry) → length h < most_requests → is_account h caller ≡ true → AreEnough reading h caller (OfCommand command) effective rows → IsDecided reading h caller command r.0 r.1) →
+    IfOk result (Decides caller epoch effective rows command)
+of_room (Ok r) caller epoch effective rows command same decided = λ reading h room history account l. decided_in epoch (same reading h caller epoch r.1) (decided reading h room account l)
+of_room (Err e) caller epoch effective rows command same decided = tt
 
 -- one that asks for all
-of_all : (result : Result (Delta × Reply) NotTaken) (caller epoch : ℕ) (had : Option File) (rows : Rows) (command : Command) → IsEpochless command →
-    IfOk result (λ r. (reading : Reading) (h : List Entry) → length h < most_requests → RestsOn (OfCommand command) h → is_account h caller ≡ true → AreEnough reading h caller (OfCommand command) had rows → IsDecided reading h caller command r.0 r.1) →
-    IfOk result (Decides caller epoch had rows command)
-of_all (Ok r) caller epoch had rows command same decided = λ reading h room history account l. decided_in epoch (same reading h caller epoch r.1) (decided reading h room history account l)
-of_all (Err e) caller epoch had rows command same decided = tt
+of_all : (result : Result (Delta × Reply) NotTaken) (caller epoch : ℕ) (effective : Option File) (rows : Rows) (command : Command) → IsEpochless command →
+    IfOk result (λ r. (reading : Reading) (h : List Entry) → length h < most_requests → RestsOn (OfCommand command) h → is_account h caller ≡ true → AreEnough reading h caller (OfCommand command) effective rows → IsDecided reading h caller command r.0 r.1) →
+    IfOk result (Decides caller epoch effective rows command)
+of_all (Ok r) caller epoch effective rows command same decided = λ reading h room history account l. decided_in epoch (same reading h caller epoch r.1) (decided reading h room history account l)
+of_all (Err e) caller epoch effective rows command same decided = tt
 
 -- the one that depends on its epoch
-of_epoch : (result : Result (Delta × Reply) NotTaken) (caller epoch : ℕ) (had : Option File) (rows : Rows) (command : Command) →
+of_epoch : (result : Result (Delta × Reply) NotTaken) (caller epoch : ℕ) (effective : Option File) (rows : Rows) (command : Command) →
     IfOk result (λ r. (reading : Reading) (file : Option File) (h : List Entry) → is_account h caller ≡ true → AreEnough reading h caller (OfCommand command) file rows → IsDecidedAt reading h caller epoch command r.0 r.1) →
-    IfOk result (Decides caller epoch had rows command)
-of_epoch (Ok r) caller epoch had rows command decided = λ reading h room history account l. decided reading had h account l
-of_epoch (Err e) caller epoch had rows command decided = tt
+    IfOk result (Decides caller epoch effective rows command)
+of_epoch (Ok r) caller epoch effective rows command decided = λ reading h room history account l. decided reading effective h account l
+of_epoch (Err e) caller epoch effective rows command decided = tt
 
 pub returns-in-CreateAccount-clause-decided : goal.returns-in-CreateAccount-clause-decided
 returns-in-CreateAccount-clause-decided c =
     let a = c.args in
-    subst (λ k. IfOk c.create_account.result (Decides a.caller a.epoch (option_copied a.had) a.rows.now k)) (sym c.in-CreateAccount.is)
-    (of_any_file c.create_account.result a.caller a.epoch (option_copied a.had) a.rows.now (CreateAccount c.in-CreateAccount.name) (λ reading h caller epoch reply is. is) c.create_account.ensures.decided)
+    subst (λ k. IfOk c.create_account.result (Decides a.caller a.epoch (option_copied a.effective) a.rows.now k)) (sym c.in-CreateAccount.is)
+    (of_any_file c.create_account.result a.caller a.epoch (option_copied a.effective) a.rows.now (CreateAccount c.in-CreateAccount.name) (λ reading h caller epoch reply is. is) c.create_account.ensures.decided)
 
 pub returns-in-PutGroup-clause-decided : goal.returns-in-PutGroup-clause-decided
 returns-in-PutGroup-clause-decided c =
     let a = c.args in
-    subst (λ k. IfOk c.put_group.result (Decides a.caller a.epoch (option_copied a.had) a.rows.now k)) (sym c.in-PutGroup.is)
-    (of_any_file c.put_group.result a.caller a.epoch (option_copied a.had) a.rows.now (PutGroup c.in-PutGroup.group c.in-PutGroup.members) (λ reading h caller epoch reply is. is) c.put_group.ensures.decided)
+    subst (λ k. IfOk c.put_group.result (Decides a.caller a.epoch (option_copied a.effective) a.rows.now k)) (sym c.in-PutGroup.is)
+    (of_any_file c.put_group.result a.caller a.epoch (option_copied a.effective) a.rows.now (PutGroup c.in-PutGroup.group c.in-PutGroup.members) (λ reading h caller epoch reply is. is) c.put_group.ensures.decided)
 
 pub returns-in-PutProject-clause-decided : goal.returns-in-PutProject-clause-decided
 returns-in-PutProject-clause-decided c =
     let a = c.args in
-    subst (λ k. IfOk c.put_project.result (Decides a.caller a.epoch (option_copied a.had) a.rows.now k)) (sym c.in-PutProject.is)
-    (of_history c.put_project.result a.caller a.epoch (option_copied a.had) a.rows.now (PutProject c.in-PutProject.project c.in-PutProject.file) (λ reading h caller epoch reply is. is) c.put_project.ensures.decided)
+    subst (λ k. IfOk c.put_project.result (Decides a.caller a.epoch (option_copied a.effective) a.rows.now k)) (sym c.in-PutProject.is)
+    (of_history c.put_project.result a.caller a.epoch (option_copied a.effective) a.rows.now (PutProject c.in-PutProject.project c.in-PutProject.file) (λ reading h caller epoch reply is. is) c.put_project.ensures.decided)
 
 pub returns-in-RecordBase-clause-decided : goal.returns-in-RecordBase-clause-decided
 returns-in-RecordBase-clause-decided c =
     let a = c.args in
-    subst (λ k. IfOk c.record_base.result (Decides a.caller a.epoch (option_copied a.had) a.rows.now k)) (sym c.in-RecordBase.is)
-    (of_any_file c.record_base.result a.caller a.epoch (option_copied a.had) a.rows.now (RecordBase c.in-RecordBase.project c.in-RecordBase.branch c.in-RecordBase.commit) (λ reading h caller epoch reply is. is) c.record_base.ensures.decided)
+    subst (λ k. IfOk c.record_base.result (Decides a.caller a.epoch (option_copied a.effective) a.rows.now k)) (sym c.in-RecordBase.is)
+    (of_any_file c.record_base.result a.caller a.epoch (option_copied a.effective) a.rows.now (RecordBase c.in-RecordBase.project c.in-RecordBase.branch c.in-RecordBase.commit) (λ reading h caller epoch reply is. is) c.record_base.ensures.decided)
 
 pub returns-in-CreateChange-clause-decided : goal.returns-in-CreateChange-clause-decided
 returns-in-CreateChange-clause-decided c =
     let a = c.args in
-    subst (λ k. IfOk c.create_change.result (Decides a.caller a.epoch (option_copied a.had) a.rows.now k)) (sym c.in-CreateChange.is)
-    (of_room c.create_change.result a.caller a.epoch (option_copied a.had) a.rows.now (CreateChange c.in-CreateChange.new) (λ reading h caller epoch reply is. is) c.create_change.ensures.decided)
+    subst (λ k. IfOk c.create_change.result (Decides a.caller a.epoch (option_copied a.effective) a.rows.now k)) (sym c.in-CreateChange.is)
+    (of_room c.create_change.result a.caller a.epoch (option_copied a.effective) a.rows.now (CreateChange c.in-CreateChange.new) (λ reading h caller epoch reply is. is) c.create_change.ensures.decided)
 
 pub returns-in-OnChange-clause-decided : goal.returns-in-OnChange-clause-decided
 returns-in-OnChange-clause-decided c =
     let a = c.args in
-    subst (λ k. IfOk c.on_change.result (Decides a.caller a.epoch (option_copied a.had) a.rows.now k)) (sym c.in-OnChange.is)
-    (of_room c.on_change.result a.caller a.epoch (option_copied a.had) a.rows.now (OnChange c.in-OnChange.change c.in-OnChange.command) (λ reading h caller epoch reply is. is) c.on_change.ensures.decided)
+    subst (λ k. IfOk c.on_change.result (Decides a.caller a.epoch (option_copied a.effective) a.rows.now k)) (sym c.in-OnChange.is)
+    (of_room c.on_change.result a.caller a.epoch (option_copied a.effective) a.rows.now (OnChange c.in-OnChange.change c.in-OnChange.command) (λ reading h caller epoch reply is. is) c.on_change.ensures.decided)
 
 pub returns-in-Submit-clause-decided : goal.returns-in-Submit-clause-decided
 returns-in-Submit-clause-decided c =
     let a = c.args in
-    subst (λ k. IfOk c.submit.result (Decides a.caller a.epoch (option_copied a.had) a.rows.now k)) (sym c.in-Submit.is)
-    (of_all c.submit.result a.caller a.epoch (option_copied a.had) a.rows.now (Submit c.in-Submit.change) (λ reading h caller epoch reply is. is) c.submit.ensures.decided)
+    subst (λ k. IfOk c.submit.result (Decides a.caller a.epoch (option_copied a.effective) a.rows.now k)) (sym c.in-Submit.is)
+    (of_all c.submit.result a.caller a.epoch (option_copied a.effective) a.rows.now (Submit c.in-Submit.change) (λ reading h caller epoch reply is. is) c.submit.ensures.decided)
 
 pub returns-in-CloseEpoch-clause-decided : goal.returns-in-CloseEpoch-clause-decided
 returns-in-CloseEpoch-clause-decided c =
     let a = c.args in
-    subst (λ k. IfOk c.close_epoch.result (Decides a.caller a.epoch (option_copied a.had) a.rows.now k)) (sym c.in-CloseEpoch.is)
-    (of_epoch c.close_epoch.result a.caller a.epoch (option_copied a.had) a.rows.now (CloseEpoch c.in-CloseEpoch.least) c.close_epoch.ensures.decided)
+    subst (λ k. IfOk c.close_epoch.result (Decides a.caller a.epoch (option_copied a.effective) a.rows.now k)) (sym c.in-CloseEpoch.is)
+    (of_epoch c.close_epoch.result a.caller a.epoch (option_copied a.effective) a.rows.now (CloseEpoch c.in-CloseEpoch.least) c.close_epoch.ensures.decided)

@@ -1,4 +1,4 @@
-use Rattle.review_statements.proofs.OneSchema.{one_schema}
+use Rattle.review_sql_tables.proofs.OneSchema.{one_schema}
 use Rattle.review_sql.proofs.Left.{makes_ours, stop_leaves_desk}
 use Rattle.review_sql.proofs.laws.stop_leaves_desk.Goals as goal
 

@@ -1,10 +1,10 @@
 use Rattle.std.proofs.Common.{◌≡◌, ◌∙◌, Ok, Err, subst, sym, rules, arith}
 use Rattle.std.proofs.lemmas.List.{take_all}
-use Rattle.review_rows.specs.Known.{AreAsked}
-use Rattle.review_lookups.specs.Counts.{SeesBounded}
+use Rattle.review_machine_rows.specs.Known.{AreAsked}
+use Rattle.review_sql_lookups.specs.Counts.{SeesBounded}
 use Rattle.review_sql.proofs.Finding.{Have, all_seen, have_more, learnt_asked, one_failed, one_more, seen_unlearnt}
 use Rattle.review_sql.specs.Loading.{LooksIf, LooksOnce, WereSeen}
-use Rattle.review_database.specs.declared.sights.Sight.TheVariants as sight
+use Rattle.review_sql_lookups.specs.declared.sights.Sight.TheVariants as sight
 use Rattle.review_sql.proofs.loading.find_in_turn.Goals as goal
 
 pub loop-want-preserved : goal.loop-want-preserved

@@ -1,7 +1,7 @@
 use Rattle.std.proofs.Common.{rules, refl, ◌≡◌, ◌∙◌, sym, ap, not, subst, false, true, IsTrue, Ok, Err, arith}
 use Rattle.sqlite.{proofs.StateLemmas.clean_if_open, specs.Held.Held, specs.Held.state, specs.State.HasCleanDisk}
-use Rattle.review_statements.specs.Ran.{Transacts, Within}
-use Rattle.review_tables.proofs.Sequences.{begun, failed, ended}
+use Rattle.review_sql_tables.proofs.Sequences.{begun, failed, ended}
+use Rattle.review_sql_tables.specs.Ran.{Transacts, Within}
 use Rattle.review_sql.specs.Migrated.{Upgrades, if_whole}
 use Rattle.review_sql.proofs.migrating.raise.Goals as goal
 
@@ -53,7 +53,7 @@ returns-in_err-commit-clause-acts g c =
     let yes : c.in_ok-rewrite.field-0 ≡ true = search rules in
     let ran = rw c.transaction-tx.ensures.begun at c.in_ok-rewrite.ensures.ran in
     let inside = subst (λ b. Within R (begun s0) s2 (if_whole (Ok b))) yes ran in
-    let opens = subst (λ b. Rattle.review_statements.specs.Ran.Opens (begun s0) s2 (if_whole (Ok b))) yes (rw c.transaction-tx.ensures.begun at c.in_ok-rewrite.ensures.open) in
+    let opens = subst (λ b. Rattle.review_sql_tables.specs.Ran.Opens (begun s0) s2 (if_whole (Ok b))) yes (rw c.transaction-tx.ensures.begun at c.in_ok-rewrite.ensures.open) in
     let failed_so : c.commit.result ≡ Err c.in_err-commit.field-0.0 = search rules in
     let is : c.from_residual-in_err-commit.result ≡ Err c.in_err-commit.field-0.0 = search rules in
     let all = ended R s0 s2 (state g.S.Store last) (λ was. c.is_autocommit-settled.ensures.settled auto was) (λ is_open. clean_if_open (g.S.Store.view last.store) (g.met.S.Store.shut_if_dirty last.store) is_open) _ c.commit.result inside (λ clean. opens clean refl) c.commit.ensures.ok c.commit.ensures.err c.commit.ensures.survives in

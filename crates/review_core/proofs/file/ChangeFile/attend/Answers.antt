@@ -1,5 +1,5 @@
 use Rattle.review_words.specs.declared.command.ChangeCommand.TheVariants.{AddAttention}
-use Rattle.review_changes.specs.{Change.after_plain, Change.no_copying, Seen.seen}
+use Rattle.review_core_rules.specs.{Change.after_plain, Change.no_copying, Seen.seen}
 use Rattle.review_core.proofs.Kept.{sound_as}
 use Rattle.review_core.proofs.file.ChangeFile.attend.Goals as goal
 

@@ -1,4 +1,4 @@
-use Rattle.review_changes.specs.{Change.joined_at, Seen.seen}
+use Rattle.review_core_rules.specs.{Change.joined_at, Seen.seen}
 use Rattle.review_core.proofs.Kept.{sound_as}
 use Rattle.review_core.proofs.file.ChangeFile.merged.Goals as goal
 

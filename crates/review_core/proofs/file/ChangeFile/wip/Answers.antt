@@ -1,6 +1,6 @@
 use Rattle.std.proofs.Common.{refl}
 use Rattle.review_words.specs.declared.command.ChangeCommand.TheVariants.{SetWip}
-use Rattle.review_changes.specs.{Change.after_plain, Change.no_copying, Seen.seen}
+use Rattle.review_core_rules.specs.{Change.after_plain, Change.no_copying, Seen.seen}
 use Rattle.review_core.proofs.Kept.{sound_as}
 use Rattle.review_core.proofs.file.ChangeFile.wip.Goals as goal
 

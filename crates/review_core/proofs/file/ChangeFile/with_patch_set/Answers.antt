@@ -1,8 +1,8 @@
 use Rattle.review_names.specs.Forms.{most_patches}
 use Rattle.review_words.specs.declared.command.ChangeCommand.TheVariants.{Upload}
-use Rattle.review_changes.proofs.Within.{within_next}
-use Rattle.review_changes.specs.{Change.Setting, Change.after, Change.copying, Change.current, Seen.seen}
-use Rattle.review_parts.specs.Copies.{group_list}
+use Rattle.review_core_rules.proofs.Within.{within_next}
+use Rattle.review_core_rules.specs.{Change.Setting, Change.after, Change.copying, Change.current, Seen.seen}
+use Rattle.review_core_tables.specs.Copies.{group_list}
 use Rattle.review_core.proofs.Kept.{next_free, sound_as}
 use Rattle.review_core.proofs.file.ChangeFile.with_patch_set.Goals as goal
 

@@ -1,8 +1,8 @@
 use Rattle.std.proofs.Common.{rules, ◌≡◌, ◌⊎◌, ap, not, subst, IsTrue, Ok, Err, ◌∙◌}
 use Rattle.sqlite.{proofs.StateLemmas.clean_if_open, specs.Held.Held, specs.Held.state, specs.State.HasCleanDisk}
-use Rattle.review_rows.specs.Rows.{Tables, kept_row}
-use Rattle.review_rows.specs.Shelf.{Shows, IsCommitted, LeavesBy, cause_of}
-use Rattle.review_transactions.specs.{Commits.AreSingle, Numbers.with_request}
+use Rattle.review_machine_rows.specs.Rows.{Tables, kept_row}
+use Rattle.review_machine_rows.specs.Shelf.{Shows, IsCommitted, LeavesBy, cause_of}
+use Rattle.review_sql_writes.specs.{Commits.AreSingle, Numbers.with_request}
 use Rattle.review_sql.proofs.Shown.{alone, holds_committed, holds_still, holds_undone, knows_committed, knows_still, knows_undone, stops_committed, committed_shown, clean_still, stops_still, leaves}
 use Rattle.review_sql.proofs.Singles.{are_single}
 use Rattle.review_sql.specs.Shelf.{ShelfView, Holds, tables_of, stops_of}
@@ -26,12 +26,12 @@ pub invariant_of-self-in-Err : goal.invariant_of-self-in-Err
 invariant_of-self-in-Err g c =
     let old = c.self.inside.conn in
     let mid = c.transact.new.conn in
-    let last = c.told.new.conn in
+    let last = c.fault_for.new.conn in
     let failed : c.transact.result ≡ Err c.in-Err.error = search rules in
     let single : IsTrue g.O.Origin.IS_OURS → IsTrue (state g.S.Store old).is_open → AreSingle (state g.S.Store old).now.trees = λ ours was. are_single (state g.S.Store old).now (c.self.invariant.0.ready ours was).0 (c.schema-live.ensures.live was).0 in (
-      holds_still g.S.Store mid last c.told.ensures.stays g.O.Origin.IS_OURS c.self.inside.numbers c.told.ensures.mode
+      holds_still g.S.Store mid last c.fault_for.ensures.stays g.O.Origin.IS_OURS c.self.inside.numbers c.fault_for.ensures.mode
           (holds_undone g.S.Store old mid g.O.Origin.IS_OURS c.self.inside.numbers c.self.invariant.0 c.args.delta.now c.args.kept.now c.transact.result c.transact.ensures.acts single failed c.transact.ensures.mode),
-      knows_still g.S.Store mid last c.told.ensures.stays g.O.Origin.IS_OURS c.self.inside.counts
+      knows_still g.S.Store mid last c.fault_for.ensures.stays g.O.Origin.IS_OURS c.self.inside.counts
           (knows_undone g.S.Store old mid g.O.Origin.IS_OURS c.self.inside.numbers c.self.invariant.0 c.args.delta.now c.args.kept.now c.transact.result c.transact.ensures.acts single failed c.self.inside.counts c.self.invariant.1),
     )
 
@@ -56,20 +56,20 @@ pub returns-in-Err-clause-stops : goal.returns-in-Err-clause-stops
 returns-in-Err-clause-stops g c honest =
     let old = c.self.inside.conn in
     let mid = c.transact.new.conn in
-    let last = c.told.new.conn in
-    let clean = clean_still g.S.Store mid last c.told.ensures.stays honest.0 in
+    let last = c.fault_for.new.conn in
+    let clean = clean_still g.S.Store mid last c.fault_for.ensures.stays honest.0 in
     subst (λ (h : Held _). (t : Tables) → stops_of g.S.Store g.O.Origin.IS_OURS last t → stops_of g.S.Store g.O.Origin.IS_OURS h t ⊎ Shows (tables_of g.S.Store h) (λ was. IsCommitted was c.args.delta.now (kept_row c.args.kept.now) t)) (ap (λ (k : ShelfView _). k.conn) c.self.view_is)
     (λ t left. stops_committed g.S.Store old mid g.O.Origin.IS_OURS c.self.inside.numbers c.self.invariant.0 c.args.delta.now c.args.kept.now c.transact.result c.transact.ensures.acts
-    (λ ours was. are_single (state g.S.Store old).now (c.self.invariant.0.ready ours was).0 (c.schema-live.ensures.live was).0) honest.1 clean t (stops_still g.S.Store mid last c.told.ensures.stays g.O.Origin.IS_OURS honest.0 t left))
+    (λ ours was. are_single (state g.S.Store old).now (c.self.invariant.0.ready ours was).0 (c.schema-live.ensures.live was).0) honest.1 clean t (stops_still g.S.Store mid last c.fault_for.ensures.stays g.O.Origin.IS_OURS honest.0 t left))
 
 pub returns-in-Err-clause-undone : goal.returns-in-Err-clause-undone
 returns-in-Err-clause-undone g c honest =
     let old = c.self.inside.conn in
-    let last = c.told.new.conn in
+    let last = c.fault_for.new.conn in
     let same : old ≡ c.args.self.now.conn = ap (λ (k : ShelfView _). k.conn) c.self.view_is in
-    subst (λ (h : Held _). LeavesBy (cause_of c.told.result) (tables_of g.S.Store h) (tables_of g.S.Store last)) same
-    (leaves g.S.Store old last (λ is_open. let k = c.told.ensures.stays.kept is_open in let u = c.in-Err.ensures.acts.undone k.0 in (u.0, k.1 ∙ u.1)) c.told.result c.told.ensures.sound
-    (λ is. c.told.ensures.memory is honest.0))
+    subst (λ (h : Held _). LeavesBy (cause_of c.fault_for.result) (tables_of g.S.Store h) (tables_of g.S.Store last)) same
+    (leaves g.S.Store old last (λ is_open. let k = c.fault_for.ensures.stays.kept is_open in let u = c.in-Err.ensures.acts.undone k.0 in (u.0, k.1 ∙ u.1)) c.fault_for.result c.fault_for.ensures.sound
+    (λ is. c.fault_for.ensures.memory is honest.0))
 
 pub returns-in-Ok-clause-alone : goal.returns-in-Ok-clause-alone
 returns-in-Ok-clause-alone g c honest =

@@ -1,8 +1,8 @@
 use Rattle.std.proofs.Common.{rules, ◌≡◌, ◌∙◌, ap, not, subst, IsTrue, IfOk}
 use Rattle.sqlite.{proofs.StateLemmas.clean_if_open, specs.Held.Held, specs.Held.state, specs.State.HasCleanDisk}
 use Rattle.review_words.specs.History.{Identity}
-use Rattle.review_rows.specs.Rows.{Tables}
-use Rattle.review_rows.specs.Shelf.{BlamesTables, IsRecalled, KeepsTables, Shows, LeavesBy, cause_of}
+use Rattle.review_machine_rows.specs.Rows.{Tables}
+use Rattle.review_machine_rows.specs.Shelf.{BlamesTables, IsRecalled, KeepsTables, Shows, LeavesBy, cause_of}
 use Rattle.review_sql.proofs.Recalled.{blames_recalled, keeps_recalled, shows_recalled}
 use Rattle.review_sql.proofs.Shown.{holds_read, holds_still, knows_read, knows_still, stops_read, desk_if_open, same_shown, clean_still, stops_still, leaves}
 use Rattle.review_sql.specs.Shelf.{ShelfView, tables_of, stops_of}
@@ -60,31 +60,31 @@ pub returns-in-Err-clause-stops : goal.returns-in-Err-clause-stops
 returns-in-Err-clause-stops g c honest =
     let old = c.self.inside.conn in
     let mid = c.find_stored.new.conn in
-    let last = c.told.new.conn in
+    let last = c.fault_for.new.conn in
     let same : old ≡ c.args.self.now.conn = ap (λ (k : ShelfView _). k.conn) c.self.view_is in
     let auto : IsTrue c.is_autocommit-settled.result = c.is_autocommit-settled.ensures.value ∙ ap not c.self.invariant.0.autocommit in
-    let clean = clean_still g.S.Store mid last c.told.ensures.stays honest.0 in
+    let clean = clean_still g.S.Store mid last c.fault_for.ensures.stays honest.0 in
     subst (λ (h : Held _). (t : Tables) → stops_of g.S.Store g.O.Origin.IS_OURS last t → stops_of g.S.Store g.O.Origin.IS_OURS h t) same
     (λ t left. stops_read g.S.Store old mid g.O.Origin.IS_OURS c.self.inside.numbers c.self.invariant.0 _ c.find_stored.result (λ was. c.is_autocommit-settled.ensures.settled auto was) (g.met.S.Store.stays old.store) c.find_stored.ensures.serves honest.1 clean t
-    (stops_still g.S.Store mid last c.told.ensures.stays g.O.Origin.IS_OURS honest.0 t left))
+    (stops_still g.S.Store mid last c.fault_for.ensures.stays g.O.Origin.IS_OURS honest.0 t left))
 
 pub returns-in-Err-clause-tables : goal.returns-in-Err-clause-tables
 returns-in-Err-clause-tables g c honest =
     let old = c.self.inside.conn in
-    let last = c.told.new.conn in
+    let last = c.fault_for.new.conn in
     let same : old ≡ c.args.self.now.conn = ap (λ (k : ShelfView _). k.conn) c.self.view_is in
     let desk = desk_if_open g.S.Store old last g.O.Origin.IS_OURS c.self.inside.numbers c.self.invariant.0 honest.1 in
-    subst (λ (h : Held _). LeavesBy (cause_of c.told.result) (tables_of g.S.Store h) (tables_of g.S.Store last)) same
-    (leaves g.S.Store old last (λ is_open. let k = c.told.ensures.stays.kept is_open in let u = c.in-Err.ensures.serves.undone desk k.0 in (u.0, k.1 ∙ u.1)) c.told.result c.told.ensures.sound
-    (λ is. c.told.ensures.memory is honest.0))
+    subst (λ (h : Held _). LeavesBy (cause_of c.fault_for.result) (tables_of g.S.Store h) (tables_of g.S.Store last)) same
+    (leaves g.S.Store old last (λ is_open. let k = c.fault_for.ensures.stays.kept is_open in let u = c.in-Err.ensures.serves.undone desk k.0 in (u.0, k.1 ∙ u.1)) c.fault_for.result c.fault_for.ensures.sound
+    (λ is. c.fault_for.ensures.memory is honest.0))
 
 pub invariant_of-self-in-Err-1 : goal.invariant_of-self-in-Err-1
 invariant_of-self-in-Err-1 g c =
     let mid = c.find_stored.new.conn in
-    let last = c.told.new.conn in
+    let last = c.fault_for.new.conn in
     let clean : IsTrue (state g.S.Store mid).is_open → HasCleanDisk (state g.S.Store mid) = λ is_open. clean_if_open (g.S.Store.view mid.store) (g.met.S.Store.shut_if_dirty mid.store) is_open in (
-      holds_still g.S.Store mid last c.told.ensures.stays g.O.Origin.IS_OURS c.self.inside.numbers c.told.ensures.mode
+      holds_still g.S.Store mid last c.fault_for.ensures.stays g.O.Origin.IS_OURS c.self.inside.numbers c.fault_for.ensures.mode
           (holds_read g.S.Store c.self.inside.conn mid g.O.Origin.IS_OURS c.self.inside.numbers c.self.invariant.0 _ c.find_stored.result c.find_stored.ensures.mode clean c.find_stored.ensures.serves),
-      knows_still g.S.Store mid last c.told.ensures.stays g.O.Origin.IS_OURS c.self.inside.counts
+      knows_still g.S.Store mid last c.fault_for.ensures.stays g.O.Origin.IS_OURS c.self.inside.counts
           (knows_read g.S.Store c.self.inside.conn mid g.O.Origin.IS_OURS c.self.inside.numbers c.self.invariant.0 _ c.find_stored.result c.self.inside.counts c.self.invariant.1 clean c.find_stored.ensures.serves),
     )

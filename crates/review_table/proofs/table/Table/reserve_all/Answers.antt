@@ -5,45 +5,45 @@ use Rattle.review_table.proofs.Empty.{named_more, named_whole, reserve_more, res
 use Rattle.review_table.specs.Rows.{HasPlace, is_named, place_at, row_at}
 use Rattle.review_table.proofs.table.Table.reserve_all.Goals as goal
 
-pub loop-change-preserved : goal.loop-change-preserved
-loop-change-preserved g c =
+pub loop-edit-preserved : goal.loop-edit-preserved
+loop-edit-preserved g c =
     let R = g.K.Ord.cmp in
-    let xs = c.args.changes.now in
-    let item = c.change-item.result in
+    let xs = c.args.edits.now in
+    let item = c.edit-item.result in
     record {
-      same = c.reserve_like.ensures.same ∙ c.loop-change.invariant.same;
-      rows = λ q. c.reserve_like.ensures.rows q ∙ c.loop-change.invariant.rows q;
-      stay = λ q there. c.reserve_like.ensures.stay q (c.loop-change.invariant.stay q there);
-      places = All-more (λ ch. HasPlace R c.reserve_like.new.self ch.key) xs c.loop-change.change-index item (omega arith)
-          (All-weaker (λ ch. HasPlace R c.loop-change.self ch.key) (λ ch. HasPlace R c.reserve_like.new.self ch.key) (λ ch. c.reserve_like.ensures.stay ch.key) (take c.loop-change.change-index xs) c.loop-change.invariant.places)
-          (subst (λ ch. HasPlace R c.reserve_like.new.self ch.key) c.change-item.is c.in_ok-reserve_like.ensures.ok);
+      same = c.reserve_like.ensures.same ∙ c.loop-edit.invariant.same;
+      rows = λ q. c.reserve_like.ensures.rows q ∙ c.loop-edit.invariant.rows q;
+      stay = λ q there. c.reserve_like.ensures.stay q (c.loop-edit.invariant.stay q there);
+      places = All-more (λ ch. HasPlace R c.reserve_like.new.self ch.key) xs c.loop-edit.edit-index item (omega arith)
+          (All-weaker (λ ch. HasPlace R c.loop-edit.self ch.key) (λ ch. HasPlace R c.reserve_like.new.self ch.key) (λ ch. c.reserve_like.ensures.stay ch.key) (take c.loop-edit.edit-index xs) c.loop-edit.invariant.places)
+          (subst (λ ch. HasPlace R c.reserve_like.new.self ch.key) c.edit-item.is c.in_ok-reserve_like.ensures.ok);
       each = λ q. c.in_ok-reserve_like.ensures.each q
-          ∙ (reserve_more (is_named R (take c.loop-change.change-index xs) q) (is_at (R item.key) q) (place_at R c.args.self.now q) (place_at R c.loop-change.self q) (c.loop-change.invariant.each q)
-          ∙ ap (λ b. cond b (Some (row_at R c.args.self.now q)) (place_at R c.args.self.now q)) (sym (named_more R xs c.loop-change.change-index item item q (omega arith) (sym c.change-item.is))));
+          ∙ (reserve_more (is_named R (take c.loop-edit.edit-index xs) q) (is_at (R item.key) q) (place_at R c.args.self.now q) (place_at R c.loop-edit.self q) (c.loop-edit.invariant.each q)
+          ∙ ap (λ b. cond b (Some (row_at R c.args.self.now q)) (place_at R c.args.self.now q)) (sym (named_more R xs c.loop-edit.edit-index item item q (omega arith) (sym c.edit-item.is))));
     }
 
 pub returns-clause-ok : goal.returns-clause-ok
-returns-clause-ok g c = let R = g.K.Ord.cmp in All-same (λ ch. HasPlace R c.loop-change.self ch.key) c.args.changes.now (take c.loop-change.change-index c.args.changes.now) (sym (take_all c.loop-change.change-index c.args.changes.now c.loop-change-test.false)) c.loop-change.invariant.places
+returns-clause-ok g c = let R = g.K.Ord.cmp in All-same (λ ch. HasPlace R c.loop-edit.self ch.key) c.args.edits.now (take c.loop-edit.edit-index c.args.edits.now) (sym (take_all c.loop-edit.edit-index c.args.edits.now c.loop-edit-test.false)) c.loop-edit.invariant.places
 
 pub returns-clause-each : goal.returns-clause-each
 returns-clause-each g c = λ q.
     let R = g.K.Ord.cmp in
     let old = c.args.self.now in
-    c.loop-change.invariant.each q
-    ∙ ap (λ cs. cond (is_named R cs q) (Some (row_at R old q)) (place_at R old q)) (take_all c.loop-change.change-index c.args.changes.now c.loop-change-test.false)
+    c.loop-edit.invariant.each q
+    ∙ ap (λ cs. cond (is_named R cs q) (Some (row_at R old q)) (place_at R old q)) (take_all c.loop-edit.edit-index c.args.edits.now c.loop-edit-test.false)
 
 pub returns-in_err-reserve_like-clause-others : goal.returns-in_err-reserve_like-clause-others
 returns-in_err-reserve_like-clause-others g c = λ q none.
     let R = g.K.Ord.cmp in
     let old = c.args.self.now in
-    ap (λ t. place_at R t q) c.in_err-reserve_like.ensures.err ∙ (c.loop-change.invariant.each q
-    ∙ ap (λ b. cond b (Some (row_at R old q)) (place_at R old q)) (unnamed_front R c.args.changes.now c.loop-change.change-index q none))
+    ap (λ t. place_at R t q) c.in_err-reserve_like.ensures.err ∙ (c.loop-edit.invariant.each q
+    ∙ ap (λ b. cond b (Some (row_at R old q)) (place_at R old q)) (unnamed_front R c.args.edits.now c.loop-edit.edit-index q none))
 
 pub returns-in_err-reserve_like-clause-only : goal.returns-in_err-reserve_like-clause-only
 returns-in_err-reserve_like-clause-only g c = λ full q empty.
     let R = g.K.Ord.cmp in
-    let xs = c.args.changes.now in
-    let i = c.loop-change.change-index in
+    let xs = c.args.edits.now in
+    let i = c.loop-edit.edit-index in
     let old = c.args.self.now in
-    named_whole R xs i q (reserved (is_named R (take i xs) q) (row_at R old q) (place_at R old q) (place_at R c.loop-change.self q) (c.loop-change.invariant.each q) (full q)
+    named_whole R xs i q (reserved (is_named R (take i xs) q) (row_at R old q) (place_at R old q) (place_at R c.loop-edit.self q) (c.loop-edit.invariant.each q) (full q)
     (sym (ap (λ t. place_at R t q) c.in_err-reserve_like.ensures.err) ∙ empty))

@@ -1,5 +1,0 @@
-use Rattle.review_branch_laws.proofs.ParentsKnown.{parents_known}
-use Rattle.review_branch_laws.proofs.facts.parents_are_known.Goals as goal
-
-pub returns : goal.returns
-returns c = parents_known

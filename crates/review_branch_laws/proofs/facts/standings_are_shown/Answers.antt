@@ -1,5 +1,0 @@
-use Rattle.review_branch_laws.proofs.StandingShown.{one_standing}
-use Rattle.review_branch_laws.proofs.facts.standings_are_shown.Goals as goal
-
-pub returns : goal.returns
-returns c = one_standing

@@ -1,4 +1,0 @@
-pub mod Paths
-pub mod Forms
-pub mod Laws
-pub mod Keyed

@@ -1,4 +1,0 @@
-pub mod Differences
-pub mod Edits
-pub mod Same
-pub mod Tables

@@ -1,0 +1,5 @@
+use Rattle.review_core_standing.proofs.Counting.{accounts_counted}
+use Rattle.review_core_standing.proofs.status_laws.label_counts_accounts.Goals as goal
+
+pub returns : goal.returns
+returns c = accounts_counted

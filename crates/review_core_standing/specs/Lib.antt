@@ -1,0 +1,3 @@
+pub mod Grouped
+pub mod Counting
+pub mod inner

@@ -1,0 +1,65 @@
+-- Rows by account, and who is called.
+use denote.Ref.{Bor}
+use Rattle.std.proofs.Common.{◌≡◌, ℕ, List, [], ◌∷◌, map, Option, Some, None, Bool, true, false, not, ◌&&◌, ◌||◌, refl, sym, ap, ◌∙◌, eqb-true, eq-eqb, arith}
+use Rattle.std.{proofs.lemmas.Bool.Decides.nat_tests, specs.BTreeMap.is_at}
+use Rattle.std.specs.{Cmp.unsigned_tied, List.list_any, List.filter, Map.Iter.deref_pair, Ordering.nat_cmp}
+use Rattle.std.specs.Prelude.{◌==◌, if◌then◌else◌, is_some}
+use Rattle.review_table.specs.Rows.{row_in}
+use Rattle.review_core_rules.specs.{Change.kept_or, declared.rows.AttentionEntry.AttentionEntry, declared.rows.Why.Why}
+use Rattle.review_core_tables.proofs.InTurn.{Tells, at_sym}
+use Rattle.review_core_tables.specs.inner.Words.{called_among}
+
+pub accounts_tell : Tells nat_cmp
+accounts_tell = record {
+  same = λ j k e. eqb-true j k (sym (unsigned_tied j k) ∙ e);
+  self = λ k. unsigned_tied k k ∙ eq-eqb k k refl;
+}
+
+some_where : {X : Type 0} (b : Bool) (x : X) (o : Option X) → is_some (if b then Some x else o) ≡ (b || is_some o)
+some_where true x o = refl
+some_where false x o = refl
+
+-- who has a row
+pub has_row : {X : Type 0} (rows : List (ℕ × X)) (u : ℕ) → list_any (λ x. x == u) (map (λ e. e.0) rows) ≡ is_some (row_in nat_cmp rows u)
+has_row [] u = refl
+has_row (e ∷ rows) u =
+    (λ i. (sym (unsigned_tied e.0 u) ∙ at_sym accounts_tell e.0 u) i || has_row rows u i)
+    ∙ sym (some_where (is_at (nat_cmp u) e.0) e.1 (row_in nat_cmp rows u))
+
+pub keys_now : {X : Type 0} (rows : List (Bor ℕ × Bor X)) → map (λ e. e.0.now) rows ≡ map (λ e. e.0) (map deref_pair rows)
+keys_now [] = refl
+keys_now (e ∷ rows) = ap (λ ks. e.0.now ∷ ks) (keys_now rows)
+
+-- all but the caller
+pub any_but : (caller u : ℕ) (xs : List ℕ) → list_any (λ x. x == u) (filter (λ x. not (x == caller)) xs) ≡ (list_any (λ x. x == u) xs && not (caller == u))
+any_but caller u [] = refl
+any_but caller u (x ∷ xs) = grind (arith, nat_tests, any_but caller u xs)
+
+pub kept_none : (o : Option AttentionEntry) (n : ℕ) → kept_or o None n ≡ o
+kept_none None n = refl
+kept_none (Some c) n = refl
+
+-- calling some accounts, where who is among them is known
+kept_where : (b : Bool) (o : Option AttentionEntry) (why : Option Why) (n : ℕ) → (if b then kept_or o why n else o) ≡ kept_or o (if b then why else None) n
+kept_where true o why n = refl
+kept_where false o why n = sym (kept_none o n)
+
+pub called_eligible : (accounts : List ℕ) (e : Bool) (caller u : ℕ) (o : Option AttentionEntry) (why : Option Why) (n : ℕ) → list_any (λ x. x == u) accounts ≡ e →
+    called_among (filter (λ x. not (x == caller)) accounts) why n u o ≡ kept_or o (if e && (not (caller == u) && true) then why else None) n
+called_eligible accounts e caller u o why n is =
+    ap (λ b. if b then kept_or o why n else o) (any_but caller u accounts ∙ ap (λ b. b && not (caller == u)) is)
+    ∙ (kept_where (e && not (caller == u)) o why n ∙ ap (λ b. kept_or o (if b then why else None) n) (and_true e (not (caller == u))))
+  where
+    and_true : (a b : Bool) → (a && b) ≡ (a && (b && true))
+    and_true true true = refl
+    and_true true false = refl
+    and_true false b = refl
+
+pub called_not : (e : Bool) (b : Bool) (o : Option AttentionEntry) (why : Option Why) (n : ℕ) → o ≡ kept_or o (if e && (b && false) then why else None) n
+called_not true true o why n = sym (kept_none o n)
+called_not true false o why n = sym (kept_none o n)
+called_not false b o why n = sym (kept_none o n)
+
+pub kept_nothing : (b : Bool) (o : Option AttentionEntry) (n : ℕ) → o ≡ kept_or o (if b then None else None) n
+kept_nothing true o n = sym (kept_none o n)
+kept_nothing false o n = sym (kept_none o n)

@@ -1,0 +1,4 @@
+pub mod Tables
+pub mod Copies
+pub mod Conditions
+pub mod inner

@@ -1,4 +1,0 @@
-use Rattle.review_desk.proofs.files.serve.Goals as goal
-
-pub returns : goal.returns
-returns g c = (_, _, c.ends_of-ends.ensures.unwarned, c.serve_on-job.result, c.serve_on-job.ensures, c.tell_served.ensures)

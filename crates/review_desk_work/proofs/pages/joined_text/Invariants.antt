@@ -1,0 +1,7 @@
+use Rattle.std.proofs.Common.{◌≡◌, ◌+◌, ◌++◌, drop}
+use Rattle.std.specs.Prelude.{string_bytes}
+use Rattle.review_desk_work.specs.Pages.{joined_from}
+use Rattle.review_desk_work.proofs.pages.joined_text.Given as goal
+
+abbrev pub invariant-loop-index : goal.invariant-loop-index
+invariant-loop-index l = string_bytes l.text ++ joined_from (l.index + 1) (drop l.index l.joined) ≡ joined_from 1 l.joined

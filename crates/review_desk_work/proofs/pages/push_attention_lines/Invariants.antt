@@ -1,0 +1,7 @@
+use Rattle.std.proofs.Common.{◌≡◌, ◌++◌, drop}
+use Rattle.std.specs.Prelude.{flat_map, string_bytes}
+use Rattle.review_desk_work.specs.Pages.{attention_line}
+use Rattle.review_desk_work.proofs.pages.push_attention_lines.Given as goal
+
+abbrev pub invariant-loop-call : goal.invariant-loop-call
+invariant-loop-call l = string_bytes l.text ++ flat_map attention_line (drop l.call-index l.calls) ≡ string_bytes l.fn.text ++ flat_map attention_line l.calls

@@ -1,0 +1,88 @@
+-- The faults of the program, from those of its parts.
+use Rattle.std.specs.Prelude.{ℕ, ◌≡◌, ◌==◌, if◌then◌else◌, List, Result, Ok, Err, codes}
+use Rattle.review_http.specs.declared.connections.ConnectionsFault.{ConnectionsFault}
+use Rattle.review_json_lines.specs.declared.fault.{Fault.Fault, Outcome.Outcome}
+use Rattle.review_json_lines.specs.declared.fault.Outcome.TheVariants.{Complete, Incomplete}
+use Rattle.review_sql.specs.declared.faults.DeskFault.{DeskFault}
+use Rattle.review_desk_work.specs.declared.fault.ProgramFault.{ProgramFault}
+use Rattle.review_desk_work.specs.declared.fault.ProgramFault.TheVariants.{NotADesk, WrongVersion, Store, ServedInPart, NotEmpty, Memory, Input, Output, Network, Damaged, Pattern, NoChange, NoProject, NoBranch}
+use Rattle.review_desk_work.specs.declared.show_fault.ShowFault.{ShowFault}
+use Rattle.review_json_lines.specs.declared.fault.Fault.TheVariants as line
+use Rattle.review_http.specs.declared.connections.ConnectionsFault.TheVariants as connections
+use Rattle.review_desk_work.specs.declared.show_fault.ShowFault.TheVariants as shown
+use Rattle.review_sql.specs.declared.faults.DeskFault.TheVariants as desk
+
+-- why a desk is not made or opened
+abbrev pub desk_fault : DeskFault → ProgramFault
+desk_fault desk.NotADesk = NotADesk
+desk_fault desk.NotOurs = NotADesk
+desk_fault desk.WrongVersion = WrongVersion
+desk_fault desk.Store = Store
+desk_fault desk.NotEmpty = NotEmpty
+desk_fault desk.Memory = Memory
+
+-- why lines are not all taken
+abbrev pub line_fault : Fault → ProgramFault
+line_fault line.Memory = Memory
+line_fault line.Input = Input
+line_fault line.Output = Output
+
+-- why connections are not all served
+abbrev pub connections_fault : ConnectionsFault → ProgramFault
+connections_fault connections.Network = Network
+connections_fault connections.Output = Output
+
+-- why a page is not shown
+abbrev pub show_fault : ShowFault → ProgramFault
+show_fault shown.Memory = Memory
+show_fault shown.Store = Store
+show_fault shown.Damaged = Damaged
+show_fault shown.Pattern = Pattern
+show_fault shown.NoChange = NoChange
+show_fault shown.NoProject = NoProject
+show_fault shown.NoBranch = NoBranch
+show_fault shown.Output = Output
+
+-- how `apply` ends
+abbrev pub lines_outcome : Result Outcome Fault → Result Outcome ProgramFault
+lines_outcome (Ok outcome) = Ok outcome
+lines_outcome (Err fault) = Err (line_fault fault)
+
+-- how serving ends, by how many connections are left
+abbrev pub serve_outcome : Result ℕ ConnectionsFault → Result Outcome ProgramFault
+serve_outcome (Ok left) = if left == 0 then Ok Complete else Err (ServedInPart left)
+serve_outcome (Err fault) = Err (connections_fault fault)
+
+-- how `show` and `joined` end
+abbrev pub shown_outcome : {X : Type 0} → Result X ShowFault → Result Outcome ProgramFault
+shown_outcome (Ok done) = Ok Complete
+shown_outcome (Err fault) = Err (show_fault fault)
+
+-- what standard error is told of a fault, behind the program's name
+abbrev pub fault_text : ProgramFault → List ℕ
+fault_text NotADesk = codes "not a desk"
+fault_text WrongVersion = codes "wrong version"
+fault_text Store = codes "store fault"
+fault_text (ServedInPart left) = codes "store fault"
+fault_text NotEmpty = codes "not empty"
+fault_text Memory = codes "out of memory"
+fault_text Input = codes "input fault"
+fault_text Output = codes "output fault"
+fault_text Network = codes "network fault"
+fault_text Damaged = codes "damaged"
+fault_text Pattern = codes "pattern"
+fault_text NoChange = codes "no such change"
+fault_text NoProject = codes "no such project"
+fault_text NoBranch = codes "no such branch"
+
+-- what is told of a job whose file is closed, or could not be: its own fault before that of closing
+abbrev pub after_closing : {X Y : Type 0} → Result X ProgramFault → Result Y ProgramFault → Result X ProgramFault
+after_closing (Err fault) closed = Err fault
+after_closing (Ok done) (Ok closed) = Ok done
+after_closing (Ok done) (Err fault) = Err fault
+
+-- the exit status: 0 where all was done, 1 where a line was no delivery or was not taken, or a fault came
+abbrev pub status_of : Result Outcome ProgramFault → ℕ
+status_of (Ok Complete) = 0
+status_of (Ok Incomplete) = 1
+status_of (Err fault) = 1

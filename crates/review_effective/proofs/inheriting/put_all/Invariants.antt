@@ -1,6 +1,0 @@
-use Rattle.std.{proofs.Common.◌≡◌, proofs.Common.drop, specs.Prelude.fold}
-use Rattle.review_project.specs.Inherited.{put_by}
-use Rattle.review_effective.proofs.inheriting.put_all.Given as goal
-
-abbrev pub invariant-loop-thing : goal.invariant-loop-thing
-invariant-loop-thing g l = fold (put_by g.N.Named.name_of) l.things.items (drop l.thing-index l.more) ≡ fold (put_by g.N.Named.name_of) l.initial.things.items l.more

@@ -1,0 +1,4 @@
+pub mod Holds
+pub mod Labels
+pub mod Postfix
+pub mod inner

@@ -1,0 +1,4 @@
+-- Words that only proofs and private clauses use.
+pub mod Scan
+pub mod Views
+pub mod Words

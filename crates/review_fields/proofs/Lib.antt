@@ -1,3 +1,0 @@
-pub mod Cutting
-mod Splitting
-pub mod Signed

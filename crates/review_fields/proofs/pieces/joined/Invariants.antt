@@ -1,8 +1,0 @@
-use Rattle.std.proofs.Common.{◌≡◌, ◌++◌, drop, map}
-use Rattle.std.specs.Prelude.{string_bytes}
-use Rattle.review_words.specs.Texts.{text_of}
-use Rattle.review_fields.specs.Shown.{shown}
-use Rattle.review_fields.proofs.pieces.joined.Given as goal
-
-abbrev pub invariant-loop-piece : goal.invariant-loop-piece
-invariant-loop-piece l = string_bytes l.out ++ text_of (map shown (drop l.piece-index l.pieces)) ≡ text_of (map shown l.pieces)

@@ -1,0 +1,7 @@
+use Rattle.std.{proofs.Common.◌≡◌, specs.List.list_any, specs.Prelude.is_none}
+use Rattle.toml.specs.{Data.get, View.members_view, View.table_view}
+use Rattle.review_file_document.specs.Document.{members}
+use Rattle.review_file_document.proofs.keys.some_lacks.Given as goal
+
+abbrev pub invariant-loop-part : goal.invariant-loop-part
+invariant-loop-part l = list_any (λ m. is_none (get l.key m.1)) (members (members_view l.part-iterator)) ≡ list_any (λ m. is_none (get l.key m.1)) (members (table_view l.section))

@@ -1,0 +1,7 @@
+use Rattle.std.proofs.Common.{refl}
+use Rattle.review_file_rules.proofs.Spells.{pattern_spelled}
+use Rattle.review_file_rules.specs.declared.fault.ReadFault.TheVariants.{Pattern}
+use Rattle.review_file_rules.proofs.reading.refused_has_pattern.Goals as goal
+
+pub returns : goal.returns
+returns c text refused = pattern_spelled text Pattern refused refl

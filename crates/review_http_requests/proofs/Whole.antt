@@ -1,0 +1,8 @@
+-- The table of paths, computed.
+use Rattle.std.proofs.Common.{refl}
+use Rattle.matchit.specs.Route.{scan}
+use Rattle.review_http_requests.specs.{PathLaws.HoldsEachPath, Table.table, Table.with_path}
+
+pub whole : HoldsEachPath
+unfolding table with_path scan
+whole = refl

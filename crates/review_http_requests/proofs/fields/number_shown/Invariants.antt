@@ -1,0 +1,7 @@
+use Rattle.std.proofs.Common.{◌≡◌, ◌≤◌, drop}
+use Rattle.review_http_requests.proofs.Digits.{told}
+use Rattle.review_http_requests.specs.Fields.{digits_after, most}
+use Rattle.review_http_requests.proofs.fields.number_shown.Given as goal
+
+abbrev pub invariant-loop-b : goal.invariant-loop-b
+invariant-loop-b l = (told (digits_after l.number (drop l.b-index l.text)) ≡ told (digits_after 0 l.text)) × (l.number ≤ most)

@@ -1,0 +1,5 @@
+use Rattle.review_http_requests.proofs.One.{one}
+use Rattle.review_http_requests.proofs.request_laws.calls_for_one_thing.Goals as goal
+
+pub returns : goal.returns
+returns c = λ bytes ended o p x y. one bytes ended o p x y

@@ -1,0 +1,5 @@
+use Rattle.review_http_requests.proofs.Longer.{whole}
+use Rattle.review_http_requests.proofs.request_laws.cuts_do_not_matter.Goals as goal
+
+pub returns : goal.returns
+returns c = λ input bytes left ended o g h. whole input bytes left ended o g h

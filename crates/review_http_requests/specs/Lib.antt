@@ -1,0 +1,17 @@
+pub mod Counts
+pub mod Bytes
+pub mod Shown
+pub mod Table
+pub mod Segments
+pub mod Resources
+pub mod Methods
+pub mod PathLaws
+pub mod Faults
+pub mod Fields
+pub mod Heads
+pub mod Wire
+pub mod Seen
+pub mod Judged
+pub mod Told
+pub mod RequestLaws
+pub mod inner

@@ -1,0 +1,56 @@
+-- What methods ask of a resource.
+use Rattle.std.specs.Prelude.{ℕ, List, if◌then◌else◌, Result, Ok, Err, codes}
+use Rattle.std.specs.Str.{bytes_eq}
+use Rattle.review_json_routes.specs.declared.route.Route.{Route}
+use Rattle.review_http_requests.specs.declared.methods.Methods.{Methods}
+use Rattle.review_http_requests.specs.declared.methods.Methods.TheVariants.{Get, GetAndPost, GetAndPut, Post, Put}
+use Rattle.review_http_requests.specs.declared.resources.Resource.{Resource}
+use Rattle.review_http_requests.specs.declared.resources.Resource.TheVariants.{Accounts, Group, Project, Branch, Changes, AskChange, OnChange, Attention, Submit, CloseEpoch}
+use Rattle.review_words.specs.declared.command.ChangeQuery.TheVariants as query
+use Rattle.review_json_routes.specs.declared.route.ChangeRoute.TheVariants as asked
+use Rattle.review_json_routes.specs.declared.route.Route.TheVariants as route
+
+-- the names of methods in the order of bytes, with a comma and a space between them
+abbrev pub methods_text : Methods → List ℕ
+methods_text Get = codes "GET"
+methods_text GetAndPost = codes "GET, POST"
+methods_text GetAndPut = codes "GET, PUT"
+methods_text Post = codes "POST"
+methods_text Put = codes "PUT"
+
+-- a resource that takes GET alone
+abbrev pub by_get : List ℕ → Route → Result Route Methods
+by_get method route = if bytes_eq method (codes "GET") then Ok route else Err Get
+
+-- a resource that takes POST alone
+abbrev pub by_post : List ℕ → Route → Result Route Methods
+by_post method route = if bytes_eq method (codes "POST") then Ok route else Err Post
+
+-- a resource that takes PUT alone
+abbrev pub by_put : List ℕ → Route → Result Route Methods
+by_put method route = if bytes_eq method (codes "PUT") then Ok route else Err Put
+
+-- what a method asks of a branch
+abbrev pub of_branch : List ℕ → List ℕ → List ℕ → Result Route Methods
+of_branch method project branch =
+    if bytes_eq method (codes "GET") then Ok (route.Branch project branch)
+    else (if bytes_eq method (codes "PUT") then Ok (route.RecordBase project branch) else Err GetAndPut)
+
+-- what a method asks of an attention set
+abbrev pub of_attention : List ℕ → ℕ → Result Route Methods
+of_attention method change =
+    if bytes_eq method (codes "GET") then Ok (route.AskChange change query.Attention)
+    else (if bytes_eq method (codes "POST") then Ok (route.OnChange change asked.AddAttention) else Err GetAndPost)
+
+-- what a method asks of a resource, or where it is none of the resource's the methods that are
+abbrev pub route_of : List ℕ → Resource → Result Route Methods
+route_of method Accounts = by_post method route.CreateAccount
+route_of method (Group group) = by_put method (route.PutGroup group)
+route_of method (Project project) = by_put method (route.PutProject project)
+route_of method (Branch project branch) = of_branch method project branch
+route_of method Changes = by_post method route.CreateChange
+route_of method (AskChange change query) = by_get method (route.AskChange change query)
+route_of method (OnChange change asked) = by_post method (route.OnChange change asked)
+route_of method (Attention change) = of_attention method change
+route_of method (Submit change) = by_post method (route.Submit change)
+route_of method CloseEpoch = by_post method route.CloseEpoch

@@ -1,0 +1,76 @@
+-- The table of paths, as the router's definition has it.
+use Rattle.std.specs.Prelude.{ℕ, List, [], ◌∷◌, ◌++◌, Option, option_map, codes, Result, Ok, Err}
+use Rattle.matchit.specs.{Order.placed, Route.Scan, Route.parse_route, Router.RouteOf, Router.route_from, Rows.RowsOf}
+use Rattle.matchit.specs.{Seek.first, declared.error.InsertError.InsertError}
+use Rattle.review_http_requests.specs.declared.table.Place.{Place}
+use Rattle.review_http_requests.specs.declared.table.Place.TheVariants.{Accounts, Group, Project, Branch, Changes, Change, Requirements, Threads, Attention, Revisions, Review, Reviewers, ReviewerDelete, Wip, Ready, Abandon, Restore, Submit, AttentionDelete, EpochsClose}
+
+-- paths as the router keeps them, each with its place
+abbrev pub Rows : Type 0
+Rows = RowsOf (RouteOf Place)
+
+-- the paths with one more, as the router read it
+abbrev pub add_read : Result Scan InsertError → Place → Rows → Rows
+add_read (Ok s) place rows = placed ((route_from s place).pattern, route_from s place) rows
+add_read (Err e) place rows = rows
+
+-- the paths with one more
+unfoldable pub with_path : List ℕ → Place → Rows → Rows
+with_path text place rows = add_read (parse_route text) place rows
+
+-- the paths of accounts, groups, projects, branches and new changes; a name or a number is left open between braces
+abbrev pub desk_paths : List (List ℕ × Place)
+desk_paths =
+    (codes "/accounts", Accounts)
+    ∷ (codes "/groups/{group}", Group)
+    ∷ (codes "/projects/{project}", Project)
+    ∷ (codes "/projects/{project}/branches/{branch}", Branch)
+    ∷ (codes "/changes/", Changes)
+    ∷ []
+
+-- the paths of a change, of what is asked of it, and of its new patch sets
+abbrev pub change_paths : List (List ℕ × Place)
+change_paths =
+    (codes "/changes/{change}", Change)
+    ∷ (codes "/changes/{change}/requirements", Requirements)
+    ∷ (codes "/changes/{change}/threads", Threads)
+    ∷ (codes "/changes/{change}/attention", Attention)
+    ∷ (codes "/changes/{change}/revisions", Revisions)
+    ∷ []
+
+-- the paths of its reviews, its reviewers and its work in progress
+abbrev pub reviewing_paths : List (List ℕ × Place)
+reviewing_paths =
+    (codes "/changes/{change}/revisions/{patch_set}/review", Review)
+    ∷ (codes "/changes/{change}/reviewers", Reviewers)
+    ∷ (codes "/changes/{change}/reviewers/{account}/delete", ReviewerDelete)
+    ∷ (codes "/changes/{change}/wip", Wip)
+    ∷ (codes "/changes/{change}/ready", Ready)
+    ∷ []
+
+-- the paths that end it, or take who is called off it, and the one that closes epochs
+abbrev pub state_paths : List (List ℕ × Place)
+state_paths =
+    (codes "/changes/{change}/abandon", Abandon)
+    ∷ (codes "/changes/{change}/restore", Restore)
+    ∷ (codes "/changes/{change}/submit", Submit)
+    ∷ (codes "/changes/{change}/attention/{account}/delete", AttentionDelete)
+    ∷ (codes "/epochs/close", EpochsClose)
+    ∷ []
+
+-- the paths that there are, each with its place
+abbrev pub paths : List (List ℕ × Place)
+paths = desk_paths ++ (change_paths ++ (reviewing_paths ++ state_paths))
+
+-- the paths with more, one after the other
+abbrev pub with_paths : List (List ℕ × Place) → Rows → Rows
+with_paths [] rows = rows
+with_paths ((text, place) ∷ more) rows = with_paths more (with_path text place rows)
+
+-- the table of paths
+unfoldable pub table : Rows
+table = with_paths paths []
+
+-- the place of a path, by the router's definition
+abbrev pub place_of : List ℕ → Option Place
+place_of path = option_map (λ r. r.value) (first table path)

@@ -1,0 +1,43 @@
+-- Words that only proofs and private clauses use.
+use Rattle.std.specs.Prelude.{◌≤◌, ℕ, List, length, drop, ◌≡◌, ◌⊎◌, Err, Result, Ok, ◌<◌, ◌+◌, Bool, false}
+use Rattle.httparse.specs.Grammar.{RequestHead, ReadsRequest, print_request, NeverHasRequest, HasNoRequest, MayBecomeRequest}
+use Rattle.review_http_requests.specs.{Heads.envelope, Wire.most_fields, Wire.HasManyFields, Wire.Follows}
+use Rattle.review_http_requests.specs.declared.envelope.Envelope.{Envelope}
+use Rattle.review_http_requests.specs.declared.fault.Refused.{Refused, TheVariants.Http, TheVariants.Memory}
+use Rattle.review_http_requests.specs.declared.{fault.RequestFault.RequestFault, http_fault.HttpFault.HttpFault}
+use Rattle.review_http_requests.specs.declared.judge.Head.{Head, TheVariants.Asks, TheVariants.Partial}
+use Rattle.review_http_requests.specs.declared.judge.Look.{Look, TheVariants.Whole, TheVariants.Wants}
+use Rattle.review_http_requests.specs.declared.http_fault.HttpFault.TheVariants as faults
+use Rattle.review_http_requests.specs.declared.fault.RequestFault.TheVariants as request
+
+-- a head of few fields stands at the front
+abbrev pub Stands : List ℕ → RequestHead → Type 0
+Stands buf h = ReadsRequest buf h (drop (length (print_request h)) buf) × (length h.fields ≤ most_fields)
+
+-- a fault of a head that stands there, or of one that can't
+abbrev pub IsFaultOf : List ℕ → HttpFault → Type 0
+IsFaultOf buf f =
+    ((h : RequestHead) × Stands buf h × (envelope h ≡ Err f)) ⊎ ((f ≡ faults.BadHead) × NeverHasRequest buf)
+    ⊎ ((f ≡ faults.HeadTooLarge) × HasManyFields buf)
+
+-- what stands at the front of the bytes, or the fault of it
+abbrev pub HeadIs : List ℕ → Result Head Refused → Type 0
+HeadIs buf (Ok (Asks n a)) = (h : RequestHead) × Stands buf h × (n ≡ length (print_request h)) × (n ≤ length buf) × (envelope h ≡ Ok a)
+HeadIs buf (Ok Partial) = HasNoRequest buf × MayBecomeRequest buf
+HeadIs buf (Err (Http f)) = IsFaultOf buf f
+HeadIs buf (Err Memory) = Unit {0}
+
+-- what the bytes after a head that ends there, and the end of the input, say of what it asked for
+abbrev pub Finishes : Envelope → ℕ → List ℕ → Bool → Result Look RequestFault → Type 0
+Finishes a end rest ended (Ok (Whole d)) = Follows (Ok a) rest ended (Ok d)
+Finishes a end rest ended (Ok (Wants n)) = (ended ≡ false) × (length rest < a.length) × (n ≤ end + a.length)
+Finishes a end rest ended (Err request.Empty) = ⊥
+Finishes a end rest ended (Err (request.Http f)) = Follows (Ok a) rest ended (Err f)
+Finishes a end rest ended (Err request.Read) = ⊥
+Finishes a end rest ended (Err request.Reads) = ⊥
+Finishes a end rest ended (Err request.Memory) = Unit {0}
+
+-- the fault of a request that one of its parts is
+abbrev pub request_fault : Refused → RequestFault
+request_fault (Http f) = request.Http f
+request_fault Memory = request.Memory

@@ -1,0 +1,106 @@
+//! What methods ask of a resource.
+ghost use Rattle.std.specs.Prelude.{◌≡◌};
+ghost use Rattle.review_http_requests.specs.Methods.{methods_text, by_get, by_post, by_put, of_branch, of_attention, route_of};
+
+use crate::resources::Resource;
+use review_json_routes::{ChangeRoute, Route};
+use review_words::{BranchName, ChangeNo, ChangeQuery, ProjectName};
+
+/// The methods that a resource takes.
+#[derive(Clone, Copy, PartialEq, Eq)]
+pub enum Methods {
+    Get,
+    GetAndPost,
+    GetAndPut,
+    Post,
+    Put,
+}
+
+impl Methods {
+    /// Their names in the order of bytes, with `, ` between them.
+    pub fn text(self) -> &'static str
+        ensures { result.now ≡ methods_text self }
+    {
+        match self {
+            Methods::Get => "GET",
+            Methods::GetAndPost => "GET, POST",
+            Methods::GetAndPut => "GET, PUT",
+            Methods::Post => "POST",
+            Methods::Put => "PUT",
+        }
+    }
+}
+
+fn by_get(method: &[u8], route: Route) -> Result<Route, Methods>
+    ensures { result ≡ by_get method.now route }
+{
+    if method == b"GET".as_slice() {
+        Ok(route)
+    } else {
+        Err(Methods::Get)
+    }
+}
+
+fn by_post(method: &[u8], route: Route) -> Result<Route, Methods>
+    ensures { result ≡ by_post method.now route }
+{
+    if method == b"POST".as_slice() {
+        Ok(route)
+    } else {
+        Err(Methods::Post)
+    }
+}
+
+fn by_put(method: &[u8], route: Route) -> Result<Route, Methods>
+    ensures { result ≡ by_put method.now route }
+{
+    if method == b"PUT".as_slice() {
+        Ok(route)
+    } else {
+        Err(Methods::Put)
+    }
+}
+
+fn of_branch(method: &[u8], project: ProjectName, branch: BranchName) -> Result<Route, Methods>
+    ensures { result ≡ of_branch method.now project branch }
+{
+    if method == b"GET".as_slice() {
+        return Ok(Route::Branch { project, branch });
+    }
+    if method == b"PUT".as_slice() {
+        return Ok(Route::RecordBase { project, branch });
+    }
+    Err(Methods::GetAndPut)
+}
+
+fn of_attention(method: &[u8], change: ChangeNo) -> Result<Route, Methods>
+    ensures { result ≡ of_attention method.now change }
+{
+    if method == b"GET".as_slice() {
+        let query = ChangeQuery::Attention;
+        return Ok(Route::AskChange { change, query });
+    }
+    if method == b"POST".as_slice() {
+        let asked = ChangeRoute::AddAttention;
+        return Ok(Route::OnChange { change, asked });
+    }
+    Err(Methods::GetAndPost)
+}
+
+/// What a method asks of a resource, or where it is none of the resource's the methods that are. Methods are told apart by case.
+pub fn route_of(method: &[u8], resource: Resource) -> Result<Route, Methods>
+    ensures { result ≡ route_of method.now resource }
+{
+    match resource {
+        Resource::Accounts => by_post(method, Route::CreateAccount),
+        Resource::Group { group } => by_put(method, Route::PutGroup { group }),
+        Resource::Project { project } => by_put(method, Route::PutProject { project }),
+        Resource::Branch { project, branch } => of_branch(method, project, branch),
+        Resource::Changes => by_post(method, Route::CreateChange),
+        Resource::AskChange { change, query } => by_get(method, Route::AskChange { change, query }),
+        Resource::OnChange { change, asked } => by_post(method, Route::OnChange { change, asked }),
+        Resource::Attention { change } => of_attention(method, change),
+        Resource::Submit { change } => by_post(method, Route::Submit { change }),
+        Resource::CloseEpoch => by_post(method, Route::CloseEpoch),
+    }
+}

@@ -1,6 +1,0 @@
-use Rattle.std.proofs.Common.{refl}
-use Rattle.review_project.{proofs.Spells.pattern_spelled, specs.declared.fault.ReadFault.TheVariants.Pattern}
-use Rattle.review_inheritance.proofs.reading.refused_has_pattern.Goals as goal
-
-pub returns : goal.returns
-returns c text refused = pattern_spelled text Pattern refused refl

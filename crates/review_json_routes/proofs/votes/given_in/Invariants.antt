@@ -1,0 +1,7 @@
+use Rattle.std.{proofs.Common.◌≡◌, proofs.Common.◌++◌, specs.Prelude.option_map}
+use Rattle.serde_json.specs.View.{members_view}
+use Rattle.review_json_routes.specs.Votes.{given_in}
+use Rattle.review_json_routes.proofs.votes.given_in.Given as goal
+
+abbrev pub invariant-loop-key : goal.invariant-loop-key
+invariant-loop-key l = option_map (λ more. l.given.items ++ more) (given_in (members_view l.key-iterator)) ≡ given_in (members_view l.members.entries)

@@ -1,4 +1,0 @@
-pub mod Holds
-pub mod Labels
-pub mod Postfix
-pub mod Stack

@@ -1,8 +1,0 @@
-use Rattle.std.{proofs.Common.map, specs.Map.Iter.deref_pair}
-use Rattle.review_table.specs.Rows.{rows_of}
-use Rattle.review_kept_rows.proofs.Listed.{AreJoinedSoFar}
-use Rattle.review_kept_rows.specs.Kept.{row_of}
-use Rattle.review_kept_rows.proofs.kept.KeptChanges.joined.Given as goal
-
-abbrev pub invariant-loop-key : goal.invariant-loop-key
-invariant-loop-key l = AreJoinedSoFar (row_of (rows_of l.self.kept)) l.branch (map deref_pair l.key-iterator.rest.items) l.joined.items

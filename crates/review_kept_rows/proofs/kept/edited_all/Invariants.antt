@@ -1,7 +1,0 @@
-use Rattle.std.proofs.Common.{take}
-use Rattle.review_table.specs.Rows.{rows_of}
-use Rattle.review_kept_rows.specs.Kept.{PutAllEdited}
-use Rattle.review_kept_rows.proofs.kept.edited_all.Given as goal
-
-abbrev pub invariant-loop-edit : goal.invariant-loop-edit
-invariant-loop-edit l = PutAllEdited (rows_of l.kept) (take l.edit-index l.edits) l.changes.items

@@ -1,5 +1,0 @@
-use Rattle.review_lines.proofs.Begun.{filled}
-use Rattle.review_lines.proofs.lines.Lines.read.Goals as goal
-
-pub returns-in-Ok-clause-kept : goal.returns-in-Ok-clause-kept
-returns-in-Ok-clause-kept g c = filled _ _ _ _ c.requires.taken c.in-Ok.ensures.gave

@@ -1,0 +1,312 @@
+-- What the loaded rows tell of the history, and what a command's reply and delta make of it.
+use Rattle.std.proofs.Common.{◌≡◌, ℕ, ◌+◌, ◌==◌, List, [], ◌∷◌, ◌++◌, Option, Some, None, Bool, true, false, cond, not, ◌&&◌, refl, sym, ap, ◌∙◌, subst, ⊎_elim, length, map, arith}
+use Rattle.std.proofs.lemmas.{Bool.cases_Bool, Bool.Decides.nat_tests, Map.Text.is_eq-slice_cmp}
+use Rattle.std.{proofs.lemmas.Slice.Eq.bytes_eq-Decides, specs.BTreeMap.is_at, specs.Cmp.unsigned_tied}
+use Rattle.std.specs.{Cmp.Lexicographic.slice_cmp, List.AllByRecursion, List.list_all, Ordering.nat_cmp}
+use Rattle.std.specs.Prelude.{is_some, nat_lt, option_map, unwrap_or, MatchOption}
+use Rattle.std.specs.Str.{bytes_eq}
+use Rattle.review_names.specs.Names.{administrators, registered_users}
+use Rattle.review_table.specs.Rows.{row_edit_of, after_row_edit}
+use Rattle.review_words.specs.History.{Entry, entry_of, account_count, name_of, name_taken, is_account, is_admin, is_listed, listed_members, file_text, is_project, project_count, bases, base_count, least_open}
+use Rattle.review_words.specs.declared.command.Command.{Command}
+use Rattle.review_words.specs.declared.command.Command.TheVariants.{CreateAccount, PutGroup, PutProject, RecordBase}
+use Rattle.review_words.specs.declared.reply.Refusal.{Refusal}
+use Rattle.review_words.specs.declared.reply.Refusal.TheVariants.{UnknownCaller, NotAdmin, NoProject, NoAccount, CommitKnown, NameTaken, Limit}
+use Rattle.review_words.specs.declared.reply.Reply.{Reply, TheVariants.Done, TheVariants.Refused}
+use Rattle.review_file_rules.specs.Reading.{named_parent}
+use Rattle.review_machine_rows.proofs.{Asked.all_asked, Lined.there_is, Placing.placed_more, Placing.place_is_free}
+use Rattle.review_machine_rows.proofs.Puts.{at_place_of, no_base, no_base_more, no_file, no_project}
+use Rattle.review_machine_rows.specs.Answer.{IsAnswerBy, IsOutcome, first_refusal, refused_by, checks}
+use Rattle.review_machine_rows.specs.{Changes.Reading, Changes.is_known, Changes.own_of, Changes.placed, Files.File}
+use Rattle.review_machine_rows.specs.Known.{known, Agrees, IsKnown, is_so, is_there, members_of, at_place}
+use Rattle.review_machine_rows.specs.Rows.{Key, AccountKey, MemberKey, FileKey, BaseKey, PartKey, OddKey, Row, AccountRow, FileRow, BaseRow, APart, Count, Projects, BasesOf, ClosedEpochs, member_cmp, account_change, member_change, edited, after, count_after, after_put, count_put, place_cmp, ChangesNothing}
+use Rattle.review_machine_rows.specs.Steps.{OfCommand, command_wants}
+use Rattle.review_machine_rows.specs.View.{view, fact, counted, AreEnough, IsDecided}
+use Rattle.review_machine_rows.specs.declared.rows.{Delta.Delta, PlaceKey.PlaceKey, Rows.Rows, StoredFile.StoredFile}
+use Rattle.review_machine_accounts.proofs.{Members.members_after, Told.account_told, Told.member_told, Told.held_told}
+use Rattle.review_machine_accounts.specs.Decisions.{IsEmpty}
+use Rattle.review_machine_accounts.specs.inner.Words.{added, dropped, is_held, member_of}
+use Rattle.review_words.specs.declared.reply.Answer.TheVariants as made
+use Rattle.review_machine_rows.specs.declared.rows.Want.TheVariants as want
+
+-- all that a command asks beside the caller was asked
+pub asked_beside : {reading : Reading} {file : Option File} (h : List Entry) (caller : ℕ) (command : Command) (rows : Rows) → AreEnough reading h caller (OfCommand command) file rows → AllByRecursion (IsKnown rows) (command_wants command)
+asked_beside h caller command rows l = (all_asked _ rows caller (OfCommand command) l.nothing_left).1.1.1
+
+-- whether the caller is an account
+pub caller_is : {reading : Reading} {file : Option File} (h : List Entry) (caller : ℕ) (command : Command) (rows : Rows) → AreEnough reading h caller (OfCommand command) file rows → is_there (known rows (want.Account caller)) ≡ is_account h caller
+caller_is {reading = reading} h caller command rows l = account_told reading h rows caller l.agree (all_asked _ rows caller (OfCommand command) l.nothing_left).1.0
+
+-- whether the caller is an administrator
+pub admin_is : {reading : Reading} {file : Option File} (h : List Entry) (caller : ℕ) (command : Command) (rows : Rows) → AreEnough reading h caller (OfCommand command) file rows →
+    is_so (known rows (want.Member (member_of administrators caller))) ≡ is_admin h caller
+admin_is {reading = reading} h caller command rows l = member_told reading h rows administrators caller l.agree (all_asked _ rows caller (OfCommand command) l.nothing_left).1.1.0
+
+each_account : (reading : Reading) (h : List Entry) (rows : Rows) (ns : List ℕ) → Agrees (view reading h) rows → AllByRecursion (IsKnown rows) (map want.Account ns) →
+    list_all (λ n. is_there (known rows (want.Account n))) ns ≡ list_all (is_account h) ns
+each_account reading h rows [] agree all = refl
+each_account reading h rows (n ∷ ns) agree all = λ i. account_told reading h rows n agree all.0 i && each_account reading h rows ns agree all.1 i
+
+-- whether the new members of a group are accounts
+pub accounts_are : {reading : Reading} {file : Option File} (h : List Entry) (caller : ℕ) (group members : List ℕ) (rows : Rows) → AreEnough reading h caller (OfCommand (PutGroup group members)) file rows →
+    list_all (λ n. is_there (known rows (want.Account n))) members ≡ list_all (is_account h) members
+accounts_are {reading = reading} h caller group members rows l = each_account reading h rows members l.agree (asked_beside h caller (PutGroup group members) rows l).1
+
+-- whether an account was a member of the group that is put
+held_before : {reading : Reading} {file : Option File} (h : List Entry) (caller : ℕ) (group members : List ℕ) (rows : Rows) → AreEnough reading h caller (OfCommand (PutGroup group members)) file rows → (g : List ℕ) (a : ℕ) →
+    bytes_eq group g ≡ true → is_held (members_of (known rows (want.Group group))) a ≡ is_listed h g a
+held_before {reading = reading} h caller group members rows l g a same =
+    held_told reading h rows group a l.agree (asked_beside h caller (PutGroup group members) rows l).0 ∙ ap (λ x. is_listed h x a) ((bytes_eq-Decides group g).0 same)
+
+-- a command that a check refuses, and one that none refuses
+pub refused_answer : (reading : Reading) (h : List Entry) (caller : ℕ) (command : Command) (refusal : Refusal) → refused_by reading h caller command ≡ Some refusal → IsAnswerBy reading h caller command (Refused refusal)
+refused_answer reading h caller command refusal is = subst (λ o. MatchOption o (IsOutcome reading h caller command (Refused refusal)) (λ r. Refused refusal ≡ Refused r)) (sym is) refl
+
+pub outcome_answer : (reading : Reading) (h : List Entry) (caller : ℕ) (command : Command) (reply : Reply) → refused_by reading h caller command ≡ None → IsOutcome reading h caller command reply → IsAnswerBy reading h caller command reply
+outcome_answer reading h caller command reply is outcome = subst (λ o. MatchOption o (IsOutcome reading h caller command reply) (λ r. reply ≡ Refused r)) (sym is) outcome
+
+-- the refusals by their checks
+pub unknown_refused : (reading : Reading) (h : List Entry) (caller : ℕ) (command : Command) → is_account h caller ≡ false → refused_by reading h caller command ≡ Some UnknownCaller
+unknown_refused reading h caller command e = ap (λ a. cond a (first_refusal (checks reading h caller command)) (Some UnknownCaller)) e
+
+abbrev create_refusal : Bool → Bool → Bool → Bool → Option Refusal
+create_refusal a b c d = cond a (cond b (cond (not c) (cond d None (Some Limit)) (Some NameTaken)) (Some NotAdmin)) (Some UnknownCaller)
+
+pub create_refused : (reading : Reading) (h : List Entry) (caller : ℕ) (name : List ℕ) (a b c d : Bool) →
+    is_account h caller ≡ a → is_admin h caller ≡ b → name_taken h name ≡ c → nat_lt (account_count h) 1000000 ≡ d →
+    refused_by reading h caller (CreateAccount name) ≡ create_refusal a b c d
+create_refused reading h caller name a b c d p q r s = λ i. create_refusal (p i) (q i) (r i) (s i)
+
+abbrev put_refusal : Bool → Bool → Bool → Bool → Option Refusal
+put_refusal a b c d = cond a (cond b (cond (not c) (cond d None (Some NoAccount)) (Some NameTaken)) (Some NotAdmin)) (Some UnknownCaller)
+
+pub put_refused : (reading : Reading) (h : List Entry) (caller : ℕ) (group members : List ℕ) (a b c d : Bool) →
+    is_account h caller ≡ a → is_admin h caller ≡ b → bytes_eq group registered_users ≡ c → list_all (is_account h) members ≡ d →
+    refused_by reading h caller (PutGroup group members) ≡ put_refusal a b c d
+put_refused reading h caller group members a b c d p q r s = λ i. put_refusal (p i) (q i) (r i) (s i)
+
+abbrev base_refusal : Bool → Bool → Bool → Bool → Bool → Option Refusal
+base_refusal a b c d e = cond a (cond b (cond c (cond (not d) (cond e None (Some Limit)) (Some CommitKnown)) (Some NoProject)) (Some NotAdmin)) (Some UnknownCaller)
+
+pub base_refused : (reading : Reading) (h : List Entry) (caller : ℕ) (project branch commit : List ℕ) (a b c d e : Bool) →
+    is_account h caller ≡ a → is_admin h caller ≡ b → is_project h project ≡ c → is_known reading h project branch commit ≡ d → nat_lt (base_count h project) 100000 ≡ e →
+    refused_by reading h caller (RecordBase project branch commit) ≡ base_refusal a b c d e
+base_refused reading h caller project branch commit a b c d e p q r s t = λ i. base_refusal (p i) (q i) (r i) (s i) (t i)
+
+abbrev project_refusal : Bool → Bool → Option Refusal
+project_refusal a b = cond a (cond b None (Some NotAdmin)) (Some UnknownCaller)
+
+pub project_refused : (reading : Reading) (h : List Entry) (caller : ℕ) (project file : List ℕ) (a b : Bool) →
+    is_account h caller ≡ a → is_admin h caller ≡ b → refused_by reading h caller (PutProject project file) ≡ project_refusal a b
+project_refused reading h caller project file a b p q = λ i. project_refusal (p i) (q i)
+
+-- a delta without rows
+pub empty_changes : (delta : Delta) → IsEmpty delta → ChangesNothing delta
+empty_changes delta e = record { answers = e.epoch; rows = rows; counts = counts }
+  where
+    rows : (k : Key) (was : Option Row) → after delta k was ≡ was
+    rows (AccountKey number) was = ap (λ l. after_row_edit (account_change (row_edit_of nat_cmp l number)) was) e.accounts
+    rows (MemberKey group account) was = ap (λ l. after_row_edit (member_change (row_edit_of member_cmp l (member_of group account))) was) e.members
+    rows (FileKey project) was = no_file delta e.file project was
+    rows (BaseKey project branch place) was = no_base delta e.base project branch place was
+    rows (PartKey n part) was = ap (λ es. after_row_edit (option_map (option_map APart) (edited es n part)) was) e.changes
+    rows (OddKey o) was = refl
+
+    counts : (row : Key → Option Row) (c : Count) (n : ℕ) → count_after delta row c n ≡ n
+    counts row Projects n = no_project delta e.file row n
+    counts row (BasesOf project) n = no_base_more delta e.base row project n
+    counts row ClosedEpochs n = ap (λ o. unwrap_or o n) e.epoch
+
+pub refused_same : (reading : Reading) (h : List Entry) (caller epoch : ℕ) (id : List ℕ) (command : Command) (refusal : Refusal) (k : Key) →
+    fact reading (entry_of caller epoch id command (Refused refusal) ∷ h) k ≡ fact reading h k
+refused_same reading h caller epoch id command refusal (AccountKey number) = refl
+refused_same reading h caller epoch id command refusal (MemberKey group account) = refl
+refused_same reading h caller epoch id command refusal (FileKey project) = refl
+refused_same reading h caller epoch id command refusal (BaseKey project branch place) = refl
+refused_same reading h caller epoch id command refusal (PartKey n part) = refl
+refused_same reading h caller epoch id command refusal (OddKey o) = refl
+
+pub refused_count : (h : List Entry) (caller epoch : ℕ) (id : List ℕ) (command : Command) (refusal : Refusal) (c : Count) →
+    counted (entry_of caller epoch id command (Refused refusal) ∷ h) c ≡ counted h c
+refused_count h caller epoch id command refusal Projects = refl
+refused_count h caller epoch id command refusal (BasesOf project) = refl
+refused_count h caller epoch id command refusal ClosedEpochs = refl
+
+-- a refusal changes nothing
+pub refused_decided : {reading : Reading} (h : List Entry) (caller : ℕ) (command : Command) (delta : Delta) (refusal : Refusal) →
+    IsEmpty delta → IsAnswerBy reading h caller command (Refused refusal) → IsDecided reading h caller command delta (Refused refusal)
+refused_decided {reading = reading} h caller command delta refusal e is =
+    let none = empty_changes delta e in
+    record {
+      reply_is = is;
+      row_is = λ epoch id k. refused_same reading h caller epoch id command refusal k ∙ sym (none.rows k (fact reading h k));
+      count_is = λ epoch id c. refused_count h caller epoch id command refusal c ∙ sym (none.counts (fact reading h) c (counted h c));
+    }
+
+pub refused_pair : {reading : Reading} (h : List Entry) (caller : ℕ) (command : Command) (r : Delta × Reply) (refusal : Refusal) →
+    IsEmpty r.0 → r.1 ≡ Refused refusal → refused_by reading h caller command ≡ Some refusal → IsDecided reading h caller command r.0 r.1
+refused_pair {reading = reading} h caller command r refusal e is by =
+    subst (λ reply. IsDecided reading h caller command r.0 reply) (sym is) (refused_decided h caller command r.0 refusal e (refused_answer reading h caller command refusal by))
+
+account_row_after : (b : Bool) (name : List ℕ) (before : Option (List ℕ)) →
+    option_map AccountRow (cond b (Some name) before) ≡ after_row_edit (account_change (cond b (Some (Some name)) None)) (option_map AccountRow before)
+account_row_after true name before = refl
+account_row_after false name before = refl
+
+eq_sym : (m n : ℕ) → (m == n) ≡ (n == m)
+eq_sym m n = grind (arith, nat_tests)
+
+-- the new account is the only new row
+pub create_decided : {reading : Reading} (h : List Entry) (caller : ℕ) (name : List ℕ) (delta : Delta) (number : ℕ) →
+    is_account h caller ≡ true → is_admin h caller ≡ true → name_taken h name ≡ false → nat_lt (account_count h) 1000000 ≡ true → number ≡ account_count h + 1 →
+    delta.accounts.items ≡ record { key = number; row = Some name } ∷ [] → delta.members.items ≡ [] → delta.file ≡ None → delta.base ≡ None → delta.changes.items ≡ [] → delta.least_epoch ≡ None →
+    IsDecided reading h caller (CreateAccount name) delta (Done (made.Account number))
+create_decided {reading = reading} h caller name delta number a b c d n da dm df db dc de = record {
+  reply_is = outcome_answer reading h caller (CreateAccount name) (Done (made.Account number)) (create_refused reading h caller name true true false true a b c d) (ap (λ x. Done (made.Account x)) n);
+  row_is = λ epoch id k. rows k;
+  count_is = λ epoch id k. counts k;
+}
+  where
+    counts : (k : Count) → counted (entry_of caller 0 [] (CreateAccount name) (Done (made.Account number)) ∷ h) k ≡ count_after delta (fact reading h) k (counted h k)
+    counts Projects = sym (no_project delta df (fact reading h) (project_count h))
+    counts (BasesOf project) = sym (no_base_more delta db (fact reading h) project (base_count h project))
+    counts ClosedEpochs = sym (ap (λ o. unwrap_or o (least_open h)) de)
+
+    here : (m : ℕ) → is_at (nat_cmp number) m ≡ (m == account_count h + 1)
+    here m = unsigned_tied number m ∙ (eq_sym number m ∙ ap (λ x. m == x) n)
+
+    rows : (k : Key) → fact reading (entry_of caller 0 [] (CreateAccount name) (Done (made.Account number)) ∷ h) k ≡ after delta k (fact reading h k)
+    rows (AccountKey m) =
+        account_row_after (m == account_count h + 1) name (name_of h m)
+        ∙ sym (ap (λ l. after_row_edit (account_change (row_edit_of nat_cmp l m)) (fact reading h (AccountKey m))) da
+        ∙ ap (λ e. after_row_edit (account_change (cond e (Some (Some name)) None)) (fact reading h (AccountKey m))) (here m))
+    rows (MemberKey g m) = sym (ap (λ l. after_row_edit (member_change (row_edit_of member_cmp l (member_of g m))) (fact reading h (MemberKey g m))) dm)
+    rows (FileKey p) = sym (no_file delta df p (fact reading h (FileKey p)))
+    rows (BaseKey p b n) = sym (no_base delta db p b n (fact reading h (BaseKey p b n)))
+    rows (PartKey m part) = sym (ap (λ es. after_row_edit (option_map (option_map APart) (edited es m part)) (fact reading h (PartKey m part))) dc)
+    rows (OddKey o) = refl
+
+-- the rows of the group become those of its new members
+pub put_decided : {reading : Reading} {file : Option File} (h : List Entry) (caller : ℕ) (group members : List ℕ) (rows : Rows) (delta : Delta) → AreEnough reading h caller (OfCommand (PutGroup group members)) file rows →
+    is_account h caller ≡ true → is_admin h caller ≡ true → bytes_eq group registered_users ≡ false → list_all (is_account h) members ≡ true →
+    delta.accounts.items ≡ [] → delta.members.items ≡ added group (members_of (known rows (want.Group group))) members ++ dropped group (members_of (known rows (want.Group group))) members → delta.file ≡ None → delta.base ≡ None → delta.changes.items ≡ [] → delta.least_epoch ≡ None →
+    IsDecided reading h caller (PutGroup group members) delta (Done made.Nothing)
+put_decided {reading = reading} h caller group members rows delta l a b c d da dm df db dc de = record {
+  reply_is = outcome_answer reading h caller (PutGroup group members) (Done made.Nothing) (put_refused reading h caller group members true true false true a b c d) refl;
+  row_is = λ epoch id k. each k;
+  count_is = λ epoch id k. counts k;
+}
+  where
+    counts : (k : Count) → counted (entry_of caller 0 [] (PutGroup group members) (Done made.Nothing) ∷ h) k ≡ count_after delta (fact reading h) k (counted h k)
+    counts Projects = sym (no_project delta df (fact reading h) (project_count h))
+    counts (BasesOf project) = sym (no_base_more delta db (fact reading h) project (base_count h project))
+    counts ClosedEpochs = sym (ap (λ o. unwrap_or o (least_open h)) de)
+
+    each : (k : Key) → fact reading (entry_of caller 0 [] (PutGroup group members) (Done made.Nothing) ∷ h) k ≡ after delta k (fact reading h k)
+    each (AccountKey m) = sym (ap (λ l. after_row_edit (account_change (row_edit_of nat_cmp l m)) (fact reading h (AccountKey m))) da)
+    each (MemberKey g m) =
+        members_after group members (listed_members h g) (members_of (known rows (want.Group group))) g m (held_before h caller group members rows l g m)
+        ∙ sym (ap (λ l. after_row_edit (member_change (row_edit_of member_cmp l (member_of g m))) (fact reading h (MemberKey g m))) dm)
+    each (FileKey p) = sym (no_file delta df p (fact reading h (FileKey p)))
+    each (BaseKey p b n) = sym (no_base delta db p b n (fact reading h (BaseKey p b n)))
+    each (PartKey m part) = sym (ap (λ es. after_row_edit (option_map (option_map APart) (edited es m part)) (fact reading h (PartKey m part))) dc)
+    each (OddKey o) = refl
+
+-- whether a project is there
+pub project_is : (reading : Reading) (h : List Entry) (project : List ℕ) → is_some (fact reading h (FileKey project)) ≡ is_project h project
+project_is reading h project = some_file (own_of h project) ∙ sym (there_is h project)
+  where
+    some_file : (o : Option StoredFile) → is_some (option_map FileRow o) ≡ is_some o
+    some_file None = refl
+    some_file (Some t) = refl
+
+based_where : (b : Bool) (commit : List ℕ) (o : Option (List ℕ)) → option_map BaseRow (cond b (Some commit) o) ≡ cond b (Some (BaseRow commit)) (option_map BaseRow o)
+based_where true commit o = refl
+based_where false commit o = refl
+
+-- the rows of a branch that gets one base more
+base_rows : (h : List Entry) (project branch commit : List ℕ) (place : ℕ) (p b : List ℕ) (n : ℕ) → place ≡ length (bases h project branch) + 1 →
+    option_map BaseRow (at_place (cond (bytes_eq project p && bytes_eq branch b) (bases h p b ++ commit ∷ []) (bases h p b)) n)
+    ≡ cond (bytes_eq project p && (bytes_eq branch b && (place == n))) (Some (BaseRow commit)) (option_map BaseRow (at_place (bases h p b) n))
+base_rows h project branch commit place p b n is =
+    ⊎_elim
+    (λ (t : bytes_eq project p ≡ true). ⊎_elim
+    (λ (u : bytes_eq branch b ≡ true).
+    let where_is : length (bases h project branch) ≡ length (bases h p b) = λ i. length (bases h ((bytes_eq-Decides project p).0 t i) ((bytes_eq-Decides branch b).0 u i)) in
+    let at : (length (bases h p b) + 1 == n) ≡ (place == n) = ap (λ l. l == n) (ap (λ l. l + 1) (sym where_is) ∙ sym is) in
+    (λ i. option_map BaseRow (at_place (cond (t i && u i) (bases h p b ++ commit ∷ []) (bases h p b)) n))
+    ∙ (ap (option_map BaseRow) (placed_more (bases h p b) commit n)
+    ∙ (based_where (length (bases h p b) + 1 == n) commit (at_place (bases h p b) n)
+    ∙ (ap (λ c. cond c (Some (BaseRow commit)) (option_map BaseRow (at_place (bases h p b) n))) at
+    ∙ sym (λ i. cond (t i && (u i && (place == n))) (Some (BaseRow commit)) (option_map BaseRow (at_place (bases h p b) n)))))))
+    (λ (v : bytes_eq branch b ≡ false).
+    (λ i. option_map BaseRow (at_place (cond (t i && v i) (bases h p b ++ commit ∷ []) (bases h p b)) n))
+    ∙ sym (λ i. cond (t i && (v i && (place == n))) (Some (BaseRow commit)) (option_map BaseRow (at_place (bases h p b) n))))
+    (cases_Bool (bytes_eq branch b)))
+    (λ (f : bytes_eq project p ≡ false).
+    (λ i. option_map BaseRow (at_place (cond (f i && bytes_eq branch b) (bases h p b ++ commit ∷ []) (bases h p b)) n))
+    ∙ sym (λ i. cond (f i && (bytes_eq branch b && (place == n))) (Some (BaseRow commit)) (option_map BaseRow (at_place (bases h p b) n))))
+    (cases_Bool (bytes_eq project p))
+
+-- the base is the last of its branch
+pub base_decided : {reading : Reading} (h : List Entry) (caller : ℕ) (project branch commit : List ℕ) (place : ℕ) (delta : Delta) → place ≡ length (bases h project branch) + 1 →
+    is_account h caller ≡ true → is_admin h caller ≡ true → is_project h project ≡ true → is_known reading h project branch commit ≡ false → nat_lt (base_count h project) 100000 ≡ true →
+    delta.accounts.items ≡ [] → delta.members.items ≡ [] → delta.file ≡ None → delta.base ≡ Some (record { key = record { project = project; branch = branch; place = place }; row = commit }) → delta.changes.items ≡ [] → delta.least_epoch ≡ None →
+    IsDecided reading h caller (RecordBase project branch commit) delta (Done made.Nothing)
+base_decided {reading = reading} h caller project branch commit place delta is a b c d e da dm df db dc de = record {
+  reply_is = outcome_answer reading h caller (RecordBase project branch commit) (Done made.Nothing) (base_refused reading h caller project branch commit true true true false true a b c d e) refl;
+  row_is = λ epoch id k. rows k;
+  count_is = λ epoch id k. counts k;
+}
+  where
+    free : is_some (fact reading h (BaseKey project branch place)) ≡ false
+    free = ap (λ n. is_some (option_map BaseRow (at_place (bases h project branch) n))) is ∙ ap (λ o. is_some (option_map BaseRow o)) (place_is_free (bases h project branch))
+
+    counts : (k : Count) → counted (entry_of caller 0 [] (RecordBase project branch commit) (Done made.Nothing) ∷ h) k ≡ count_after delta (fact reading h) k (counted h k)
+    counts Projects = sym (no_project delta df (fact reading h) (project_count h))
+    counts (BasesOf p) =
+        sym (ap (λ t. cond (bytes_eq project p) (cond t (base_count h p) (base_count h p + 1)) (base_count h p)) free)
+        ∙ sym (ap (λ o. count_put (λ (k : PlaceKey). bytes_eq k.project p) o (λ (k : PlaceKey). fact reading h (BaseKey k.project k.branch k.place)) (base_count h p)) db)
+    counts ClosedEpochs = sym (ap (λ o. unwrap_or o (least_open h)) de)
+
+    rows : (k : Key) → fact reading (entry_of caller 0 [] (RecordBase project branch commit) (Done made.Nothing) ∷ h) k ≡ after delta k (fact reading h k)
+    rows (AccountKey m) = sym (ap (λ l. after_row_edit (account_change (row_edit_of nat_cmp l m)) (fact reading h (AccountKey m))) da)
+    rows (MemberKey g m) = sym (ap (λ l. after_row_edit (member_change (row_edit_of member_cmp l (member_of g m))) (fact reading h (MemberKey g m))) dm)
+    rows (FileKey p) = sym (no_file delta df p (fact reading h (FileKey p)))
+    rows (BaseKey p b n) =
+        base_rows h project branch commit place p b n is
+        ∙ sym (ap (λ o. after_put place_cmp BaseRow o (record { project = p; branch = b; place = n }) (fact reading h (BaseKey p b n))) db
+        ∙ ap (λ t. cond t (Some (BaseRow commit)) (fact reading h (BaseKey p b n))) (at_place_of (record { project = project; branch = branch; place = place }) p b n))
+    rows (PartKey m part) = sym (ap (λ es. after_row_edit (option_map (option_map APart) (edited es m part)) (fact reading h (PartKey m part))) dc)
+    rows (OddKey o) = refl
+
+-- the project has the file that is put
+pub file_decided : {reading : Reading} (h : List Entry) (caller : ℕ) (project text : List ℕ) (delta : Delta) →
+    IsAnswerBy reading h caller (PutProject project text) (Done made.Nothing) →
+    delta.accounts.items ≡ [] → delta.members.items ≡ [] → delta.file ≡ Some (record { key = project; row = record { text = text; parent = named_parent text } }) → delta.base ≡ None → delta.changes.items ≡ [] → delta.least_epoch ≡ None →
+    IsDecided reading h caller (PutProject project text) delta (Done made.Nothing)
+file_decided {reading = reading} h caller project text delta is da dm df db dc de = record {
+  reply_is = is;
+  row_is = λ epoch id k. rows k;
+  count_is = λ epoch id k. counts k;
+}
+  where
+    counts : (k : Count) → counted (entry_of caller 0 [] (PutProject project text) (Done made.Nothing) ∷ h) k ≡ count_after delta (fact reading h) k (counted h k)
+    counts Projects = ap (λ b. cond b (project_count h) (project_count h + 1)) (sym (project_is reading h project)) ∙ sym (ap (λ o. count_put (λ p. true) o (λ p. fact reading h (FileKey p)) (project_count h)) df)
+    counts (BasesOf p) = sym (no_base_more delta db (fact reading h) p (base_count h p))
+    counts ClosedEpochs = sym (ap (λ o. unwrap_or o (least_open h)) de)
+
+    file_where : (b : Bool) (o : Option (List ℕ)) → option_map FileRow (placed (cond b (Some text) o)) ≡ cond b (Some (FileRow (record { text = text; parent = named_parent text }))) (option_map FileRow (placed o))
+    file_where true o = refl
+    file_where false o = refl
+
+    rows : (k : Key) → fact reading (entry_of caller 0 [] (PutProject project text) (Done made.Nothing) ∷ h) k ≡ after delta k (fact reading h k)
+    rows (AccountKey m) = sym (ap (λ l. after_row_edit (account_change (row_edit_of nat_cmp l m)) (fact reading h (AccountKey m))) da)
+    rows (MemberKey g m) = sym (ap (λ l. after_row_edit (member_change (row_edit_of member_cmp l (member_of g m))) (fact reading h (MemberKey g m))) dm)
+    rows (FileKey p) =
+        file_where (bytes_eq project p) (file_text h p)
+        ∙ sym (ap (λ o. after_put (slice_cmp nat_cmp) FileRow o p (fact reading h (FileKey p))) df
+        ∙ ap (λ t. cond t (Some (FileRow (record { text = text; parent = named_parent text }))) (fact reading h (FileKey p))) (is_eq-slice_cmp project p))
+    rows (BaseKey p b n) = sym (no_base delta db p b n (fact reading h (BaseKey p b n)))
+    rows (PartKey m part) = sym (ap (λ es. after_row_edit (option_map (option_map APart) (edited es m part)) (fact reading h (PartKey m part))) dc)
+    rows (OddKey o) = refl

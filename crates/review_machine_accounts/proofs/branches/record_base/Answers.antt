@@ -1,0 +1,78 @@
+use Rattle.std.proofs.Common.{◌≡◌, ◌+◌, ◌∙◌, length, Some, true, false, refl, sym, arith}
+use Rattle.std.{proofs.lemmas.Bool.ltb-true, specs.Prelude.nat_lt}
+use Rattle.review_words.specs.History.{is_project, bases, base_count}
+use Rattle.review_words.specs.declared.command.Command.TheVariants.{RecordBase}
+use Rattle.review_words.specs.declared.reply.Refusal.TheVariants.{NotAdmin, NoProject, CommitKnown, Limit}
+use Rattle.review_machine_rows.specs.{Changes.is_known, Known.known, Known.number_of}
+use Rattle.review_machine_rows.specs.declared.rows.Counted.TheVariants.{BasesOf}
+use Rattle.review_machine_accounts.proofs.Decided.{admin_is, asked_beside, refused_pair, base_decided, base_refused}
+use Rattle.review_machine_accounts.proofs.{Sent.known_told, Told.project_told, Told.room_told, Told.place_told}
+use Rattle.review_machine_accounts.proofs.Within.{branch_within}
+use Rattle.review_machine_rows.specs.declared.rows.Want.TheVariants as want
+use Rattle.review_machine_accounts.proofs.branches.record_base.Goals as goal
+
+pub returns-then-not-admin-clause-decided : goal.returns-then-not-admin-clause-decided
+returns-then-not-admin-clause-decided c = λ reading effective h there_is l.
+    let a = c.args in
+    let command = RecordBase a.project.now a.branch.now a.commit.now in
+    let admin = sym (admin_is h a.caller command a.rows.now l) ∙ (sym c.in_ok-admin.ensures ∙ c.if-not-admin.true) in
+    refused_pair h a.caller command c.refused.result NotAdmin c.refused.ensures.empty c.refused.ensures.reply
+    (base_refused reading h a.caller a.project.now a.branch.now a.commit.now true false (is_project h a.project.now) (is_known reading h a.project.now a.branch.now a.commit.now) (nat_lt (base_count h a.project.now) 100000)
+    there_is admin refl refl refl)
+
+pub returns-then-not-has_project-clause-decided : goal.returns-then-not-has_project-clause-decided
+returns-then-not-has_project-clause-decided c = λ reading effective h there_is l.
+    let a = c.args in
+    let command = RecordBase a.project.now a.branch.now a.commit.now in
+    let all = asked_beside h a.caller command a.rows.now l in
+    let admin = sym (admin_is h a.caller command a.rows.now l) ∙ (sym c.in_ok-admin.ensures ∙ c.if-not-admin.false) in
+    let absent = sym (project_told reading h a.rows.now a.project.now l.agree all.0) ∙ (sym c.has_project.ensures ∙ c.if-not-has_project.true) in
+    refused_pair h a.caller command c.refused-then-not-has_project.result NoProject c.refused-then-not-has_project.ensures.empty c.refused-then-not-has_project.ensures.reply
+    (base_refused reading h a.caller a.project.now a.branch.now a.commit.now true true false (is_known reading h a.project.now a.branch.now a.commit.now) (nat_lt (base_count h a.project.now) 100000)
+    there_is admin absent refl refl)
+
+pub returns-then-known-clause-decided : goal.returns-then-known-clause-decided
+returns-then-known-clause-decided c = λ reading effective h there_is l.
+    let a = c.args in
+    let command = RecordBase a.project.now a.branch.now a.commit.now in
+    let all = asked_beside h a.caller command a.rows.now l in
+    let admin = sym (admin_is h a.caller command a.rows.now l) ∙ (sym c.in_ok-admin.ensures ∙ c.if-not-admin.false) in
+    let there = sym (project_told reading h a.rows.now a.project.now l.agree all.0) ∙ (sym c.has_project.ensures ∙ c.if-not-has_project.false) in
+    let there_before = sym (known_told reading h a.rows.now a.project.now a.branch.now a.commit.now l.agree all.1.0 all.1.1.0) ∙ (sym c.in_ok-known.ensures ∙ c.if-known.true) in
+    refused_pair h a.caller command c.refused-then-known.result CommitKnown c.refused-then-known.ensures.empty c.refused-then-known.ensures.reply
+    (base_refused reading h a.caller a.project.now a.branch.now a.commit.now true true true true (nat_lt (base_count h a.project.now) 100000) there_is admin there there_before refl)
+
+pub returns-then-not-has_room_for_bases-clause-decided : goal.returns-then-not-has_room_for_bases-clause-decided
+returns-then-not-has_room_for_bases-clause-decided c = λ reading effective h there_is l.
+    let a = c.args in
+    let command = RecordBase a.project.now a.branch.now a.commit.now in
+    let all = asked_beside h a.caller command a.rows.now l in
+    let admin = sym (admin_is h a.caller command a.rows.now l) ∙ (sym c.in_ok-admin.ensures ∙ c.if-not-admin.false) in
+    let there = sym (project_told reading h a.rows.now a.project.now l.agree all.0) ∙ (sym c.has_project.ensures ∙ c.if-not-has_project.false) in
+    let free = sym (known_told reading h a.rows.now a.project.now a.branch.now a.commit.now l.agree all.1.0 all.1.1.0) ∙ (sym c.in_ok-known.ensures ∙ c.if-known.false) in
+    let full = sym (room_told reading h a.rows.now (BasesOf a.project.now) l.agree all.1.1.1.0) ∙ (sym c.has_room_for_bases.ensures ∙ c.if-not-has_room_for_bases.true) in
+    refused_pair h a.caller command c.refused-then-not-has_room_for_bases.result Limit c.refused-then-not-has_room_for_bases.ensures.empty c.refused-then-not-has_room_for_bases.ensures.reply
+    (base_refused reading h a.caller a.project.now a.branch.now a.commit.now true true true false false there_is admin there free full)
+
+pub returns-clause-decided : goal.returns-clause-decided
+returns-clause-decided c = λ reading effective h there_is l.
+    let a = c.args in
+    let command = RecordBase a.project.now a.branch.now a.commit.now in
+    let all = asked_beside h a.caller command a.rows.now l in
+    let admin = sym (admin_is h a.caller command a.rows.now l) ∙ (sym c.in_ok-admin.ensures ∙ c.if-not-admin.false) in
+    let there = sym (project_told reading h a.rows.now a.project.now l.agree all.0) ∙ (sym c.has_project.ensures ∙ c.if-not-has_project.false) in
+    let free = sym (known_told reading h a.rows.now a.project.now a.branch.now a.commit.now l.agree all.1.0 all.1.1.0) ∙ (sym c.in_ok-known.ensures ∙ c.if-known.false) in
+    let room = sym (room_told reading h a.rows.now (BasesOf a.project.now) l.agree all.1.1.1.0) ∙ (sym c.has_room_for_bases.ensures ∙ c.if-not-has_room_for_bases.false) in
+    let last : c.last_place.result ≡ length (bases h a.project.now a.branch.now) =
+    c.last_place.ensures ∙ ((λ i. number_of (known a.rows.now (want.LastPlace (record { project = (c.in_ok-base.ensures i).project; branch = (c.in_ok-base.ensures i).branch }))))
+    ∙ place_told reading h a.rows.now (record { project = a.project.now; branch = a.branch.now }) l.agree all.1.1.1.1.0) in
+    let below = ltb-true (base_count h a.project.now) 100000 room in
+    let within = branch_within h a.project.now a.branch.now in
+    let place : c.saturating_add-place.result ≡ length (bases h a.project.now a.branch.now) + 1 = let e = c.saturating_add-place.ensures in omega arith in
+    let empty = c.nothing-delta.ensures in
+    base_decided h a.caller a.project.now a.branch.now a.commit.now c.saturating_add-place.result _ place
+    there_is admin there free room empty.accounts empty.members empty.file
+    (λ i. Some (record {
+      key = record { project = (c.in_ok-base.ensures i).project; branch = (c.in_ok-base.ensures i).branch; place = c.saturating_add-place.result };
+      row = (c.in_ok-base.ensures i).commit;
+    })) empty.changes empty.epoch

@@ -1,0 +1,66 @@
+//! Decisions on branches.
+ghost use Rattle.std.specs.Prelude.{◌≡◌, List, Option, IfOk, IfErr, true, None};
+ghost use Rattle.review_words.specs.History.{Entry, is_account};
+ghost use Rattle.review_words.specs.{Texts.IsStored, declared.command.Command.TheVariants.RecordBase};
+ghost use Rattle.review_words.specs.declared.reply.NotTaken.TheVariants.{Memory};
+ghost use Rattle.review_machine_rows.specs.{Changes.Reading, Decisions.NamesEachOnce, Files.File, Rows.HasNoEffect};
+ghost use Rattle.review_machine_rows.specs.{Steps.OfCommand, View.AreEnough, View.IsDecided};
+
+use crate::callers::is_admin;
+use crate::commits::is_known;
+use crate::deltas::{nothing, refused};
+use crate::keys::base_of;
+use review_machine_rows::{BranchKey, Delta, PlaceKey, Put, Rows};
+use review_words::{
+    AccountNo, Answer, BranchName, CommitName, NotTaken, ProjectName, Refusal, Reply,
+};
+use std::alloc::Global;
+
+/// Records a commit as the next base of a branch. Refused for an administrator missing, a project that isn't there, a commit that is known in
+/// the branch, as a base or as that of a patch set, or the most bases of a project, in this order; an error is want of memory.
+pub fn record_base(
+    alloc: Global,
+    rows: &Rows,
+    caller: AccountNo,
+    project: &ProjectName,
+    branch: &BranchName,
+    commit: &CommitName,
+) -> Result<(Delta, Reply), NotTaken>
+    ensures decided { IfOk result (λ r. (reading : Reading) (effective : Option File) (h : List Entry) → is_account h caller ≡ true → AreEnough reading h caller (OfCommand (RecordBase project.now branch.now commit.now)) effective rows.now → IsDecided reading h caller (RecordBase project.now branch.now commit.now) r.0 r.1) }
+    ensures cause { IfErr result (λ e. e ≡ Memory) }
+    ensures stored { IfOk result (λ r. IsStored r.1) }
+    ensures refused { IfOk result (λ r. HasNoEffect r.1 r.0) }
+    ensures epoch { IfOk result (λ r. r.0.least_epoch ≡ None) }
+    ensures once { IfOk result (λ r. NamesEachOnce r.0) }
+{
+    let admin = is_admin(alloc, rows, caller)?;
+    if !admin {
+        return Ok(refused(alloc, Refusal::NotAdmin));
+    }
+    if !rows.has_project(project) {
+        return Ok(refused(alloc, Refusal::NoProject));
+    }
+    let known = is_known(alloc, rows, project, branch, commit)?;
+    if known {
+        return Ok(refused(alloc, Refusal::CommitKnown));
+    }
+    if !rows.has_room_for_bases(project) {
+        return Ok(refused(alloc, Refusal::Limit));
+    }
+    let base = base_of(alloc, project, branch, commit)?;
+    let key = BranchKey {
+        project: base.project,
+        branch: base.branch,
+    };
+    let place = rows.last_place(&key).saturating_add(1);
+    let mut delta = nothing(alloc);
+    delta.base = Some(Put {
+        key: PlaceKey {
+            project: key.project,
+            branch: key.branch,
+            place,
+        },
+        row: base.commit,
+    });
+    Ok((delta, Reply::Done(Answer::Nothing)))
+}

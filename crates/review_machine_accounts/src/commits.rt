@@ -1,0 +1,22 @@
+//! Whether a commit is known in a branch.
+ghost use Rattle.std.specs.Prelude.{◌≡◌, IfOk};
+ghost use Rattle.review_machine_accounts.specs.Commits.{known_in};
+
+use crate::keys::base_of;
+use review_machine_rows::Rows;
+use review_words::{BranchName, CommitName, ProjectName};
+use std::alloc::{AllocError, Global};
+
+/// Whether a commit is known to be known in a branch: as a base, or as that of a patch set.
+pub fn is_known(
+    alloc: Global,
+    rows: &Rows,
+    project: &ProjectName,
+    branch: &BranchName,
+    commit: &CommitName,
+) -> Result<bool, AllocError>
+    ensures { IfOk result (λ b. b ≡ known_in rows.now project.now branch.now commit.now) }
+{
+    let key = base_of(alloc, project, branch, commit)?;
+    Ok(rows.has_base(&key) || rows.change_of(&key).is_some())
+}

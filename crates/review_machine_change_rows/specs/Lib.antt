@@ -1,0 +1,4 @@
+pub mod Edits
+pub mod Same
+pub mod Tables
+pub mod inner

@@ -1,0 +1,183 @@
+//! Changes and patch sets that are copied.
+ghost use Rattle.std.specs.{List.Sorted.IsStrictlySortedBy, Map.keys_of, Ordering.nat_cmp};
+ghost use Rattle.std.specs.Prelude.{◌≡◌, ℕ, IfOk};
+ghost use Rattle.review_table.specs.Rows.{row_in, rows_of};
+ghost use Rattle.review_core_rules.specs.{Seen.seen, Seen.vote_cmp, declared.rows.VoteKey.VoteKey};
+
+use crate::rows::Copied;
+use review_core_rules::{AttentionEntry, ChangeRows, Comment, Header, PatchRow, Vote, VoteKey};
+use review_table::{BadRows, Key, Table};
+use review_words::{AccountNo, NewChange, NewPatch, Role};
+use std::alloc::{AllocError, Global};
+
+/// A new change once more. An error where there was no memory for it.
+pub fn copied_new(alloc: Global, new: &NewChange) -> Result<NewChange, AllocError>
+    ensures { IfOk result (λ n. n ≡ new.now) }
+{
+    Ok(NewChange {
+        project: new.project.copy(alloc)?,
+        branch: new.branch.copy(alloc)?,
+        subject: new.subject.copy(alloc)?,
+        commit: new.commit.copy(alloc)?,
+        parent: new.parent.copy(alloc)?,
+        paths: new.paths.copy(alloc)?,
+        wip: new.wip,
+    })
+}
+
+/// A new patch set once more. An error where there was no memory for it.
+pub fn copied_patch(alloc: Global, patch: &NewPatch) -> Result<NewPatch, AllocError>
+    ensures { IfOk result (λ p. p ≡ patch.now) }
+{
+    Ok(NewPatch {
+        commit: patch.commit.copy(alloc)?,
+        parent: patch.parent.copy(alloc)?,
+        kind: patch.kind,
+        paths: patch.paths.copy(alloc)?,
+    })
+}
+
+/// The rows of a change that are kept by accounts: its votes, roles and attention set.
+#[derive(Drop)]
+pub struct Marks {
+    pub votes: Table<VoteKey, Vote>,
+    pub roles: Table<AccountNo, Role>,
+    pub attention: Table<AccountNo, AttentionEntry>,
+}
+
+/// A change once more. An error where there was no memory for it.
+pub fn copied_change(alloc: Global, rows: &ChangeRows) -> Result<ChangeRows, AllocError>
+    ensures { IfOk result (λ c. seen c ≡ seen rows.now) }
+{
+    let marks = copied_marks(alloc, &rows.votes, &rows.roles, &rows.attention)?;
+    let header = copied_header(alloc, &rows.header)?;
+    let patches = copied_patches(alloc, &rows.patches)?;
+    let comments = copied_comments(alloc, &rows.comments)?;
+    Ok(ChangeRows {
+        header,
+        patches,
+        votes: marks.votes,
+        roles: marks.roles,
+        comments,
+        attention: marks.attention,
+    })
+}
+
+/// The votes, roles and attention set of a change once more. An error where there was no memory for them.
+pub fn copied_marks(
+    alloc: Global,
+    votes: &Table<VoteKey, Vote>,
+    roles: &Table<AccountNo, Role>,
+    attention: &Table<AccountNo, AttentionEntry>,
+) -> Result<Marks, AllocError>
+    ensures votes { IfOk result (λ m. (q : VoteKey) → row_in vote_cmp (rows_of m.votes) q ≡ row_in vote_cmp (rows_of votes.now) q) }
+    ensures roles { IfOk result (λ m. (u : ℕ) → row_in nat_cmp (rows_of m.roles) u ≡ row_in nat_cmp (rows_of roles.now) u) }
+    ensures attention { IfOk result (λ m. (u : ℕ) → row_in nat_cmp (rows_of m.attention) u ≡ row_in nat_cmp (rows_of attention.now) u) }
+{
+    let votes = copied_table(alloc, votes)?;
+    let roles = copied_table(alloc, roles)?;
+    let attention = copied_table(alloc, attention)?;
+    Ok(Marks {
+        votes,
+        roles,
+        attention,
+    })
+}
+
+/// A header once more. An error where there was no memory for it.
+pub fn copied_header(alloc: Global, header: &Header) -> Result<Header, AllocError>
+    ensures { IfOk result (λ h. h ≡ header.now) }
+{
+    Ok(Header {
+        project: header.project.copy(alloc)?,
+        branch: header.branch.copy(alloc)?,
+        subject: header.subject.copy(alloc)?,
+        owner: header.owner,
+        state: header.state,
+        wip: header.wip,
+        place: header.place,
+        updated: header.updated,
+    })
+}
+
+/// A patch set once more. An error where there was no memory for it.
+pub fn copied_patch_row(alloc: Global, patch: &PatchRow) -> Result<PatchRow, AllocError>
+    ensures { IfOk result (λ p. p ≡ patch.now) }
+{
+    Ok(PatchRow {
+        commit: patch.commit.copy(alloc)?,
+        parent: patch.parent.copy(alloc)?,
+        kind: patch.kind,
+        uploader: patch.uploader,
+        paths: patch.paths.copy(alloc)?,
+    })
+}
+
+impl Copied for PatchRow {
+    fn copied(&self, alloc: Global) -> Result<PatchRow, AllocError> {
+        copied_patch_row(alloc, self)
+    }
+}
+
+impl Copied for Comment {
+    fn copied(&self, alloc: Global) -> Result<Comment, AllocError> {
+        self.copy(alloc)
+    }
+}
+
+fn copied_patches(alloc: Global, patches: &[PatchRow]) -> Result<Vec<PatchRow>, AllocError>
+    ensures { IfOk result (λ v. v.items ≡ patches.now) }
+{
+    let mut copies = Vec::new(alloc);
+    for patch in patches {
+        copies.push(copied_patch_row(alloc, patch)?)?;
+    }
+    Ok(copies)
+}
+
+fn copied_comments(alloc: Global, comments: &[Comment]) -> Result<Vec<Comment>, AllocError>
+    ensures { IfOk result (λ v. v.items ≡ comments.now) }
+{
+    let mut copies = Vec::with_capacity(alloc, comments.len())?;
+    for comment in comments {
+        copies.push(comment.copy(alloc)?)?;
+    }
+    Ok(copies)
+}
+
+/// A table once more: at each key it has the same row. An error where there was no memory for it.
+pub fn copied_table<K: Key, V: Copied>(
+    alloc: Global,
+    table: &Table<K, V>,
+) -> Result<Table<K, V>, AllocError>
+    ensures { IfOk result (λ t. (q : K) → row_in K.cmp (rows_of t) q ≡ row_in K.cmp (rows_of table.now) q) }
+{
+    let copies = copied_rows(alloc, table)?;
+    match Table::from_vec(alloc, copies) {
+        Ok(copy) => Ok(copy),
+        Err(BadRows::Memory) => Err(AllocError),
+        Err(BadRows::Double) => unreachable!(),
+    }
+}
+
+// The rows of a table once more, in the order of their keys.
+fn copied_rows<K: Key, V: Copied>(
+    alloc: Global,
+    table: &Table<K, V>,
+) -> Result<Vec<(K, V)>, AllocError>
+    ensures rows { IfOk result (λ rows. rows.items ≡ rows_of table.now) }
+    ensures sorted { IsStrictlySortedBy K.cmp (keys_of (rows_of table.now)) }
+{
+    let mut copies = Vec::new(alloc);
+    for (key, row) in table.rows(alloc)? {
+        let copy = copied_row(alloc, key, row)?;
+        copies.push(copy)?;
+    }
+    Ok(copies)
+}
+
+fn copied_row<K: Key, V: Copied>(alloc: Global, key: &K, row: &V) -> Result<(K, V), AllocError>
+    ensures { IfOk result (λ copy. copy ≡ (key.now, row.now)) }
+{
+    Ok((key.copy(alloc)?, row.copied(alloc)?))
+}

@@ -1,0 +1,22 @@
+//! Rows of changes copied and compared; the edit that turns one change into another, row by row ([`edit_of`]); the change that tables show
+//! ([`change_rows`]). Where one vote differs, the edit has the header and that vote.
+//!
+//! - **Proved**: a copy is the same; an edit makes exactly the rows of the new change; tables with a gap are told so.
+//! - **Assumed**: nothing beyond the kit.
+//! - **Only tested**: nothing.
+//! - **Must not know**: requests.
+#![tactic(auto)]
+
+pub mod copies;
+pub mod differences;
+pub mod edits;
+pub mod loading;
+pub mod rows;
+pub mod tables;
+
+pub use copies::{copied_change, copied_header, copied_new, copied_patch, copied_table};
+pub use differences::difference;
+pub use edits::{edit_of, edit_of_new};
+pub use loading::{ChangeFault, change_rows};
+pub use rows::{Copied, Row};
+pub use tables::{ChangeTables, copied_tables};

@@ -1,0 +1,114 @@
+//! A change from its tables.
+ghost use Rattle.std.specs.Prelude.{◌≡◌, ◌++◌, ◌∷◌, [], IfErr, IfOk, OnOk};
+ghost use Rattle.review_table.specs.Rows.{rows_of};
+ghost use Rattle.review_core_rules.specs.Seen.{seen};
+ghost use Rattle.review_machine_change_rows.specs.Tables.{HaveFault, Show};
+ghost use Rattle.review_machine_change_rows.specs.inner.Words.{AreInOrder, IsGap};
+
+use crate::tables::ChangeTables;
+use review_core_rules::{ChangeRows, Comment, PatchRow};
+use review_machine_rows::ShelfFault;
+use review_table::Table;
+use review_words::{CommentNo, PatchNo};
+use std::alloc::{AllocError, Global};
+
+/// Why a change is not given.
+#[derive(Clone, Copy, PartialEq, Eq, Drop)]
+pub enum ChangeFault {
+    Memory,
+    /// The numbers of its patch sets or of its comments aren't 1, 2 and so on.
+    Gap,
+}
+
+impl From<AllocError> for ChangeFault {
+    ghost use Rattle.std.specs.Prelude.{◌≡◌};
+    ghost use Rattle.review_machine_change_rows.specs.declared.loading.ChangeFault.TheVariants.{Memory};
+
+    ghost from_gives = { λ _ f. f ≡ Memory };
+
+    fn from(_error: AllocError) -> ChangeFault {
+        ChangeFault::Memory
+    }
+}
+
+impl From<ChangeFault> for ShelfFault {
+    ghost use Rattle.std.specs.Prelude.{◌≡◌};
+    ghost use Rattle.review_machine_change_rows.specs.Tables.{fault_of};
+
+    ghost from_gives = { λ f e. e ≡ fault_of f };
+
+    fn from(fault: ChangeFault) -> ShelfFault {
+        match fault {
+            ChangeFault::Memory => ShelfFault::Memory,
+            ChangeFault::Gap => ShelfFault::Damaged,
+        }
+    }
+}
+
+/// The change that tables show, or why they show none: where their patch sets or comments have a gap, or there was no memory for it.
+pub fn change_rows(alloc: Global, tables: ChangeTables) -> Result<ChangeRows, ChangeFault>
+    ensures shown { IfOk result (λ rows. Show tables (seen rows)) }
+    ensures fault { IfErr result (HaveFault tables) }
+{
+    let ChangeTables {
+        header,
+        patches,
+        votes,
+        roles,
+        comments,
+        attention,
+    } = tables;
+    let patches = patches_in_order(alloc, patches)?;
+    let comments = comments_in_order(alloc, comments)?;
+    Ok(ChangeRows {
+        header,
+        patches,
+        votes,
+        roles,
+        comments,
+        attention,
+    })
+}
+
+fn patches_in_order(
+    alloc: Global,
+    table: Table<PatchNo, PatchRow>,
+) -> Result<Vec<PatchRow>, ChangeFault>
+    ensures rows { IfOk result (λ patches. AreInOrder (rows_of table) patches.items) }
+    ensures fault { IfErr result (IsGap (rows_of table)) }
+{
+    table.once();
+    let mut patches = Vec::new(alloc);
+    for (number, patch) in table.into_rows(alloc)? {
+        if number.get() as usize != patches.len() + 1 {
+            return Err(ChangeFault::Gap);
+        }
+        add(&mut patches, patch)?;
+    }
+    Ok(patches)
+}
+
+fn comments_in_order(
+    alloc: Global,
+    table: Table<CommentNo, Comment>,
+) -> Result<Vec<Comment>, ChangeFault>
+    ensures rows { IfOk result (λ comments. AreInOrder (rows_of table) comments.items) }
+    ensures fault { IfErr result (IsGap (rows_of table)) }
+{
+    table.once();
+    let mut comments = Vec::new(alloc);
+    for (number, comment) in table.into_rows(alloc)? {
+        if number.get() as usize != comments.len() + 1 {
+            return Err(ChangeFault::Gap);
+        }
+        add(&mut comments, comment)?;
+    }
+    Ok(comments)
+}
+
+fn add<V: Drop>(rows: &mut Vec<V>, row: V) -> Result<(), AllocError>
+    ensures { OnOk result (rows.new.items ≡ rows.old.items ++ row ∷ []) }
+{
+    rows.push(row)?;
+    Ok(())
+}

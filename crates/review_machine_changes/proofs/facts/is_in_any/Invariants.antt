@@ -1,0 +1,6 @@
+use Rattle.std.{proofs.Common.◌≡◌, proofs.Common.drop, specs.List.list_any}
+use Rattle.review_machine_changes.specs.Facts.{in_rows}
+use Rattle.review_machine_changes.proofs.facts.is_in_any.Given as goal
+
+abbrev pub invariant-loop-group : goal.invariant-loop-group
+invariant-loop-group l = list_any (in_rows l.rows l.account) (drop l.group-index l.groups) ≡ list_any (in_rows l.rows l.account) l.groups

@@ -1,0 +1,6 @@
+use Rattle.std.proofs.Common.{◌≡◌}
+use Rattle.review_machine_changes.specs.inner.Facts.{next_numbers}
+use Rattle.review_machine_changes.proofs.reviewing.new_numbers.Given as goal
+
+abbrev pub invariant-loop-index : goal.invariant-loop-index
+invariant-loop-index l = l.numbers.items ≡ next_numbers l.stored l.index

@@ -1,0 +1,65 @@
+//! What rows tell of a command on a change.
+ghost use Rattle.std.specs.{List.list_any, Prelude.◌≡◌, Prelude.IfOk};
+ghost use Rattle.review_file_rules.specs.Rights.{groups_of};
+ghost use Rattle.review_core_rules.specs.Change.{is_open};
+ghost use Rattle.review_machine_changes.specs.Facts.{in_rows, right_in};
+
+use review_file::{ProjectFile, Right};
+use review_machine_rows::{MemberKey, Rows};
+use review_words::{AccountNo, GroupName, State};
+use std::alloc::{AllocError, Global};
+
+/// Whether an account is known to be in a group; every account is in `Registered-Users`.
+pub fn is_in(
+    alloc: Global,
+    rows: &Rows,
+    account: AccountNo,
+    group: &GroupName,
+) -> Result<bool, AllocError>
+    ensures { IfOk result (λ b. b ≡ in_rows rows.now account group.now) }
+{
+    if group.as_str() == "Registered-Users" {
+        return Ok(true);
+    }
+    let key = MemberKey {
+        group: group.copy(alloc)?,
+        account,
+    };
+    Ok(rows.is_member(&key))
+}
+
+fn is_in_any(
+    alloc: Global,
+    rows: &Rows,
+    account: AccountNo,
+    groups: &[GroupName],
+) -> Result<bool, AllocError>
+    ensures { IfOk result (λ b. b ≡ list_any (in_rows rows.now account) groups.now) }
+{
+    for group in groups {
+        if is_in(alloc, rows, account, group)? {
+            return Ok(true);
+        }
+    }
+    Ok(false)
+}
+
+/// Whether an account is known to have a right, by the project's file.
+pub fn has_right(
+    alloc: Global,
+    rows: &Rows,
+    file: &ProjectFile,
+    right: Right,
+    account: AccountNo,
+) -> Result<bool, AllocError>
+    ensures { IfOk result (λ b. b ≡ right_in rows.now file.now right account) }
+{
+    is_in_any(alloc, rows, account, file.groups(right))
+}
+
+/// Whether a state is open.
+pub fn is_open(state: State) -> bool
+    ensures { result ≡ is_open state }
+{
+    matches!(state, State::New)
+}

@@ -1,0 +1,115 @@
+//! Values on labels.
+ghost use Rattle.std.specs.{List.list_all, List.list_any, Ordering.int_eq};
+ghost use Rattle.std.specs.Prelude.{◌≡◌, ◌&&◌, IfOk, int_le, is_some, filter};
+ghost use Rattle.review_file_rules.specs.Rights.{greatest_of, least_of};
+ghost use Rattle.review_core_rules.specs.Change.{label_in};
+ghost use Rattle.review_machine_rows.specs.Answer.{is_value_of};
+ghost use Rattle.review_machine_changes.specs.Facts.{in_rows, range_in};
+
+use crate::facts::is_in;
+use review_file::{Grant, Label, ProjectFile, grants_of};
+use review_machine_rows::Rows;
+use review_words::{AccountNo, Given};
+use std::alloc::{AllocError, Global};
+
+/// Whether a file has each of the labels that values are given on.
+pub fn has_labels(file: &ProjectFile, given: &[Given]) -> bool
+    ensures { result ≡ list_all (λ x. is_some (label_in file.now x.label)) given.now }
+{
+    given.iter().all(|one| file.label(&one.label).is_some())
+}
+
+/// Whether each value that is given is one of its label's.
+pub fn has_values(file: &ProjectFile, given: &[Given]) -> bool
+    ensures { result ≡ list_all (is_value_of file.now) given.now }
+{
+    given.iter().all(|one| has_value(file, one))
+}
+
+fn has_value(file: &ProjectFile, given: &Given) -> bool
+    ensures { result ≡ is_value_of file.now given.now }
+{
+    match file.label(&given.label) {
+        Some(label) => is_value(label, given.value),
+        None => false,
+    }
+}
+
+fn is_value(label: &Label, value: i8) -> bool
+    ensures { result ≡ list_any (λ v. int_eq v.0 value) label.now.values }
+{
+    label.values().iter().any(|one| one.value() == value)
+}
+
+/// Whether each value that is given lies in the range of an account, as far as rows tell its groups.
+pub fn are_in_range(
+    alloc: Global,
+    rows: &Rows,
+    file: &ProjectFile,
+    account: AccountNo,
+    given: &[Given],
+) -> Result<bool, AllocError>
+    ensures { IfOk result (λ b. b ≡ list_all (range_in rows.now file.now account) given.now) }
+{
+    for one in given {
+        if !is_in_range(alloc, rows, file, account, one)? {
+            return Ok(false);
+        }
+    }
+    Ok(true)
+}
+
+fn is_in_range(
+    alloc: Global,
+    rows: &Rows,
+    file: &ProjectFile,
+    account: AccountNo,
+    given: &Given,
+) -> Result<bool, AllocError>
+    ensures { IfOk result (λ b. b ≡ range_in rows.now file.now account given.now) }
+{
+    let grants = grants_of(file, &given.label);
+    let least = least_in(alloc, rows, account, grants)?;
+    let greatest = greatest_in(alloc, rows, account, grants)?;
+    Ok(lies_within(given.value, least, greatest))
+}
+
+fn lies_within(value: i8, least: i8, greatest: i8) -> bool
+    ensures { result ≡ (int_le least value && int_le value greatest) }
+{
+    least <= value && value <= greatest
+}
+
+fn least_in(
+    alloc: Global,
+    rows: &Rows,
+    account: AccountNo,
+    grants: &[Grant],
+) -> Result<i8, AllocError>
+    ensures { IfOk result (λ n. n ≡ least_of (filter (λ x. in_rows rows.now account x.group) grants.now)) }
+{
+    let mut least = 0;
+    for grant in grants {
+        if is_in(alloc, rows, account, &grant.group)? {
+            least = least.min(grant.least);
+        }
+    }
+    Ok(least)
+}
+
+fn greatest_in(
+    alloc: Global,
+    rows: &Rows,
+    account: AccountNo,
+    grants: &[Grant],
+) -> Result<i8, AllocError>
+    ensures { IfOk result (λ n. n ≡ greatest_of (filter (λ x. in_rows rows.now account x.group) grants.now)) }
+{
+    let mut greatest = 0;
+    for grant in grants {
+        if is_in(alloc, rows, account, &grant.group)? {
+            greatest = greatest.max(grant.greatest);
+        }
+    }
+    Ok(greatest)
+}

@@ -1,0 +1,199 @@
+//! New patch sets.
+ghost use Rattle.std.specs.Prelude.{◌≡◌, ◌⊎◌, ◌<◌, ◌+◌, ◌==◌, ◌||◌, List, IfOk, IfErr, length, option_copied, true, None};
+ghost use Rattle.review_names.specs.Forms.{is_within, most_patches};
+ghost use Rattle.review_words.specs.{History.Entry, History.is_account, Texts.IsStored, Texts.IsStoredAnswer};
+ghost use Rattle.review_words.specs.declared.command.ChangeCommand.TheVariants.{Upload as UploadOf};
+ghost use Rattle.review_words.specs.declared.{command.Command.TheVariants.OnChange, reply.Answer.TheVariants.Patch};
+ghost use Rattle.review_words.specs.declared.reply.NotTaken.TheVariants.{Damaged, Memory};
+ghost use Rattle.review_core_rules.specs.Change.{after, carried, copying, current, is_lost};
+ghost use Rattle.review_core_rules.specs.{Counts.AreMany, Seen.seen, Sound.IsSound, Sound.fits, Votes.voted};
+ghost use Rattle.review_machine_rows.specs.{Answer.first_refusal, Answer.most_requests, Changes.Reading};
+ghost use Rattle.review_machine_rows.specs.Decisions.{IsUndecided, NamesEachOnce};
+ghost use Rattle.review_machine_rows.specs.{Rows.HasNoEffect, Steps.OfCommand, View.AreEnough, View.IsDecided};
+ghost use Rattle.review_machine_changes.specs.Facts.{IsChecked, right_in, setting_in};
+ghost use Rattle.review_machine_changes.specs.inner.Facts.{IsUploaded, upload_list};
+ghost use Rattle.review_file_rules.specs.declared.parts.Right.TheVariants as right;
+
+use crate::edits::{Checked, change_file, checked_by, turned};
+use crate::facts::{has_right, is_open};
+use review_core::{ChangeFile, Copied};
+use review_core_rules::{ChangeRows, Header};
+use review_file::{ProjectFile, Right};
+use review_file_rules::{groups_suffice, one_effective_file};
+use review_machine_accounts::{is_known, refused};
+use review_machine_change_rows::copied_patch;
+use review_machine_laws::changes_are_sound;
+use review_machine_rows::{Delta, Rows};
+use review_words::{AccountNo, Answer, ChangeNo, NewPatch, NotTaken, PatchNo, Refusal, Reply};
+use std::alloc::{AllocError, Global};
+
+/// Whether an account may send patch sets of a change: as its owner, or by the right to.
+fn may_upload(
+    alloc: Global,
+    file: &ProjectFile,
+    rows: &Rows,
+    caller: AccountNo,
+    header: &Header,
+) -> Result<bool, AllocError>
+    ensures { IfOk result (λ b. b ≡ ((caller == header.now.owner) || right_in rows.now file.now right.Upload caller)) }
+{
+    if caller == header.owner {
+        return Ok(true);
+    }
+    has_right(alloc, rows, file, Right::Upload, caller)
+}
+
+/// The first check of a new patch set that fails, where one does.
+fn upload_refusal(
+    alloc: Global,
+    file: &ProjectFile,
+    rows: &Rows,
+    caller: AccountNo,
+    patch: &NewPatch,
+    change: &ChangeRows,
+) -> Result<Option<Refusal>, AllocError>
+    ensures { IfOk result (λ r. r ≡ first_refusal (upload_list file.now rows.now caller patch.now (seen change.now))) }
+{
+    let header = &change.header;
+    if !may_upload(alloc, file, rows, caller, header)? {
+        return Ok(Some(Refusal::NotAllowed));
+    }
+    if !is_open(header.state) {
+        return Ok(Some(Refusal::Closed));
+    }
+    if is_known(alloc, rows, &header.project, &header.branch, &patch.commit)? {
+        return Ok(Some(Refusal::CommitKnown));
+    }
+    if !is_known(alloc, rows, &header.project, &header.branch, &patch.parent)? {
+        return Ok(Some(Refusal::UnknownParent));
+    }
+    if change.patches.len() >= 1000 {
+        return Ok(Some(Refusal::Limit));
+    }
+    Ok(None)
+}
+
+/// The number of the patch set after so many.
+#[tactic(auto, using(crate::proofs::Made::next_below))]
+fn next_patch(count: usize) -> PatchNo
+    requires { is_within most_patches (count + 1) ≡ true }
+    ensures { result ≡ count + 1 }
+{
+    match PatchNo::from_number(count as u64 + 1) {
+        Some(next) => next,
+        None => unreachable!(),
+    }
+}
+
+/// The answer to a new patch set, with how many votes were copied and how many not.
+fn patch_answer(change: ChangeNo, patch: PatchNo, counts: Copied) -> Answer
+    ensures value { result ≡ Patch change patch counts.copied counts.outdated }
+    ensures stored { IsStoredAnswer result }
+{
+    let _numbers = (change.get(), patch.get());
+    Answer::Patch {
+        change,
+        patch,
+        copied: counts.copied as u64,
+        outdated: counts.outdated as u64,
+    }
+}
+
+/// A new patch set of a change, with the votes of the one before it that copy conditions copy, by the project's file and the groups before
+/// the command. The answer has the numbers of votes that were copied and that weren't. Refused for a change that isn't there, for an account
+/// that isn't the owner and has no right to upload, a closed change, a commit that is known in the branch, a parent that isn't, or the last
+/// number given, in this order. An error is want of memory, or Damaged, where the rows are those of no history.
+pub fn upload(
+    alloc: Global,
+    effective: Option<&ProjectFile>,
+    rows: &Rows,
+    caller: AccountNo,
+    change: ChangeNo,
+    patch: &NewPatch,
+) -> Result<(Delta, Reply), NotTaken>
+    ensures decided { IfOk result (λ r. (reading : Reading) (h : List Entry) → length h < most_requests → is_account h caller ≡ true → AreEnough reading h caller (OfCommand (OnChange change (UploadOf patch.now))) (option_copied effective.entry) rows.now → IsDecided reading h caller (OnChange change (UploadOf patch.now)) r.0 r.1) }
+    ensures cause { IfErr result (IsUndecided caller (OnChange change (UploadOf patch.now)) (option_copied effective.entry) rows.now) }
+    ensures stored { IfOk result (λ r. IsStored r.1) }
+    ensures refused { IfOk result (λ r. HasNoEffect r.1 r.0) }
+    ensures epoch { IfOk result (λ r. r.0.least_epoch ≡ None) }
+    ensures once { IfOk result (λ r. NamesEachOnce r.0) }
+{
+    one_effective_file();
+    changes_are_sound();
+    groups_suffice();
+    let Some(found) = rows.change(change) else {
+        return Ok(refused(alloc, Refusal::NoChange));
+    };
+    let Some(project) = effective else {
+        return Err(NotTaken::Damaged);
+    };
+    let checked = upload_checked(alloc, project, rows, caller, patch, found)?;
+    match checked {
+        Checked::Passes(file) => {
+            Ok(uploaded(alloc, project, rows, caller, change, found, file, patch)?)
+        }
+        Checked::Fails(refusal) => Ok(refused(alloc, refusal)),
+    }
+}
+
+/// What the checks of a new patch set of a change come to. Damaged only where the change isn't sound.
+fn upload_checked(
+    alloc: Global,
+    project: &ProjectFile,
+    rows: &Rows,
+    caller: AccountNo,
+    patch: &NewPatch,
+    found: &ChangeRows,
+) -> Result<Checked, NotTaken>
+    ensures checked { IfOk result (IsChecked (first_refusal (upload_list project.now rows.now caller patch.now (seen found.now))) (seen found.now)) }
+    ensures cause { IfErr result (λ e. (e ≡ Memory) ⊎ ((e ≡ Damaged) × (IsSound (seen found.now) → ⊥))) }
+{
+    let file = change_file(alloc, found)?;
+    let refusal = upload_refusal(alloc, project, rows, caller, patch, found)?;
+    Ok(checked_by(file, refusal))
+}
+
+/// A change with a new patch set, and the numbers of votes that were copied to it and that weren't.
+fn with_patch(
+    alloc: Global,
+    project: &ProjectFile,
+    rows: &Rows,
+    caller: AccountNo,
+    file: ChangeFile,
+    patch: &NewPatch,
+    request: u64,
+) -> Result<(ChangeFile, Copied), AllocError>
+    requires { fits (UploadOf patch.now) (seen file.rows) ≡ true }
+    ensures change { IfOk result (λ r. seen r.0.rows ≡ after (setting_in project.now rows.now) (UploadOf patch.now) caller request (seen file.rows)) }
+    ensures copied { IfOk result (λ r. AreMany (λ l u. voted (carried (copying (setting_in project.now rows.now) (UploadOf patch.now) caller (seen file.rows)) (seen file.rows) l u)) r.1.copied) }
+    ensures outdated { IfOk result (λ r. AreMany (λ l u. is_lost (copying (setting_in project.now rows.now) (UploadOf patch.now) caller (seen file.rows)) (seen file.rows) u l) r.1.outdated) }
+{
+    let patch = copied_patch(alloc, patch)?;
+    file.with_patch_set(alloc, patch, caller, project, &rows.groups, request)
+}
+
+/// The answer to a new patch set that no check refuses, and what it changes.
+fn uploaded(
+    alloc: Global,
+    project: &ProjectFile,
+    rows: &Rows,
+    caller: AccountNo,
+    change: ChangeNo,
+    found: &ChangeRows,
+    file: ChangeFile,
+    patch: &NewPatch,
+) -> Result<(Delta, Reply), AllocError>
+    requires same { seen file.rows ≡ seen found.now }
+    requires fits { fits (UploadOf patch.now) (seen found.now) ≡ true }
+    ensures made { IfOk result (λ r. IsUploaded project.now change patch.now caller rows.now (seen found.now) r.0 r.1) }
+    ensures stored { IfOk result (λ r. IsStored r.1) }
+    ensures refused { IfOk result (λ r. HasNoEffect r.1 r.0) }
+    ensures epoch { IfOk result (λ r. r.0.least_epoch ≡ None) }
+    ensures once { IfOk result (λ r. NamesEachOnce r.0) }
+{
+    let request = rows.requests().saturating_add(1);
+    let (new, counts) = with_patch(alloc, project, rows, caller, file, patch, request)?;
+    let delta = turned(alloc, change, found, new)?;
+    let answer = patch_answer(change, next_patch(found.patches.len()), counts);
+    Ok((delta, Reply::Done(answer)))
+}

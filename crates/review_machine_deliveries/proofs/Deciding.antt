@@ -1,0 +1,167 @@
+-- What was decided of a command, or not, by what the tables tell.
+use Rattle.std.proofs.Common.{◌≡◌, ◌∙◌, ℕ, ◌≤◌, ◌<◌, ◌+◌, inl, inr, List, [], Option, Some, None, length, true, refl, sym, subst, ap, arith}
+use Rattle.std.specs.Prelude.{Result, Ok, Err, IfOk, IfErr, nat_lt}
+use Rattle.review_words.specs.History.{Entry, IsFirst, if_done}
+use Rattle.review_words.specs.{Texts.IsStored, declared.command.Command.Command}
+use Rattle.review_words.specs.declared.command.Command.TheVariants.{CreateAccount, PutGroup, PutProject, RecordBase, CreateChange, OnChange, Submit, CloseEpoch}
+use Rattle.review_words.specs.declared.{command.Delivery.TheVariants.Write, reply.NotTaken.NotTaken as Cause}
+use Rattle.review_words.specs.declared.reply.NotTaken.TheVariants.{Memory, Store, Damaged, Pattern, Full}
+use Rattle.review_words.specs.declared.reply.Reply.{Reply}
+use Rattle.review_words.specs.declared.reply.Reply.TheVariants.{Done, Refused, IdentityReused, EpochClosed, NotTaken}
+use Rattle.review_machine_rows.proofs.{Asked.least_epoch_is, Asked.requests_are, Readings.reading_of}
+use Rattle.review_machine_rows.specs.{Answer.IsHistory, Answer.most_requests, Files.File}
+use Rattle.review_machine_rows.specs.Known.{Agrees, known, number_of}
+use Rattle.review_machine_rows.specs.Rows.{ClosedEpochs, Tables, is_above, new_least}
+use Rattle.review_machine_rows.specs.Shelf.{AddsNoStop, Answers, LeavesBy, Shown, Shows, Views}
+use Rattle.review_machine_rows.specs.Steps.{OfCommand, next}
+use Rattle.review_machine_rows.specs.declared.rows.{Rows.Rows, Want.TheVariants.LeastEpoch}
+use Rattle.review_machine_deliveries.proofs.Histories.{enough_shown, history_length, requests_told}
+use Rattle.review_machine_deliveries.proofs.{Patterns.reads_pattern, Resting.rests_on}
+use Rattle.review_machine_deliveries.proofs.Served.{not_taken_served, views_left_by}
+use Rattle.review_machine_deliveries.specs.Gathered.{CountsCause, IsAllAsked, IsUngathered, LeavesTables}
+use Rattle.review_machine_deliveries.specs.Replies.{CountsReply, IsLawful, IsServed, KeepsUntaken}
+use Rattle.review_machine_deliveries.specs.declared.deliveries.Decided.{Decided}
+use Rattle.review_machine_deliveries.specs.inner.Deciding.{IsDecidedBy, IsUndecidedBy, WasDecided, WasUndecided}
+
+-- an accepted CloseEpoch names an epoch above the least open one
+rises : (command : Command) (reply : Reply) (o : Option ℕ) (file : Option File) (rows : Rows) (caller : ℕ) (t : Tables) →
+    Agrees t rows → next file rows caller (OfCommand command) ≡ [] → o ≡ new_least (if_done reply command) → is_above o (number_of (known rows LeastEpoch)) ≡ true →
+    is_above (new_least (if_done reply command)) (t.count ClosedEpochs) ≡ true
+rises (CloseEpoch least) (Done a) o file rows caller t agree left closes above =
+    ap (λ n. nat_lt n least) (sym (least_epoch_is t file rows caller least agree left)) ∙ (ap (λ p. is_above p (number_of (known rows LeastEpoch))) (sym closes) ∙ above)
+rises (CreateAccount name) (Done a) o file rows caller t agree left closes above = refl
+rises (PutGroup group members) (Done a) o file rows caller t agree left closes above = refl
+rises (PutProject project text) (Done a) o file rows caller t agree left closes above = refl
+rises (RecordBase project branch new) (Done a) o file rows caller t agree left closes above = refl
+rises (CreateChange new) (Done a) o file rows caller t agree left closes above = refl
+rises (OnChange change on) (Done a) o file rows caller t agree left closes above = refl
+rises (Submit change) (Done a) o file rows caller t agree left closes above = refl
+rises command (Refused r) o file rows caller t agree left closes above = refl
+rises command IdentityReused o file rows caller t agree left closes above = refl
+rises command EpochClosed o file rows caller t agree left closes above = refl
+rises command (NotTaken cause) o file rows caller t agree left closes above = refl
+
+-- what rules decide by rows that are so in the tables
+decided_shown : (caller epoch : ℕ) (command : Command) (tables : Option Tables) (file : Option File) (rows : Rows) (d : Decided) → IsAllAsked caller (OfCommand command) file rows →
+    Shows tables (λ t. Agrees t rows) → IsDecidedBy caller epoch command file rows d → WasDecided caller epoch command tables d
+decided_shown caller epoch command None file rows d asked found by = absurd found
+decided_shown caller epoch command (Some t) file rows d asked found by = record {
+  request = (by.request.0 ∙ ap (λ n. n + 1) (requests_are t file rows caller command found asked.0), by.request.1);
+  right = λ reading h hist reads v. by.decided reading h (room h hist v) (rests_on h (OfCommand command) hist) (enough_shown reading h (Some t) caller (OfCommand command) file rows reads v found asked);
+  refused = by.refused;
+  closes = by.closes;
+  own = by.own;
+  raises = ap (λ o. is_above o (t.count ClosedEpochs)) by.closes ∙ rises command d.reply d.delta.least_epoch file rows caller t found asked.0 by.closes by.raises;
+}
+  where
+    room : (h : List Entry) → IsHistory h → Views h (Some t) → length h < most_requests
+    room h hist v =
+        let number : d.request ≡ length h + 1 = by.request.0 ∙ ap (λ n. n + 1) (requests_told h (Some t) caller command file rows hist v found asked) in
+        let most : d.request ≤ most_requests = by.request.1 in
+        omega arith
+
+pub was_decided : (caller epoch : ℕ) (command : Command) (tables : Option Tables) (file : Option File) (rows : Rows) (r : Result Decided Cause) → IsAllAsked caller (OfCommand command) file rows →
+    Shows tables (λ t. Agrees t rows) → IfOk r (IsDecidedBy caller epoch command file rows) → IfOk r (WasDecided caller epoch command tables)
+was_decided caller epoch command tables file rows (Ok d) asked found by = decided_shown caller epoch command tables file rows d asked found by
+was_decided caller epoch command tables file rows (Err cause) asked found by = tt
+
+-- its answer is one that is stored
+pub was_stored : (caller epoch : ℕ) (command : Command) (file : Option File) (rows : Rows) (r : Result Decided Cause) → IfOk r (IsDecidedBy caller epoch command file rows) → IfOk r (λ d. IsStored d.reply)
+was_stored caller epoch command file rows (Ok d) by = by.stored
+was_stored caller epoch command file rows (Err cause) by = tt
+
+-- why rules don't decide by rows that are so in the tables
+undecided_shown : (caller : ℕ) (command : Command) (tables : Option Tables) (file : Option File) (rows : Rows) (cause : Cause) → IsAllAsked caller (OfCommand command) file rows →
+    Shows tables (λ t. Agrees t rows) → IsUndecidedBy caller command file rows cause → WasUndecided command tables cause
+undecided_shown caller command tables file rows Memory asked found why = tt
+undecided_shown caller command tables file rows Store asked found why = absurd why
+undecided_shown caller command None file rows Damaged asked found why = absurd found
+undecided_shown caller command (Some t) file rows Damaged asked found why =
+    λ h hist v. let r = reading_of h hist in why r.0 h hist (enough_shown r.0 h (Some t) caller (OfCommand command) file rows r.1 v found asked)
+undecided_shown caller command None file rows Pattern asked found why = absurd found
+undecided_shown caller command (Some t) file rows Pattern asked found why =
+    λ reading h hist reads v. reads_pattern reading h hist caller command file rows (enough_shown reading h (Some t) caller (OfCommand command) file rows reads v found asked) why
+undecided_shown caller command None file rows Full asked found why = absurd found
+undecided_shown caller command (Some t) file rows Full asked found why = subst (λ n. most_requests ≤ n) (requests_are t file rows caller command found asked.0) why
+
+pub was_undecided : (caller : ℕ) (command : Command) (tables : Option Tables) (file : Option File) (rows : Rows) (r : Result Decided Cause) → IsAllAsked caller (OfCommand command) file rows →
+    Shows tables (λ t. Agrees t rows) → IfErr r (IsUndecidedBy caller command file rows) → IfErr r (WasUndecided command tables)
+was_undecided caller command tables file rows (Ok d) asked found why = tt
+was_undecided caller command tables file rows (Err cause) asked found why = undecided_shown caller command tables file rows cause asked found why
+
+-- nothing is decided where not all is gathered
+pub ungathered_undecided : (command : Command) (tables : Option Tables) (cause : Cause) → IsUngathered (OfCommand command) tables cause → WasUndecided command tables cause
+ungathered_undecided command tables Memory why = tt
+ungathered_undecided command tables Store why = tt
+ungathered_undecided command tables Damaged why = why
+ungathered_undecided command None Pattern why = absurd why
+ungathered_undecided command (Some t) Pattern why = λ reading h hist reads v. inr (why reading h reads v)
+ungathered_undecided command tables Full why = absurd why
+
+-- where the tables stay, they are left
+left_alike : (cause : Cause) (old new : Option Tables) → new ≡ old → LeavesBy cause old new
+left_alike Memory old new same = same
+left_alike Store old new same = inl same
+left_alike Damaged old new same = same
+left_alike Pattern old new same = same
+left_alike Full old new same = same
+
+pub leaves_alike : {X : Type 0} (r : Result X Cause) (old new : Option Tables) → new ≡ old → LeavesTables r old new
+leaves_alike (Ok x) old new same = same
+leaves_alike (Err cause) old new same = left_alike cause old new same
+
+-- rules count no fault
+undecided_counts : (caller : ℕ) (command : Command) (file : Option File) (rows : Rows) (cause : Cause) (before after : ℕ) → IsUndecidedBy caller command file rows cause → after ≡ before →
+    CountsReply (NotTaken cause) before after
+undecided_counts caller command file rows Memory before after why same = same
+undecided_counts caller command file rows Pattern before after why same = same
+undecided_counts caller command file rows Damaged before after why same = same
+undecided_counts caller command file rows Store before after why same = absurd why
+undecided_counts caller command file rows Full before after why same = same
+
+pub counts_none : (caller : ℕ) (command : Command) (file : Option File) (rows : Rows) (r : Result Decided Cause) (before after : ℕ) → IfErr r (IsUndecidedBy caller command file rows) → after ≡ before →
+    CountsCause r before after
+counts_none caller command file rows (Ok d) before after why same = same
+counts_none caller command file rows (Err cause) before after why same = undecided_counts caller command file rows cause before after why same
+
+-- it is lawful not to take what was not decided
+undecided_lawful : (h : List Entry) (caller epoch : ℕ) (id : List ℕ) (command : Command) (tables : Option Tables) (cause : Cause) (before after : ℕ) → IsHistory h → Views h tables →
+    IsFirst h (record { caller = caller; epoch = epoch; id = id }) → WasUndecided command tables cause → CountsReply (NotTaken cause) before after →
+    IsLawful h (Write caller epoch id command) cause before after
+undecided_lawful h caller epoch id command tables Memory before after hist v fresh why counted = counted
+undecided_lawful h caller epoch id command tables Store before after hist v fresh why counted = counted
+undecided_lawful h caller epoch id command None Damaged before after hist v fresh why counted = absurd why
+undecided_lawful h caller epoch id command (Some t) Damaged before after hist v fresh why counted = absurd (why h hist v)
+undecided_lawful h caller epoch id command None Pattern before after hist v fresh why counted = absurd why
+undecided_lawful h caller epoch id command (Some t) Pattern before after hist v fresh why counted = (fresh, (λ reading reads. why reading h hist reads v), counted)
+undecided_lawful h caller epoch id command None Full before after hist v fresh why counted = absurd why
+undecided_lawful h caller epoch id command (Some t) Full before after hist v fresh why counted =
+    let r = reading_of h hist in
+    let many : t.requests ≡ length h = (v r.0 r.1).requests in
+    let most = history_length h hist in
+    let least : most_requests ≤ t.requests = why in
+    (fresh, omega arith, counted)
+
+-- a command that was not decided
+pub undecided_served : (h : List Entry) (caller epoch : ℕ) (id : List ℕ) (command : Command) (cause : Cause) (old new : Shown) → IsHistory h → Views h old.tables →
+    IsFirst h (record { caller = caller; epoch = epoch; id = id }) → WasUndecided command old.tables cause → LeavesBy cause old.tables new.tables →
+    CountsReply (NotTaken cause) old.faults new.faults → AddsNoStop old new → IsServed h (Write caller epoch id command) (NotTaken cause) old new
+undecided_served h caller epoch id command cause old new hist v fresh why left counted adds =
+    not_taken_served h (Write caller epoch id command) cause old new hist (views_left_by h cause old.tables new.tables left v)
+    (undecided_lawful h caller epoch id command old.tables cause old.faults new.faults hist v fresh why counted) (λ t x. inl (adds t x))
+
+pub undecided_keeps : (caller epoch : ℕ) (id : List ℕ) (command : Command) (cause : Cause) (old new : Option Tables) →
+    Shows old (λ t. Answers t (record { caller = caller; epoch = epoch; id = id }) None) → WasUndecided command old cause → LeavesBy cause old new →
+    KeepsUntaken (Write caller epoch id command) (NotTaken cause) old new
+undecided_keeps caller epoch id command Memory old new none why left = (tt, left)
+undecided_keeps caller epoch id command Store old new none why left = (tt, left)
+undecided_keeps caller epoch id command Damaged old new none why left = (tt, left)
+undecided_keeps caller epoch id command Pattern old new none why left = (tt, left)
+undecided_keeps caller epoch id command Full None new none why left = absurd none
+undecided_keeps caller epoch id command Full (Some t) new none why left = ((none, why), left)
+
+-- the request of a command that was decided has the number after those of the history
+pub next_number : (h : List Entry) (caller epoch : ℕ) (command : Command) (tables : Option Tables) (d : Decided) → IsHistory h → Views h tables → WasDecided caller epoch command tables d →
+    d.request ≡ length h + 1
+next_number h caller epoch command None d hist v by = absurd by.request.0
+next_number h caller epoch command (Some t) d hist v by = let r = reading_of h hist in by.request.0 ∙ ap (λ n. n + 1) (v r.0 r.1).requests

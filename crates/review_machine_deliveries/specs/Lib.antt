@@ -1,0 +1,6 @@
+pub mod Formed
+pub mod Replies
+pub mod Delivered
+pub mod Restart
+pub mod Gathered
+pub mod inner

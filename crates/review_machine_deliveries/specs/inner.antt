@@ -1,0 +1,4 @@
+-- Words that only proofs and private clauses use.
+pub mod Deciding
+pub mod Kept
+pub mod Words

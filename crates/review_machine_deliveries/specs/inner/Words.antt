@@ -1,0 +1,28 @@
+-- Words that only proofs and private clauses use.
+use Rattle.std.specs.List.{All}
+use Rattle.std.specs.Prelude.{List, Option, Result, Ok, Err, ℕ, ◌≡◌, ◌⊎◌}
+use Rattle.review_words.specs.Texts.{reply_text, IsStored}
+use Rattle.review_words.specs.declared.reply.NotTaken.{NotTaken as Cause, TheVariants.Memory, TheVariants.Damaged}
+use Rattle.review_words.specs.declared.reply.Reply.{Reply, TheVariants.NotTaken, TheVariants.IdentityReused}
+use Rattle.review_machine_rows.specs.{Known.IsKnown, Known.Agrees, Known.AreAdded, Rows.Tables, Rows.AnswerRow}
+use Rattle.review_machine_rows.specs.{Shelf.Shows, declared.rows.Rows.Rows, declared.rows.Want.Want}
+
+-- the rows with what was found of these look-ups, which is so in the tables where the store was honest
+pub record HasMore (wants : List Want) (IsHonest : Type 0) (tables : Option Tables) (rows both : Rows) : Type 0 where
+  pub more : Rows
+  pub asked : All (IsKnown more) wants
+  pub added : AreAdded rows more both
+  pub found : IsHonest → Shows tables (λ t. Agrees t more)
+
+-- what is told of what was taken, or why it wasn't
+abbrev pub reply_of : Result Reply Cause → Reply
+reply_of (Ok reply) = reply
+reply_of (Err cause) = NotTaken cause
+
+-- what is told of a stored request, from the content that came
+abbrev pub IsToldAgain : AnswerRow → List ℕ → Result Reply Cause → Type 0
+IsToldAgain row content (Ok reply) =
+    ((row.content ≡ content) × IsStored reply × (reply_text reply ≡ row.reply)) ⊎ ((row.content ≡ content → ⊥) × (reply ≡ IdentityReused))
+IsToldAgain row content (Err Memory) = Unit {0}
+IsToldAgain row content (Err Damaged) = (reply : Reply) → IsStored reply → reply_text reply ≡ row.reply → ⊥
+IsToldAgain row content (Err _) = ⊥

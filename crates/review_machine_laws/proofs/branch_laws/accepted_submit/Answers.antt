@@ -1,0 +1,5 @@
+use Rattle.review_machine_laws.proofs.{Fresh.entry_is_new, Ready.entry_accepted, Ready.entry_may_join}
+use Rattle.review_machine_laws.proofs.branch_laws.accepted_submit.Goals as goal
+
+pub returns : goal.returns
+returns c = record { accepted = entry_accepted; each = entry_may_join; new = entry_is_new }

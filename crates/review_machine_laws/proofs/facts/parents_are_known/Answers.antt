@@ -1,0 +1,5 @@
+use Rattle.review_machine_laws.proofs.ParentsKnown.{parents_known}
+use Rattle.review_machine_laws.proofs.facts.parents_are_known.Goals as goal
+
+pub returns : goal.returns
+returns c = parents_known

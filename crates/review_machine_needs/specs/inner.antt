@@ -1,0 +1,4 @@
+-- Words that only proofs and private clauses use.
+pub mod Asked
+pub mod Files
+pub mod Walks

@@ -1,0 +1,582 @@
+-- What was asked is known, and asking ends.
+use Rattle.std.proofs.Common.{◌≡◌, ℕ, ◌+◌, ◌<◌, ◌≤◌, List, [], ◌∷◌, length, zero, suc, Option, Some, None, Bool, true, false, cond, not, IsSome, refl, sym, ap, ◌∙◌, subst, ⊎_elim, arith}
+use Rattle.std.proofs.lemmas.{Bool.cases_Bool, List.Elements.All-head, List.Elements.All-tail}
+use Rattle.std.specs.{List.All, List.AllByRecursion, Option.option_or}
+use Rattle.std.specs.Prelude.{is_some, ◌&&◌, ◌++◌, option_and_then, option_map, option_to_list}
+use Rattle.review_table.specs.Rows.{row_in, rows_of}
+use Rattle.review_words.specs.declared.changes.Given.{Given}
+use Rattle.review_words.specs.declared.command.{ChangeCommand.ChangeCommand, ChangeQuery.ChangeQuery, Command.Command}
+use Rattle.review_words.specs.declared.command.Command.TheVariants.{CreateAccount, PutGroup, PutProject, RecordBase, CloseEpoch, CreateChange, OnChange, Submit}
+use Rattle.review_chain.proofs.LookingUp.{fewer_left, most_left}
+use Rattle.review_chain.proofs.Wanting.{Says, still_wanted, walked_kept, wanted_says}
+use Rattle.review_chain.specs.Branches.{Branch}
+use Rattle.review_chain.specs.Parts.{Want as ChainWant, TheChange, TheCommit, IsPart, Knows}
+use Rattle.review_chain.specs.Steps.{wanted, left as left_in_chain}
+use Rattle.review_chain.specs.declared.{links.Link.Link, links.Standing.Standing, walks.Walked.Walked}
+use Rattle.review_file_rules.specs.Reading.{named_parent}
+use Rattle.review_core_rules.specs.Change.{Change, is_open}
+use Rattle.review_machine_rows.specs.Files.{File}
+use Rattle.review_machine_rows.specs.Known.{Found, Stands, IsFound, known, number_of, change_in, standing_of, file_in, Agrees, IsKnown, AreAdded}
+use Rattle.review_machine_rows.specs.{Lines.most_depth, Links.link_for, Links.links_in}
+use Rattle.review_machine_rows.specs.Rows.{ClosedEpochs, Tables, base_cmp}
+use Rattle.review_machine_rows.specs.Steps.{Topic, OfCommand, OfQuery, first_wants, change_wants, file_wants, given_wants, has_some, question_wants, request_wants, submit_wants, wants_by, own_in, known_parent, parent_or, needs_file, project_for, asks_file, parent_of, line_wants, line_steps, wanted_for, chain_wants, chain_left, last_of, last_wants, look_up, steps, unknown, or_next, next, next_of, left, left_before, left_if, left_of, left_where, AskingLowers, ComesTo, HasComeTo, IsWalkTo, MayGoOnFor}
+use Rattle.review_machine_rows.specs.declared.{rows.Rows.Rows, rows.Want.Want, step.Step.Step}
+use Rattle.review_words.specs.declared.command.Query.TheVariants as asked
+use Rattle.review_machine_rows.specs.declared.rows.Want.TheVariants as want
+use Rattle.review_machine_rows.specs.declared.step.Step.TheVariants as step
+use Rattle.review_words.specs.declared.command.ChangeCommand.TheVariants as on
+use Rattle.review_words.specs.declared.command.ChangeQuery.TheVariants as shown
+
+-- what a look-up that was made found in tables that agree
+pub found_of : (t : Tables) (rows : Rows) (w : Want) → Agrees t rows → IsKnown rows w → (f : Found) × (known rows w ≡ Some f) × IsFound t w f
+found_of t rows w agree there = at (known rows w) refl there
+  where
+    at : (o : Option Found) → known rows w ≡ o → is_some o ≡ true → (f : Found) × (known rows w ≡ Some f) × IsFound t w f
+    at None e there = absurd (cc)
+    at (Some f) e there = (f, e, agree w f e)
+
+-- where none of some look-ups is left, all were made
+pub each_known : (rows : Rows) (ws : List Want) → unknown rows ws ≡ [] → AllByRecursion (IsKnown rows) ws
+each_known rows [] none = tt
+each_known rows (w ∷ ws) none =
+    ⊎_elim
+    (λ (t : is_some (known rows w) ≡ true). (t, each_known rows ws (sym (ap (λ b. cond (not b) (w ∷ unknown rows ws) (unknown rows ws)) t) ∙ none)))
+    (λ (f : is_some (known rows w) ≡ false). let e : w ∷ unknown rows ws ≡ [] = sym (ap (λ b. cond (not b) (w ∷ unknown rows ws) (unknown rows ws)) f) ∙ none in absurd (cc))
+    (cases_Bool (is_some (known rows w)))
+
+or_left : {X : Type 0} (a b : Option X) → is_some a ≡ true → is_some (option_or a b) ≡ true
+or_left None b e = absurd (cc)
+or_left (Some x) b e = refl
+
+or_right : {X : Type 0} (a b : Option X) → is_some b ≡ true → is_some (option_or a b) ≡ true
+or_right None b e = e
+or_right (Some x) b e = refl
+
+-- rows with those that know all look-ups that were left know them all
+none_left : (rows more both : Rows) (ws : List Want) → AreAdded rows more both → AllByRecursion (IsKnown more) (unknown rows ws) → unknown both ws ≡ []
+none_left rows more both [] added all = refl
+none_left rows more both (w ∷ ws) added all =
+    ⊎_elim
+    (λ (t : is_some (known rows w) ≡ true).
+    let rest = subst (AllByRecursion (IsKnown more)) (ap (λ b. cond (not b) (w ∷ unknown rows ws) (unknown rows ws)) t) all in
+    here (ap is_some (added w) ∙ or_left (known rows w) (known more w) t) ∙ none_left rows more both ws added rest)
+    (λ (f : is_some (known rows w) ≡ false).
+    let both_of : AllByRecursion (IsKnown more) (w ∷ unknown rows ws) = subst (AllByRecursion (IsKnown more)) (ap (λ b. cond (not b) (w ∷ unknown rows ws) (unknown rows ws)) f) all in
+    here (ap is_some (added w) ∙ or_right (known rows w) (known more w) both_of.0) ∙ none_left rows more both ws added both_of.1)
+    (cases_Bool (is_some (known rows w)))
+  where
+    here : is_some (known both w) ≡ true → unknown both (w ∷ ws) ≡ unknown both ws
+    here t = ap (λ b. cond (not b) (w ∷ unknown both ws) (unknown both ws)) t
+
+by_recursion : {X : Type 0} (P : X → Type 0) (xs : List X) → All P xs → AllByRecursion P xs
+by_recursion P [] all = tt
+by_recursion P (x ∷ xs) all = (All-head P x xs all, by_recursion P xs (All-tail P x xs all))
+
+-- nothing is left of a list, and nothing after it
+none_in : (a b : List Want) → or_next a b ≡ [] → (a ≡ []) × (b ≡ [])
+none_in [] b none = (refl, none)
+none_in (w ∷ ws) b none = absurd (cc)
+
+-- where nothing is left to ask, nothing is left of the steps, and nothing that is asked last
+pub all_made : (file : Option File) (rows : Rows) (caller : ℕ) (topic : Topic) → next file rows caller topic ≡ [] → (next_of rows (steps file rows caller topic) ≡ []) × (last_wants rows topic ≡ [])
+all_made file rows caller topic none = none_in (next_of rows (steps file rows caller topic)) (last_wants rows topic) none
+
+-- where nothing is left to ask, nothing is left of each step
+none_of_steps : (rows : Rows) (xs : List (List Want)) → next_of rows xs ≡ [] → AllByRecursion (λ x. unknown rows x ≡ []) xs
+none_of_steps rows [] none = tt
+none_of_steps rows (x ∷ xs) none = let p = none_in (unknown rows x) (next_of rows xs) none in (p.0, none_of_steps rows xs p.1)
+
+-- where nothing is left to ask, all was asked that is asked first
+pub all_asked : (file : Option File) (rows : Rows) (caller : ℕ) (topic : Topic) → next file rows caller topic ≡ [] → AllByRecursion (IsKnown rows) (first_wants caller topic)
+all_asked file rows caller topic none = each_known rows (first_wants caller topic) (none_of_steps rows (steps file rows caller topic) (all_made file rows caller topic none).0).0
+
+-- and all that is asked by the change
+pub change_asked : (file : Option File) (rows : Rows) (caller : ℕ) (topic : Topic) → next file rows caller topic ≡ [] → AllByRecursion (IsKnown rows) (change_wants rows topic)
+change_asked file rows caller topic none = each_known rows (change_wants rows topic) (none_of_steps rows (steps file rows caller topic) (all_made file rows caller topic none).0).1.0
+
+-- what is true of each step is true of the last
+of_last : (P : List Want → Type 0) (xs : List (List Want)) (x : List Want) → AllByRecursion P (xs ++ x ∷ []) → P x
+of_last P [] x all = all.0
+of_last P (y ∷ ys) x all = of_last P ys x all.1
+
+-- and of each before the last
+of_others : (P : List Want → Type 0) (xs : List (List Want)) (x : List Want) → AllByRecursion P (xs ++ x ∷ []) → AllByRecursion P xs
+of_others P [] x all = tt
+of_others P (y ∷ ys) x all = (all.0, of_others P ys x all.1)
+
+-- and all that is asked by the file
+pub file_asked : (file : Option File) (rows : Rows) (caller : ℕ) (topic : Topic) → next file rows caller topic ≡ [] → AllByRecursion (IsKnown rows) (file_wants file caller topic)
+file_asked file rows caller topic none =
+    each_known rows (file_wants file caller topic)
+    (of_last (λ s. unknown rows s ≡ []) (line_steps rows most_depth (parent_of rows topic)) (file_wants file caller topic) (none_of_steps rows (steps file rows caller topic) (all_made file rows caller topic none).0).1.1)
+
+-- and the files of the ancestors
+pub line_asked : (file : Option File) (rows : Rows) (caller : ℕ) (topic : Topic) → next file rows caller topic ≡ [] → AllByRecursion (λ s. unknown rows s ≡ []) (line_steps rows most_depth (parent_of rows topic))
+line_asked file rows caller topic none =
+    of_others (λ s. unknown rows s ≡ []) (line_steps rows most_depth (parent_of rows topic)) (file_wants file caller topic) (none_of_steps rows (steps file rows caller topic) (all_made file rows caller topic none).0).1.1
+
+stays : (a b : Option Found) → is_some a ≡ true → option_or a b ≡ a
+stays None b e = absurd (cc)
+stays (Some f) b e = refl
+
+-- what is known stays known
+known_stays : (rows more both : Rows) (w : Want) → AreAdded rows more both → IsKnown rows w → known both w ≡ known rows w
+known_stays rows more both w added there = added w ∙ stays (known rows w) (known more w) there
+
+-- a submit asks first for its change
+submit_known : (rows : Rows) (caller n : ℕ) → unknown rows (first_wants caller (OfCommand (Submit n))) ≡ [] → IsKnown rows (want.Change n)
+submit_known rows caller n none = (each_known rows (first_wants caller (OfCommand (Submit n))) none).1.1.1.0
+
+-- once the change is known, what it asks stays
+same_wants : (rows more both : Rows) (caller : ℕ) (topic : Topic) → AreAdded rows more both → unknown rows (first_wants caller topic) ≡ [] → change_wants both topic ≡ change_wants rows topic
+same_wants rows more both caller (OfQuery (asked.Branch project branch)) added none = refl
+same_wants rows more both caller (OfQuery (asked.OnChange change query)) added none =
+    ap (λ k. wants_by (question_wants query) (change_in k)) (known_stays rows more both (want.Change change) added (each_known rows (first_wants caller (OfQuery (asked.OnChange change query))) none).1.0)
+same_wants rows more both caller (OfCommand (CreateAccount name)) added none = refl
+same_wants rows more both caller (OfCommand (PutGroup group members)) added none = refl
+same_wants rows more both caller (OfCommand (PutProject project text)) added none = refl
+same_wants rows more both caller (OfCommand (RecordBase project branch commit)) added none = refl
+same_wants rows more both caller (OfCommand (CloseEpoch epoch)) added none = refl
+same_wants rows more both caller (OfCommand (CreateChange new)) added none = refl
+same_wants rows more both caller (OfCommand (Submit change)) added none =
+    ap (λ k. wants_by submit_wants (change_in k)) (known_stays rows more both (want.Change change) added (submit_known rows caller change none))
+same_wants rows more both caller (OfCommand (OnChange change command)) added none =
+    ap (λ k. wants_by (request_wants command) (change_in k)) (known_stays rows more both (want.Change change) added (each_known rows (first_wants caller (OfCommand (OnChange change command))) none).1.1.1.0)
+
+-- steps of which each is the same in both where those before it were made
+abbrev pub AreSteps : Rows → List (List Want) → List (List Want) → Type 0
+AreSteps rows [] [] = Unit {0}
+AreSteps rows [] (y ∷ ys) = ⊥
+AreSteps rows (x ∷ xs) [] = ⊥
+AreSteps rows (x ∷ xs) (y ∷ ys) = (x ≡ y) × (length xs ≡ length ys) × (unknown rows x ≡ [] → AreSteps rows xs ys)
+
+bounded : (u : List Want) (later most : ℕ) → later ≤ most → left_where u later (most + 1) ≤ most + 1
+bounded [] later most below = omega arith
+bounded (w ∷ ws) later most below = omega arith
+
+left_bounded : (rows : Rows) (xs : List (List Want)) → left_of rows xs ≤ length xs
+left_bounded rows [] = omega arith
+left_bounded rows (x ∷ xs) = let most = bounded (unknown rows x) (left_of rows xs) (length xs) (left_bounded rows xs) in omega arith
+
+-- the step that is asked leaves nothing of itself, and those before it have nothing left
+steps_lower : (rows more both : Rows) (w : Want) (ws : List Want) → AllByRecursion (IsKnown more) (w ∷ ws) → AreAdded rows more both →
+    (xs ys : List (List Want)) → AreSteps rows xs ys → next_of rows xs ≡ w ∷ ws → left_of both ys < left_of rows xs
+steps_lower rows more both w ws all added [] ys are is = absurd (cc)
+steps_lower rows more both w ws all added (x ∷ xs) [] are is = absurd are
+steps_lower rows more both w ws all added (x ∷ xs) (y ∷ ys) are is =
+    at (unknown rows x) refl (λ none rest. steps_lower rows more both w ws all added xs ys (are.2 none) rest)
+  where
+    now : unknown both x ≡ [] → left_of both (y ∷ ys) ≡ left_of both ys
+    now none = ap (λ s. left_where (unknown both s) (left_of both ys) (length ys + 1)) (sym are.0) ∙ ap (λ l. left_where l (left_of both ys) (length ys + 1)) none
+
+    at : (u : List Want) → unknown rows x ≡ u → (unknown rows x ≡ [] → next_of rows xs ≡ w ∷ ws → left_of both ys < left_of rows xs) → left_of both (y ∷ ys) < left_of rows (x ∷ xs)
+    at [] none on =
+        let later = on none (sym (ap (λ l. or_next l (next_of rows xs)) none) ∙ is) in
+        let here = now (none_left rows more both x added (subst (AllByRecursion (IsKnown more)) (sym none) tt)) in
+        let there : left_of rows (x ∷ xs) ≡ left_of rows xs = ap (λ l. left_where l (left_of rows xs) (length xs + 1)) none in
+        omega arith
+    at (v ∷ vs) some on =
+        let asked : unknown rows x ≡ w ∷ ws = some ∙ (sym (ap (λ l. or_next l (next_of rows xs)) some) ∙ is) in
+        let here = now (none_left rows more both x added (subst (AllByRecursion (IsKnown more)) (sym asked) all)) in
+        let there : left_of rows (x ∷ xs) ≡ length xs + 1 = ap (λ l. left_where l (left_of rows xs) (length xs + 1)) some in
+        let below = left_bounded both ys in
+        let same : length xs ≡ length ys = are.1 in
+        omega arith
+
+-- what is known of a branch stays known
+links_grow : (rows more both : Rows) (project branch : List ℕ) → AreAdded rows more both → IsPart (links_in rows project branch) (links_in both project branch)
+links_grow rows more both project branch added = record {
+  link = λ n l. by_change n l (known rows (want.Change n)) refl;
+  standing = λ x s. by_commit x s (known rows (want.Standing (record { project = project; branch = branch; commit = x }))) refl;
+}
+  where
+    stays_so : (w : Want) (f : Found) → known rows w ≡ Some f → known both w ≡ Some f
+    stays_so w f e = added w ∙ ap (λ o. option_or o (known more w)) e
+
+    by_change : (n : ℕ) (l : Link) (o : Option Found) → known rows (want.Change n) ≡ o → link_for project branch (change_in (known rows (want.Change n))) ≡ Some l →
+        link_for project branch (change_in (known both (want.Change n))) ≡ Some l
+    by_change n l None e is = absurd (let f : None ≡ Some l = sym (ap (λ k. link_for project branch (change_in k)) e) ∙ is in cc)
+    by_change n l (Some f) e is = ap (λ k. link_for project branch (change_in k)) (stays_so (want.Change n) f e ∙ sym e) ∙ is
+
+    by_commit : (x : List ℕ) (s : Standing) (o : Option Found) → known rows (want.Standing (record { project = project; branch = branch; commit = x })) ≡ o →
+        standing_of (known rows (want.Standing (record { project = project; branch = branch; commit = x }))) ≡ Some s → standing_of (known both (want.Standing (record { project = project; branch = branch; commit = x }))) ≡ Some s
+    by_commit x s None e is = absurd (let f : None ≡ Some s = sym (ap standing_of e) ∙ is in cc)
+    by_commit x s (Some f) e is = ap standing_of (stays_so (want.Standing (record { project = project; branch = branch; commit = x })) f e ∙ sym e) ∙ is
+
+-- where a commit was looked up, it is known what it is to the branch
+pub commit_known : (rows : Rows) (project branch x : List ℕ) → IsKnown rows (want.Standing (record { project = project; branch = branch; commit = x })) → IsSome ((links_in rows project branch).standing x)
+commit_known rows project branch x there = at (row_in base_cmp (rows_of rows.standings) (record { project = project; branch = branch; commit = x })) there
+  where
+    at : (o : Option Standing) → is_some (option_map Stands o) ≡ true → IsSome (standing_of (option_map Stands o))
+    at None e = absurd (let f : false ≡ true = e in cc)
+    at (Some s) e = refl
+
+-- rows with those that know what was left of a list leave nothing of it
+none_after : (rows more both : Rows) (ws us : List Want) → AreAdded rows more both → unknown rows ws ≡ us → AllByRecursion (IsKnown more) us → unknown both ws ≡ []
+none_after rows more both ws us added e all = none_left rows more both ws added (subst (AllByRecursion (IsKnown more)) (sym e) all)
+
+-- what is asked for a chain is one look-up, of what is wanted
+pub record IsLook (rows : Rows) (n : ℕ) (c : Change) (asked : List Want) : Type 0 where
+  pub want : ChainWant
+  pub wanted_is : wanted_for rows n c ≡ Some want
+  pub unmade : unknown rows (look_up c.project c.branch want ∷ []) ≡ asked
+
+look_of : (rows : Rows) (n : ℕ) (c : Change) (w : Want) (ws : List Want) → unknown rows (chain_wants rows n c) ≡ w ∷ ws → IsLook rows n c (w ∷ ws)
+look_of rows n c w ws is = at (wanted_for rows n c) refl is
+  where
+    at : (o : Option ChainWant) → wanted_for rows n c ≡ o → unknown rows (option_to_list (option_map (look_up c.project c.branch) o)) ≡ w ∷ ws → IsLook rows n c (w ∷ ws)
+    at None e f = absurd (let g : [] ≡ w ∷ ws = f in cc)
+    at (Some want) e f = record { want = want; wanted_is = e; unmade = f }
+
+-- only an open change that is ready wants something
+open_wants : (rows : Rows) (n : ℕ) (c : Change) (want : ChainWant) → wanted_for rows n c ≡ Some want → (is_open c.state && not c.wip ≡ true) × (wanted (links_in rows c.project c.branch) n ≡ Some want)
+open_wants rows n c want is = at (is_open c.state && not c.wip) refl is
+  where
+    at : (b : Bool) → is_open c.state && not c.wip ≡ b → cond b (wanted (links_in rows c.project c.branch) n) None ≡ Some want →
+        (is_open c.state && not c.wip ≡ true) × (wanted (links_in rows c.project c.branch) n ≡ Some want)
+    at true e f = (e, f)
+    at false e f = absurd (let g : None ≡ Some want = f in cc)
+
+-- a look-up for a chain lowers what is left of it
+chain_lowers : (rows more both : Rows) (n : ℕ) (c : Change) (w : Want) (ws : List Want) → AreAdded rows more both → AllByRecursion (IsKnown more) (w ∷ ws) → unknown rows (chain_wants rows n c) ≡ w ∷ ws →
+    left_if (unknown both (chain_wants both n c)) (left_in_chain (links_in both c.project c.branch) n) < left_if (unknown rows (chain_wants rows n c)) (left_in_chain (links_in rows c.project c.branch) n)
+chain_lowers rows more both n c w ws added all is = rw is (by_next (unknown both (chain_wants both n c)) refl)
+  where
+    before : Branch
+    before = links_in rows c.project c.branch
+
+    after : Branch
+    after = links_in both c.project c.branch
+
+    part : IsPart before after
+    part = links_grow rows more both c.project c.branch added
+
+    look : IsLook rows n c (w ∷ ws)
+    look = look_of rows n c w ws is
+
+    opened : (is_open c.state && not c.wip ≡ true) × (wanted before n ≡ Some look.want)
+    opened = open_wants rows n c look.want look.wanted_is
+
+    made : unknown both (look_up c.project c.branch look.want ∷ []) ≡ []
+    made = none_after rows more both (look_up c.project c.branch look.want ∷ []) (w ∷ ws) added look.unmade all
+
+    less : Knows after look.want → left_in_chain after n < left_in_chain before n
+    less knows = let said = subst (Says before n) opened.1 (wanted_says before n) in fewer_left before after said.0 n look.want part said.1 knows
+
+    now : wanted after n ≡ Some look.want → unknown both (chain_wants both n c) ≡ []
+    now still = ap (λ o. unknown both (option_to_list (option_map (look_up c.project c.branch) o))) (ap (λ b. cond b (wanted after n) None) opened.0 ∙ still) ∙ made
+
+    by_want : (want : ChainWant) → look.want ≡ want → (v : Want) (vs : List Want) → unknown both (chain_wants both n c) ≡ v ∷ vs → left_in_chain after n < left_in_chain before n
+    by_want (TheCommit x) e v vs some =
+        less (subst (Knows after) (sym e) (commit_known both c.project c.branch x (each_known both (look_up c.project c.branch (TheCommit x) ∷ []) (subst (λ u. unknown both (look_up c.project c.branch u ∷ []) ≡ []) e made)).0))
+    by_want (TheChange d) e v vs some = by_link (after.link d) refl
+      where
+        by_link : (o : Option Link) → after.link d ≡ o → left_in_chain after n < left_in_chain before n
+        by_link None none =
+            let still = still_wanted before after n d part (opened.1 ∙ ap Some e) none in
+            absurd (let f : [] ≡ v ∷ vs = sym (now (still ∙ ap Some (sym e))) ∙ some in cc)
+        by_link (Some l) there = less (subst (Knows after) (sym e) (subst IsSome (sym there) refl))
+
+    by_next : (us : List Want) → unknown both (chain_wants both n c) ≡ us → left_if us (left_in_chain after n) < left_in_chain before n + 1
+    by_next [] none = omega arith
+    by_next (v ∷ vs) some = let fewer = by_want look.want refl v vs some in omega arith
+
+-- what is asked last is asked for a submit
+last_lowers : (rows more both : Rows) (topic : Topic) (w : Want) (ws : List Want) → AreAdded rows more both → AllByRecursion (IsKnown more) (w ∷ ws) →
+    ((n : ℕ) → topic ≡ OfCommand (Submit n) → IsKnown rows (want.Change n)) → last_wants rows topic ≡ w ∷ ws → left_if (last_wants both topic) (last_of both topic) < left_if (last_wants rows topic) (last_of rows topic)
+last_lowers rows more both (OfQuery query) w ws added all there is = absurd (let f : [] ≡ w ∷ ws = is in cc)
+last_lowers rows more both (OfCommand (CreateAccount name)) w ws added all there is = absurd (let f : [] ≡ w ∷ ws = is in cc)
+last_lowers rows more both (OfCommand (PutGroup group members)) w ws added all there is = absurd (let f : [] ≡ w ∷ ws = is in cc)
+last_lowers rows more both (OfCommand (PutProject project text)) w ws added all there is = absurd (let f : [] ≡ w ∷ ws = is in cc)
+last_lowers rows more both (OfCommand (RecordBase project branch commit)) w ws added all there is = absurd (let f : [] ≡ w ∷ ws = is in cc)
+last_lowers rows more both (OfCommand (CloseEpoch epoch)) w ws added all there is = absurd (let f : [] ≡ w ∷ ws = is in cc)
+last_lowers rows more both (OfCommand (CreateChange new)) w ws added all there is = absurd (let f : [] ≡ w ∷ ws = is in cc)
+last_lowers rows more both (OfCommand (OnChange change command)) w ws added all there is = absurd (let f : [] ≡ w ∷ ws = is in cc)
+last_lowers rows more both (OfCommand (Submit n)) w ws added all there is =
+    rw (ap change_in (known_stays rows more both (want.Change n) added (there n refl))) (by_change (change_in (known rows (want.Change n))) is)
+  where
+    by_change : (o : Option Change) → unknown rows (wants_by (chain_wants rows n) o) ≡ w ∷ ws →
+        left_if (unknown both (wants_by (chain_wants both n) o)) (chain_left both n o) < left_if (unknown rows (wants_by (chain_wants rows n) o)) (chain_left rows n o)
+    by_change None f = absurd (let g : [] ≡ w ∷ ws = f in cc)
+    by_change (Some c) f = chain_lowers rows more both n c w ws added all f
+
+-- where nothing is left of the steps, no step is left, in what is known later too
+none_stays : (rows more both : Rows) → AreAdded rows more both → (xs ys : List (List Want)) → AreSteps rows xs ys → next_of rows xs ≡ [] → (left_of rows xs ≡ 0) × (left_of both ys ≡ 0)
+none_stays rows more both added [] [] are none = (refl, refl)
+none_stays rows more both added [] (y ∷ ys) are none = absurd are
+none_stays rows more both added (x ∷ xs) [] are none = absurd are
+none_stays rows more both added (x ∷ xs) (y ∷ ys) are none =
+    let p = none_in (unknown rows x) (next_of rows xs) none in
+    let later = none_stays rows more both added xs ys (are.2 p.0) p.1 in
+    let here = none_left rows more both x added (subst (AllByRecursion (IsKnown more)) (sym p.0) tt) in (
+      ap (λ l. left_where l (left_of rows xs) (length xs + 1)) p.0 ∙ later.0,
+      ap (λ s. left_where (unknown both s) (left_of both ys) (length ys + 1)) (sym are.0) ∙ (ap (λ l. left_where l (left_of both ys) (length ys + 1)) here ∙ later.1),
+    )
+
+last_bounded : (rows : Rows) (topic : Topic) → left_if (last_wants rows topic) (last_of rows topic) ≤ 201
+last_bounded rows topic = at (last_wants rows topic) (last_of rows topic) (by_topic topic)
+  where
+    at : (ws : List Want) (more : ℕ) → more ≤ 200 → left_if ws more ≤ 201
+    at [] more below = omega arith
+    at (w ∷ ws) more below = omega arith
+
+    by_change : (n : ℕ) (o : Option Change) → chain_left rows n o ≤ 200
+    by_change n None = omega arith
+    by_change n (Some c) = most_left (links_in rows c.project c.branch) n
+
+    by_topic : (t : Topic) → last_of rows t ≤ 200
+    by_topic (OfQuery query) = omega arith
+    by_topic (OfCommand (CreateAccount name)) = omega arith
+    by_topic (OfCommand (PutGroup group members)) = omega arith
+    by_topic (OfCommand (PutProject project text)) = omega arith
+    by_topic (OfCommand (RecordBase project branch commit)) = omega arith
+    by_topic (OfCommand (CloseEpoch epoch)) = omega arith
+    by_topic (OfCommand (CreateChange new)) = omega arith
+    by_topic (OfCommand (OnChange change command)) = omega arith
+    by_topic (OfCommand (Submit n)) = by_change n (change_in (known rows (want.Change n)))
+
+before_less : (a b last later : ℕ) → a < b → last ≤ 201 → left_before a last < left_before b later
+before_less a zero last later less below = absurd (omega arith)
+before_less zero (suc b) last later less below = omega arith
+before_less (suc a) (suc b) last later less below = omega arith
+
+-- the file of a project that is known stays, and its parent
+own_stays : (rows more both : Rows) (project : List ℕ) → AreAdded rows more both → IsKnown rows (want.File project) → own_in both project ≡ own_in rows project
+own_stays rows more both project added there = ap file_in (known_stays rows more both (want.File project) added there)
+
+parent_stays : (rows more both : Rows) (project : List ℕ) → AreAdded rows more both → IsKnown rows (want.File project) → known_parent both project ≡ known_parent rows project
+parent_stays rows more both project added there = ap (option_and_then (λ f. f.parent)) (own_stays rows more both project added there)
+
+-- the next one of a line stays, once its file is known
+above_stays : (rows more both : Rows) (p : Option (List ℕ)) → AreAdded rows more both → unknown rows (line_wants p) ≡ [] → option_and_then (known_parent both) p ≡ option_and_then (known_parent rows) p
+above_stays rows more both None added none = refl
+above_stays rows more both (Some project) added none = parent_stays rows more both project added (each_known rows (want.File project ∷ []) none).0
+
+-- as many steps ask for a line, whatever is known of it
+line_length : (rows both : Rows) (n : ℕ) (p q : Option (List ℕ)) (x : List Want) → length (line_steps rows n p ++ x ∷ []) ≡ length (line_steps both n q ++ x ∷ [])
+line_length rows both zero p q x = refl
+line_length rows both (suc n) p q x = let same = line_length rows both n (option_and_then (known_parent rows) p) (option_and_then (known_parent both) q) x in omega arith
+
+line_stays : (rows more both : Rows) (n : ℕ) (p : Option (List ℕ)) (x : List Want) → AreAdded rows more both → AreSteps rows (line_steps rows n p ++ x ∷ []) (line_steps both n p ++ x ∷ [])
+line_stays rows more both zero p x added = (refl, refl, λ none. tt)
+line_stays rows more both (suc n) p x added = (
+  refl,
+  line_length rows both n (option_and_then (known_parent rows) p) (option_and_then (known_parent both) p) x,
+  λ none.
+      subst (λ q. AreSteps rows (line_steps rows n (option_and_then (known_parent rows) p) ++ x ∷ []) (line_steps both n q ++ x ∷ [])) (sym (above_stays rows more both p added none))
+      (line_stays rows more both n (option_and_then (known_parent rows) p) x added),
+)
+
+-- the parent of a project that is judged by stays, where the project's file is known
+judged_stays : (rows more both : Rows) (is : Bool) (o : Option Change) → AreAdded rows more both → ((c : Change) → o ≡ Some c → is ≡ true → IsKnown rows (want.File c.project)) →
+    option_and_then (known_parent both) (project_for is o) ≡ option_and_then (known_parent rows) (project_for is o)
+judged_stays rows more both false o added there = refl
+judged_stays rows more both true None added there = refl
+judged_stays rows more both true (Some c) added there = parent_stays rows more both c.project added (there c refl refl)
+
+given_asked : (rows : Rows) (labels : List Given) (project : List ℕ) → AllByRecursion (IsKnown rows) (given_wants labels project) → has_some labels ≡ true → IsKnown rows (want.File project)
+given_asked rows [] project all some = absurd (let none : false ≡ true = some in cc)
+given_asked rows (g ∷ gs) project all some = all.0
+
+-- a request that is judged by the project's file asks for it
+judged_asked : (rows : Rows) (command : ChangeCommand) (c : Change) → AllByRecursion (IsKnown rows) (request_wants command c) → needs_file command ≡ true → IsKnown rows (want.File c.project)
+judged_asked rows (on.Upload patch) c all is = all.0
+judged_asked rows (on.Review review) c all is = given_asked rows review.labels c.project all is
+judged_asked rows on.Abandon c all is = all.0
+judged_asked rows on.Restore c all is = all.0
+judged_asked rows (on.AddReviewer account role) c all is = absurd (let none : false ≡ true = is in cc)
+judged_asked rows (on.RemoveReviewer account) c all is = absurd (let none : false ≡ true = is in cc)
+judged_asked rows on.SetWip c all is = absurd (let none : false ≡ true = is in cc)
+judged_asked rows on.SetReady c all is = absurd (let none : false ≡ true = is in cc)
+judged_asked rows (on.AddAttention account reason) c all is = absurd (let none : false ≡ true = is in cc)
+judged_asked rows (on.RemoveAttention account reason) c all is = absurd (let none : false ≡ true = is in cc)
+
+answered_asked : (rows : Rows) (query : ChangeQuery) (c : Change) → AllByRecursion (IsKnown rows) (question_wants query c) → asks_file query ≡ true → IsKnown rows (want.File c.project)
+answered_asked rows shown.Requirements c all is = all.0
+answered_asked rows shown.Change c all is = absurd (let none : false ≡ true = is in cc)
+answered_asked rows shown.Threads c all is = absurd (let none : false ≡ true = is in cc)
+answered_asked rows shown.Attention c all is = absurd (let none : false ≡ true = is in cc)
+
+-- what is asked by a change that is found
+by_found : (rows : Rows) (each : Change → List Want) (o : Option Change) (c : Change) → o ≡ Some c → AllByRecursion (IsKnown rows) (wants_by each o) → AllByRecursion (IsKnown rows) (each c)
+by_found rows each o c is all = subst (λ x. AllByRecursion (IsKnown rows) (wants_by each x)) is all
+
+-- the first parent that is asked for stays, once all is known that is asked before
+parents_stay : (rows more both : Rows) (caller : ℕ) (topic : Topic) → AreAdded rows more both → unknown rows (first_wants caller topic) ≡ [] → unknown rows (change_wants rows topic) ≡ [] →
+    parent_of both topic ≡ parent_of rows topic
+parents_stay rows more both caller (OfQuery (asked.Branch project branch)) added first then = refl
+parents_stay rows more both caller (OfQuery (asked.OnChange n query)) added first then =
+    let found = change_in (known rows (want.Change n)) in
+    ap (λ k. option_and_then (known_parent both) (project_for (asks_file query) (change_in k))) (known_stays rows more both (want.Change n) added (each_known rows (first_wants caller (OfQuery (asked.OnChange n query))) first).1.0)
+    ∙ judged_stays rows more both (asks_file query) found added
+    (λ c is judged. answered_asked rows query c (by_found rows (question_wants query) found c is (each_known rows (change_wants rows (OfQuery (asked.OnChange n query))) then)) judged)
+parents_stay rows more both caller (OfCommand (CreateAccount name)) added first then = refl
+parents_stay rows more both caller (OfCommand (PutGroup group members)) added first then = refl
+parents_stay rows more both caller (OfCommand (PutProject project text)) added first then =
+    ap (parent_or (named_parent text)) (own_stays rows more both project added (each_known rows (first_wants caller (OfCommand (PutProject project text))) first).1.1.1.0)
+parents_stay rows more both caller (OfCommand (RecordBase project branch commit)) added first then = refl
+parents_stay rows more both caller (OfCommand (CloseEpoch epoch)) added first then = refl
+parents_stay rows more both caller (OfCommand (CreateChange new)) added first then =
+    parent_stays rows more both new.project added (each_known rows (first_wants caller (OfCommand (CreateChange new))) first).1.1.1.1.1.0
+parents_stay rows more both caller (OfCommand (OnChange n command)) added first then =
+    let found = change_in (known rows (want.Change n)) in
+    ap (λ k. option_and_then (known_parent both) (project_for (needs_file command) (change_in k))) (known_stays rows more both (want.Change n) added (each_known rows (first_wants caller (OfCommand (OnChange n command))) first).1.1.1.0)
+    ∙ judged_stays rows more both (needs_file command) found added
+    (λ c is judged. judged_asked rows command c (by_found rows (request_wants command) found c is (each_known rows (change_wants rows (OfCommand (OnChange n command))) then)) judged)
+parents_stay rows more both caller (OfCommand (Submit n)) added first then =
+    let found = change_in (known rows (want.Change n)) in
+    ap (λ k. option_and_then (known_parent both) (project_for true (change_in k))) (known_stays rows more both (want.Change n) added (submit_known rows caller n first))
+    ∙ judged_stays rows more both true found added
+    (λ c is judged. (by_found rows submit_wants found c is (each_known rows (change_wants rows (OfCommand (Submit n))) then)).0)
+
+-- a step asks the same where more is known, once those before it were made
+steps_stay : (file : Option File) (rows more both : Rows) (caller : ℕ) (topic : Topic) → AreAdded rows more both → AreSteps rows (steps file rows caller topic) (steps file both caller topic)
+steps_stay file rows more both caller topic added = (
+  refl,
+  let same = line_length rows both most_depth (parent_of rows topic) (parent_of both topic) (file_wants file caller topic) in omega arith,
+  λ none. (
+    sym (same_wants rows more both caller topic added none),
+    line_length rows both most_depth (parent_of rows topic) (parent_of both topic) (file_wants file caller topic),
+    λ made.
+        subst (λ p. AreSteps rows (line_steps rows most_depth (parent_of rows topic) ++ file_wants file caller topic ∷ []) (line_steps both most_depth p ++ file_wants file caller topic ∷ []))
+        (sym (parents_stay rows more both caller topic added none made)) (line_stays rows more both most_depth (parent_of rows topic) (file_wants file caller topic) added),
+  ),
+)
+
+-- each step asks for what was not known, and lowers what is left
+pub asking_lowers : AskingLowers
+asking_lowers file rows more both caller topic w ws is all added = at (next_of rows (steps file rows caller topic)) refl
+  where
+    made : AllByRecursion (IsKnown more) (w ∷ ws)
+    made = by_recursion (IsKnown more) (w ∷ ws) all
+
+    are : AreSteps rows (steps file rows caller topic) (steps file both caller topic)
+    are = steps_stay file rows more both caller topic added
+
+    at : (us : List Want) → next_of rows (steps file rows caller topic) ≡ us → left file both caller topic < left file rows caller topic
+    at [] none =
+        let zeros = none_stays rows more both added (steps file rows caller topic) (steps file both caller topic) are none in
+        let firsts = (none_of_steps rows (steps file rows caller topic) none).0 in
+        let last : last_wants rows topic ≡ w ∷ ws = sym (ap (λ l. or_next l (last_wants rows topic)) none) ∙ is in
+        rw (zeros.0, zeros.1) (last_lowers rows more both topic w ws added made (λ n e. submit_known rows caller n (subst (λ t. unknown rows (first_wants caller t) ≡ []) e firsts)) last)
+    at (v ∷ vs) some =
+        let asked : next_of rows (steps file rows caller topic) ≡ w ∷ ws = some ∙ (sym (ap (λ l. or_next l (last_wants rows topic)) some) ∙ is) in
+        let fewer = steps_lower rows more both w ws made added (steps file rows caller topic) (steps file both caller topic) are asked in
+        before_less (left_of both (steps file both caller topic)) (left_of rows (steps file rows caller topic)) (left_if (last_wants both topic) (last_of both topic)) (left_if (last_wants rows topic) (last_of rows topic)) fewer
+        (last_bounded both topic)
+
+unasked : (rows : Rows) (w : Want) → known rows w ≡ None → IsKnown rows w → ⊥
+unasked rows w none there = let e : false ≡ true = sym (ap is_some none) ∙ there in absurd (cc)
+
+-- rows that know nothing have something to ask
+pub asks_first : (file : Option File) (rows : Rows) (caller : ℕ) (topic : Topic) → ((w : Want) → known rows w ≡ None) → next file rows caller topic ≡ [] → ⊥
+asks_first file rows caller (OfCommand command) nothing none = unasked rows want.Requests (nothing want.Requests) (all_asked file rows caller (OfCommand command) none).0
+asks_first file rows caller (OfQuery (asked.Branch project branch)) nothing none =
+    unasked rows (want.Account caller) (nothing (want.Account caller)) (all_asked file rows caller (OfQuery (asked.Branch project branch)) none).0
+asks_first file rows caller (OfQuery (asked.OnChange change query)) nothing none =
+    unasked rows (want.Account caller) (nothing (want.Account caller)) (all_asked file rows caller (OfQuery (asked.OnChange change query)) none).0
+
+-- how many requests tables have, as rows say that agree and have nothing left to ask
+pub requests_are : (t : Tables) (file : Option File) (rows : Rows) (caller : ℕ) (command : Command) → Agrees t rows → next file rows caller (OfCommand command) ≡ [] → number_of (known rows want.Requests) ≡ t.requests
+requests_are t file rows caller command agree none =
+    let r = found_of t rows want.Requests agree (all_asked file rows caller (OfCommand command) none).0 in
+    let x = r.2 in
+    ap number_of (r.1 ∙ ap Some x.1) ∙ x.2
+
+-- the least open epoch that tables have, as rows say that know what a CloseEpoch asks
+pub least_epoch_is : (t : Tables) (file : Option File) (rows : Rows) (caller least : ℕ) → Agrees t rows → next file rows caller (OfCommand (CloseEpoch least)) ≡ [] → number_of (known rows want.LeastEpoch) ≡ t.count ClosedEpochs
+least_epoch_is t file rows caller least agree none =
+    let r = found_of t rows want.LeastEpoch agree (all_asked file rows caller (OfCommand (CloseEpoch least)) none).1.1.1.0 in
+    let x = r.2 in
+    ap number_of (r.1 ∙ ap Some x.1) ∙ x.2
+
+-- where nothing is left of the steps, nothing is left of them in what is known later
+none_left_later : (rows more both : Rows) → AreAdded rows more both → (xs ys : List (List Want)) → AreSteps rows xs ys → next_of rows xs ≡ [] → next_of both ys ≡ []
+none_left_later rows more both added [] [] are none = refl
+none_left_later rows more both added [] (y ∷ ys) are none = absurd are
+none_left_later rows more both added (x ∷ xs) [] are none = absurd are
+none_left_later rows more both added (x ∷ xs) (y ∷ ys) are none =
+    let p = none_in (unknown rows x) (next_of rows xs) none in
+    let later = none_left_later rows more both added xs ys (are.2 p.0) p.1 in
+    let here = none_left rows more both x added (subst (AllByRecursion (IsKnown more)) (sym p.0) tt) in
+    ap (λ s. or_next (unknown both s) (next_of both ys)) (sym are.0) ∙ (ap (λ l. or_next l (next_of both ys)) here ∙ later)
+
+-- a walk stays one where more is known
+walk_stays : (rows more both : Rows) (n : ℕ) (w : Walked) → AreAdded rows more both → IsKnown rows (want.Change n) → IsWalkTo rows n w → IsWalkTo both n w
+walk_stays rows more both n w added there h = record {
+  change_is = h.change_is;
+  change = h.change;
+  found = ap change_in (known_stays rows more both (want.Change n) added there) ∙ h.found;
+  is_ready = h.is_ready;
+  walks = walked_kept (links_in rows h.change.project h.change.branch) (links_in both h.change.project h.change.branch) (links_grow rows more both h.change.project h.change.branch added) w h.walks;
+}
+
+-- nothing is left of a line where nothing was left of it before
+line_left : (rows more both : Rows) (n : ℕ) (p : Option (List ℕ)) → AreAdded rows more both → next_of rows (line_steps rows n p) ≡ [] → next_of both (line_steps both n p) ≡ []
+line_left rows more both zero p added none = refl
+line_left rows more both (suc n) p added none =
+    let q = none_in (unknown rows (line_wants p)) (next_of rows (line_steps rows n (option_and_then (known_parent rows) p))) none in
+    let later = line_left rows more both n (option_and_then (known_parent rows) p) added q.1 in
+    let here = none_after rows more both (line_wants p) [] added q.0 tt in
+    ap (λ o. or_next (unknown both (line_wants p)) (next_of both (line_steps both n o))) (above_stays rows more both p added q.0) ∙ (ap (λ l. or_next l (next_of both (line_steps both n (option_and_then (known_parent rows) p)))) here ∙ later)
+
+-- what was asked of some look-ups that stay the same leaves nothing of them
+left_after : (rows more both : Rows) (ws now us : List Want) → AreAdded rows more both → now ≡ ws → unknown rows ws ≡ us → All (IsKnown more) us → unknown both now ≡ []
+left_after rows more both ws now us added same is all = ap (unknown both) same ∙ none_after rows more both ws us added is (by_recursion (IsKnown more) us all)
+
+-- the same, where nothing was left of them
+left_none : (rows more both : Rows) (ws now : List Want) → AreAdded rows more both → now ≡ ws → unknown rows ws ≡ [] → unknown both now ≡ []
+left_none rows more both ws now added same none = ap (unknown both) same ∙ none_after rows more both ws [] added none tt
+
+may_stay : (rows more both : Rows) (caller : ℕ) (topic : Topic) (o : Option Walked) → AreAdded rows more both → unknown rows (first_wants caller topic) ≡ [] → MayGoOnFor rows topic o → MayGoOnFor both topic o
+may_stay rows more both caller topic None added first h = tt
+may_stay rows more both caller topic (Some w) added first h =
+    (h.0, walk_stays rows more both w.change w added (submit_known rows caller w.change (subst (λ t. unknown rows (first_wants caller t) ≡ []) h.0 first)) h.1)
+
+-- where asking has come to, it has come to where more is known
+pub come_stays : (file : Option File) (rows more both : Rows) (caller : ℕ) (topic : Topic) (s : Step) → AreAdded rows more both → HasComeTo file rows caller topic s → HasComeTo file both caller topic s
+come_stays file rows more both caller topic step.First added h = tt
+come_stays file rows more both caller topic step.ByChange added h = left_none rows more both (first_wants caller topic) (first_wants caller topic) added refl h
+come_stays file rows more both caller topic step.Above added h =
+    (left_none rows more both (first_wants caller topic) (first_wants caller topic) added refl h.0, left_none rows more both (change_wants rows topic) (change_wants both topic) added (same_wants rows more both caller topic added h.0) h.1)
+come_stays file rows more both caller topic step.ByFile added h = (
+  left_none rows more both (first_wants caller topic) (first_wants caller topic) added refl h.0,
+  left_none rows more both (change_wants rows topic) (change_wants both topic) added (same_wants rows more both caller topic added h.0) h.1,
+  ap (λ p. next_of both (line_steps both most_depth p)) (parents_stay rows more both caller topic added h.0 h.1) ∙ line_left rows more both most_depth (parent_of rows topic) added h.2,
+)
+come_stays file rows more both caller topic (step.Last w) added h = (
+  none_left_later rows more both added (steps file rows caller topic) (steps file both caller topic) (steps_stay file rows more both caller topic added) h.0,
+  may_stay rows more both caller topic w added (none_of_steps rows (steps file rows caller topic) h.0).0 h.1,
+)
+
+-- where the look-ups of the first step are made, asking has come to what is asked by the change
+pub first_comes : (file : Option File) (rows : Rows) (caller : ℕ) (topic : Topic) (ws : List Want) → unknown rows (first_wants caller topic) ≡ ws → ComesTo file rows caller topic ws step.ByChange
+first_comes file rows caller topic ws is = λ more both all added. left_after rows more both (first_wants caller topic) (first_wants caller topic) ws added refl is all
+
+-- where those are made too that are asked by the change, it has come to the ancestors
+pub change_comes : (file : Option File) (rows : Rows) (caller : ℕ) (topic : Topic) (ws : List Want) → HasComeTo file rows caller topic step.ByChange → unknown rows (change_wants rows topic) ≡ ws →
+    ComesTo file rows caller topic ws step.Above
+change_comes file rows caller topic ws h is = λ more both all added.
+    (come_stays file rows more both caller topic step.ByChange added h, left_after rows more both (change_wants rows topic) (change_wants both topic) ws added (same_wants rows more both caller topic added h) is all)
+
+-- the last of some steps
+pub last_joins : (rows : Rows) (xs : List (List Want)) (x : List Want) → next_of rows xs ≡ [] → next_of rows (xs ++ x ∷ []) ≡ or_next (unknown rows x) []
+last_joins rows [] x none = refl
+last_joins rows (y ∷ ys) x none =
+    let p = none_in (unknown rows y) (next_of rows ys) none in
+    ap (λ l. or_next l (next_of rows (ys ++ x ∷ []))) p.0 ∙ last_joins rows ys x p.1
+
+-- the steps that have nothing left before what is asked by the file
+pub to_file : (file : Option File) (rows : Rows) (caller : ℕ) (topic : Topic) → HasComeTo file rows caller topic step.ByFile → next_of rows (steps file rows caller topic) ≡ or_next (unknown rows (file_wants file caller topic)) []
+to_file file rows caller topic h =
+    let line = line_steps rows most_depth (parent_of rows topic) in
+    let rest = next_of rows (line ++ file_wants file caller topic ∷ []) in
+    ap (λ l. or_next l (or_next (unknown rows (change_wants rows topic)) rest)) h.0 ∙ (ap (λ l. or_next l rest) h.1 ∙ last_joins rows line (file_wants file caller topic) h.2)
+
+-- and where those are made that are asked by the file, it has come to the last
+pub file_comes : (file : Option File) (rows : Rows) (caller : ℕ) (topic : Topic) (ws : List Want) → HasComeTo file rows caller topic step.ByFile → unknown rows (file_wants file caller topic) ≡ ws →
+    ComesTo file rows caller topic ws (step.Last None)
+file_comes file rows caller topic ws h is = λ more both all added. (
+  to_file file both caller topic (come_stays file rows more both caller topic step.ByFile added h) ∙ ap (λ l. or_next l []) (left_after rows more both (file_wants file caller topic) (file_wants file caller topic) ws added refl is all),
+  tt,
+)

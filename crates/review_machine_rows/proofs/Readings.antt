@@ -1,0 +1,125 @@
+-- What is read of the texts that a history puts.
+use Rattle.std.proofs.Common.{◌≡◌, ◌⊎◌, inl, inr, ◌∙◌, ℕ, List, [], ◌∷◌, Option, Some, None, Bool, true, false, cond, refl, sym, ap, subst, ⊎_elim}
+use Rattle.std.proofs.lemmas.{Bool.cases_Bool, Slice.Eq.bytes_eq-Decides}
+use Rattle.std.specs.{Bool.MatchBool, Prelude.MatchOption, Prelude.nat_lt, Prelude.◌&&◌, Str.bytes_eq}
+use Rattle.review_words.specs.History.{Asking, Entry, asking_of, accepted, if_done, file_text, text_put}
+use Rattle.review_words.specs.declared.command.Command.{Command}
+use Rattle.review_words.specs.declared.command.Command.TheVariants.{CreateAccount, PutGroup, PutProject, RecordBase, CloseEpoch, CreateChange, OnChange, Submit}
+use Rattle.review_words.specs.declared.faults.FileFault.TheVariants.{UnknownKey}
+use Rattle.review_words.specs.declared.reply.{Answer.Answer, Refusal.Refusal, Refusal.TheVariants.BadFile, Reply.Reply}
+use Rattle.review_words.specs.declared.reply.Reply.TheVariants.{Done, Refused, IdentityReused, EpochClosed, NotTaken}
+use Rattle.review_file_rules.specs.Inherited.{no_file}
+use Rattle.review_machine_rows.proofs.Epochs.{done_by}
+use Rattle.review_machine_rows.specs.Answer.{IsAnswer, IsAnswerBy, IsAnswerIn, IsAnswerWithoutParents, IsHistory, IsFaultAnswer, IsFileAnswer, puts_parent, refused_by}
+use Rattle.review_machine_rows.specs.{Changes.Reading, Changes.Reads, Changes.IsReadRight, Files.File, Files.IsRead}
+pub use Rattle.review_machine_rows.proofs.Epochs.{IsDoneBy}
+
+-- what is read, with the file of one text more
+abbrev reading_with : Reading → List ℕ → File → Reading
+reading_with reading text file t = cond (bytes_eq t text) file (reading t)
+
+read_with : (reading : Reading) (text : List ℕ) (file : File) → IsRead text file → (t : List ℕ) → (bytes_eq t text ≡ true) ⊎ IsRead t (reading t) → IsRead t (reading_with reading text file t)
+read_with reading text file is t either =
+    ⊎_elim
+    (λ (same : bytes_eq t text ≡ true).
+    subst (IsRead t) (sym (ap (λ b. cond b file (reading t)) same)) (subst (λ x. IsRead x file) (sym ((bytes_eq-Decides t text).0 same)) is))
+    (λ (other : bytes_eq t text ≡ false). subst (IsRead t) (sym (ap (λ b. cond b file (reading t)) other)) (⊎_elim (λ same. let e : true ≡ false = sym same ∙ other in absurd (cc)) (λ right. right) either))
+    (cases_Bool (bytes_eq t text))
+
+right_with : (reading : Reading) (text : List ℕ) (file : File) → IsRead text file → (c : Option Command) → IsReadRight reading c → IsReadRight (reading_with reading text file) c
+right_with reading text file is None right = tt
+right_with reading text file is (Some (CreateAccount name)) right = tt
+right_with reading text file is (Some (PutGroup group members)) right = tt
+right_with reading text file is (Some (PutProject project t)) right = read_with reading text file is t (inr right)
+right_with reading text file is (Some (RecordBase project branch commit)) right = tt
+right_with reading text file is (Some (CloseEpoch epoch)) right = tt
+right_with reading text file is (Some (CreateChange new)) right = tt
+right_with reading text file is (Some (OnChange n command)) right = tt
+right_with reading text file is (Some (Submit n)) right = tt
+
+reads_with : (reading : Reading) (text : List ℕ) (file : File) → IsRead text file → (h : List Entry) → Reads reading h → Reads (reading_with reading text file) h
+reads_with reading text file is [] reads = tt
+reads_with reading text file is (e ∷ h) reads = (right_with reading text file is (accepted e) reads.0, reads_with reading text file is h reads.1)
+
+-- an answer that is no refusal is given where no check refuses
+not_refused : {A : Type 0} (o : Option Refusal) (a : Answer) → MatchOption o A (λ r. Done a ≡ Refused r) → A
+not_refused None a outcome = outcome
+not_refused (Some r) a refused = absurd (cc)
+
+-- the file that an accepted PutProject puts
+put_file : (reading : Reading) (h : List Entry) (caller : ℕ) (project text : List ℕ) (a : Answer) → IsAnswerBy reading h caller (PutProject project text) (Done a) → (f : File) × IsRead text f
+put_file reading h caller project text a answer =
+    ⊎_elim (λ (fault : IsFaultAnswer text (Done a)). let e : Done a ≡ Refused (BadFile fault.0) = fault.2 in absurd (cc)) (λ (file : IsFileAnswer reading h project text (Done a)). (file.0, file.1))
+    (not_refused (refused_by reading h caller (PutProject project text)) a answer)
+
+-- a text with the key `parent` was never put in version 1
+not_done : (o : Option Refusal) (a : Answer) → MatchOption o (Done a ≡ Refused (BadFile UnknownKey)) (λ r. Done a ≡ Refused r) → ⊥
+not_done None a e = absurd (cc)
+not_done (Some r) a e = absurd (cc)
+
+done_whenever : (b : Bool) (h : List Entry) (caller epoch : ℕ) (command : Command) (a : Answer) → MatchBool b (IsAnswerWithoutParents h caller command (Done a)) (IsAnswer h caller epoch command (Done a)) → (reading : Reading) → Reads reading h →
+    IsAnswerBy reading h caller command (Done a)
+done_whenever true h caller epoch command a answer reading reads = absurd (not_done (refused_by reading h caller command) a (answer reading reads))
+done_whenever false h caller epoch command a answer reading reads = done_by reading h caller epoch command (Done a) (answer reading reads)
+
+done_in : (h : List Entry) (asking : Asking) (command : Command) (reply : Reply) → IsAnswerIn h asking command reply → (reading : Reading) → Reads reading h → IsDoneBy reading h asking.caller command reply
+done_in h asking command (Done a) answer reading reads = done_whenever (nat_lt asking.version 2 && puts_parent command) h asking.caller asking.epoch command a answer reading reads
+done_in h asking command (Refused r) answer reading reads = tt
+done_in h asking command IdentityReused answer reading reads = tt
+done_in h asking command EpochClosed answer reading reads = tt
+done_in h asking command (NotTaken cause) answer reading reads = tt
+
+pub done_of : (e : Entry) (h : List Entry) → IsHistory (e ∷ h) → (reading : Reading) → Reads reading h → IsDoneBy reading h e.identity.caller e.command e.reply
+done_of e h history reading reads = done_in h (asking_of e) e.command e.reply history.1 reading reads
+
+-- the reading of one entry more
+reading_of_one : (h : List Entry) (reading : Reading) → Reads reading h → (caller : ℕ) (command : Command) (reply : Reply) → IsDoneBy reading h caller command reply →
+    (more : Reading) × IsReadRight more (if_done reply command) × Reads more h
+reading_of_one h reading reads caller command (Refused r) answer = (reading, tt, reads)
+reading_of_one h reading reads caller command IdentityReused answer = (reading, tt, reads)
+reading_of_one h reading reads caller command EpochClosed answer = (reading, tt, reads)
+reading_of_one h reading reads caller command (NotTaken cause) answer = (reading, tt, reads)
+reading_of_one h reading reads caller (CreateAccount name) (Done a) answer = (reading, tt, reads)
+reading_of_one h reading reads caller (PutGroup group members) (Done a) answer = (reading, tt, reads)
+reading_of_one h reading reads caller (PutProject project text) (Done a) answer =
+    let put = put_file reading h caller project text a answer in
+    (reading_with reading text put.0, read_with reading text put.0 put.1 text (inl ((bytes_eq-Decides text text).1 refl)), reads_with reading text put.0 put.1 h reads)
+reading_of_one h reading reads caller (RecordBase project branch commit) (Done a) answer = (reading, tt, reads)
+reading_of_one h reading reads caller (CloseEpoch epoch) (Done a) answer = (reading, tt, reads)
+reading_of_one h reading reads caller (CreateChange new) (Done a) answer = (reading, tt, reads)
+reading_of_one h reading reads caller (OnChange n request) (Done a) answer = (reading, tt, reads)
+reading_of_one h reading reads caller (Submit n) (Done a) answer = (reading, tt, reads)
+
+-- each history has a reading
+pub reading_of : (h : List Entry) → IsHistory h → (reading : Reading) × Reads reading h
+reading_of [] history = (λ text. no_file, tt)
+reading_of (e ∷ h) history =
+    let before = reading_of h history.3 in
+    let now = reading_of_one h before.0 before.1 e.identity.caller e.command e.reply (done_of e h history before.0 before.1) in
+    (now.0, (now.1, now.2))
+
+-- a text that a command puts, or one from before
+put_before : (b : Bool) (given text : List ℕ) (before : Option (List ℕ)) → cond b (Some given) before ≡ Some text → ((b ≡ true) × (given ≡ text)) ⊎ (before ≡ Some text)
+put_before true given text before is = inl (refl, cc)
+put_before false given text before is = inr is
+
+read_by : (reading : Reading) (o : Option Command) (project text : List ℕ) (before : Option (List ℕ)) → IsReadRight reading o → (before ≡ Some text → IsRead text (reading text)) →
+    text_put o project before ≡ Some text → IsRead text (reading text)
+read_by reading None project text before right later is = later is
+read_by reading (Some (CreateAccount name)) project text before right later is = later is
+read_by reading (Some (PutGroup group members)) project text before right later is = later is
+read_by reading (Some (PutProject given put)) project text before right later is =
+    ⊎_elim
+    (λ (here : (bytes_eq given project ≡ true) × (put ≡ text)). subst (λ t. IsRead t (reading t)) here.1 right)
+    (λ (there : before ≡ Some text). later there)
+    (put_before (bytes_eq given project) put text before is)
+read_by reading (Some (RecordBase in_project branch commit)) project text before right later is = later is
+read_by reading (Some (CloseEpoch epoch)) project text before right later is = later is
+read_by reading (Some (CreateChange new)) project text before right later is = later is
+read_by reading (Some (OnChange n command)) project text before right later is = later is
+read_by reading (Some (Submit n)) project text before right later is = later is
+
+-- the text of a project's file is read right
+pub read_of : (reading : Reading) (h : List Entry) (project text : List ℕ) → Reads reading h → file_text h project ≡ Some text → IsRead text (reading text)
+read_of reading [] project text reads is = absurd (cc)
+read_of reading (e ∷ h) project text reads is = read_by reading (accepted e) project text (file_text h project) reads.0 (λ before. read_of reading h project text reads.1 before) is

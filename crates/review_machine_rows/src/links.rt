@@ -1,0 +1,64 @@
+//! A branch as rows know it, for the chains of its changes.
+ghost use Rattle.std.specs.Prelude.{◌≡◌, IfOk};
+
+use crate::rows::{Base, Rows};
+use review_chain::{Link, Links, Standing};
+use review_words::{BranchName, ChangeNo, CommitName, ProjectName};
+use std::alloc::{AllocError, Global};
+
+/// A branch, and what rows know of it: the changes for it, and what commits are to it.
+#[derive(Clone, Copy)]
+pub struct RowLinks<'a> {
+    pub rows: &'a Rows,
+    pub project: &'a ProjectName,
+    pub branch: &'a BranchName,
+}
+
+impl Links for RowLinks<'_> {
+    ghost use Rattle.review_machine_rows.specs.Links.{links_in};
+
+    ghost known = { λ l. links_in l.rows.now l.project.now l.branch.now };
+
+    fn link(&self, alloc: Global, change: ChangeNo) -> Result<Option<Link>, AllocError> {
+        let Some(rows) = self.rows.change(change) else {
+            return Ok(None);
+        };
+        let header = &rows.header;
+        if header.project != *self.project || header.branch != *self.branch {
+            return Ok(None);
+        }
+        let Some(patch) = rows.patches.last() else {
+            return Ok(None);
+        };
+        Ok(Some(Link {
+            patch: rows.patches.len(),
+            parent: patch.parent.copy(alloc)?,
+            state: header.state,
+            wip: header.wip,
+        }))
+    }
+
+    fn standing(&self, alloc: Global, commit: &CommitName) -> Result<Option<Standing>, AllocError> {
+        let base = base_of(alloc, self.project, self.branch, commit)?;
+        Ok(self.rows.standing(&base))
+    }
+}
+
+// A commit in a branch, by copies of the names.
+fn base_of(
+    alloc: Global,
+    project: &ProjectName,
+    branch: &BranchName,
+    commit: &CommitName,
+) -> Result<Base, AllocError>
+    ensures { IfOk result (λ base. base ≡ record { project = project.now; branch = branch.now; commit = commit.now }) }
+{
+    let project = project.copy(alloc)?;
+    let branch = branch.copy(alloc)?;
+    let commit = commit.copy(alloc)?;
+    Ok(Base {
+        project,
+        branch,
+        commit,
+    })
+}

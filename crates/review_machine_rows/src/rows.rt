@@ -1,0 +1,251 @@
+//! Typed rows, what may be asked of tables, and what is known of them.
+ghost use Rattle.std.specs.Prelude.{◌≡◌, IfOk};
+
+use review_chain::Standing;
+use review_core_rules::{AttentionEntry, ChangeRows, Comment, Header, PatchRow, Vote, VoteKey};
+use review_table::{Key, RowEdit, Table};
+use review_words::{
+    AccountName, AccountNo, Bases, BranchName, ChangeNo, CommentNo, CommitName, Epoch, FileText,
+    GroupName, JoinedChange, Listed, PatchNo, ProjectName, RequestId, Role,
+};
+use std::alloc::{AllocError, Global};
+
+/// The key of a row that makes an account a member of a group.
+#[derive(PartialEq, Eq, PartialOrd, Ord, Drop)]
+pub struct MemberKey {
+    pub group: GroupName,
+    pub account: AccountNo,
+}
+
+impl Key for MemberKey {
+    fn copy(&self, alloc: Global) -> Result<MemberKey, AllocError> {
+        let group = self.group.copy(alloc)?;
+        Ok(MemberKey {
+            group,
+            account: self.account,
+        })
+    }
+}
+
+/// A branch of a project.
+#[derive(PartialEq, Eq, PartialOrd, Ord, Drop)]
+pub struct BranchKey {
+    pub project: ProjectName,
+    pub branch: BranchName,
+}
+
+impl Key for BranchKey {
+    fn copy(&self, alloc: Global) -> Result<BranchKey, AllocError> {
+        let project = self.project.copy(alloc)?;
+        let branch = self.branch.copy(alloc)?;
+        Ok(BranchKey { project, branch })
+    }
+}
+
+/// A commit in a branch.
+#[derive(PartialEq, Eq, PartialOrd, Ord, Drop)]
+pub struct Base {
+    pub project: ProjectName,
+    pub branch: BranchName,
+    pub commit: CommitName,
+}
+
+impl Key for Base {
+    fn copy(&self, alloc: Global) -> Result<Base, AllocError> {
+        let project = self.project.copy(alloc)?;
+        let branch = self.branch.copy(alloc)?;
+        let commit = self.commit.copy(alloc)?;
+        Ok(Base {
+            project,
+            branch,
+            commit,
+        })
+    }
+}
+
+/// The text of a project's file, with the parent that it names.
+#[derive(Drop)]
+pub struct StoredFile {
+    pub text: FileText,
+    pub parent: Option<ProjectName>,
+}
+
+impl StoredFile {
+    /// The same file once more, with a text of its own. An error where there was no memory for it.
+    pub fn copy(&self, alloc: Global) -> Result<StoredFile, AllocError>
+        ensures { IfOk result (λ f. f ≡ self.now) }
+    {
+        let text = self.text.copy(alloc)?;
+        let parent = match &self.parent {
+            Some(name) => Some(name.copy(alloc)?),
+            None => None,
+        };
+        Ok(StoredFile { text, parent })
+    }
+}
+
+/// A place of a branch, which is counted from 1.
+#[derive(PartialEq, Eq, PartialOrd, Ord, Drop)]
+pub struct PlaceKey {
+    pub project: ProjectName,
+    pub branch: BranchName,
+    pub place: u64,
+}
+
+impl Key for PlaceKey {
+    fn copy(&self, alloc: Global) -> Result<PlaceKey, AllocError> {
+        let project = self.project.copy(alloc)?;
+        let branch = self.branch.copy(alloc)?;
+        Ok(PlaceKey {
+            project,
+            branch,
+            place: self.place,
+        })
+    }
+}
+
+/// A row that is put under its key, in place of the one that stands there, if any does.
+#[derive(Drop)]
+pub struct Put<K, V> {
+    pub key: K,
+    pub row: V,
+}
+
+/// What a request makes of a change, row by row: its header anew, and of its other rows those that are new, changed or gone.
+#[derive(Drop)]
+pub struct ChangeEdit {
+    pub change: ChangeNo,
+    pub header: Header,
+    pub patches: Vec<RowEdit<PatchNo, PatchRow>>,
+    pub votes: Vec<RowEdit<VoteKey, Vote>>,
+    pub roles: Vec<RowEdit<AccountNo, Role>>,
+    pub comments: Vec<RowEdit<CommentNo, Comment>>,
+    pub attention: Vec<RowEdit<AccountNo, AttentionEntry>>,
+}
+
+/// What is counted of a desk, up to a limit.
+#[derive(PartialEq, Eq, Drop)]
+pub enum Counted {
+    /// The projects: at most 1,000.
+    Projects,
+    /// The bases of a project, over all its branches: at most 100,000.
+    BasesOf(ProjectName),
+}
+
+/// One look-up. Each is by a full key or by the front of one, but for the greatest numbers, for the least open epoch and for whether a count has
+/// reached its limit, of which a shelf may know more than its rows: none needs a walk over a table.
+#[derive(Drop)]
+pub enum Want {
+    /// How many requests were ever stored, those that were given up among them.
+    Requests,
+    /// The account of a number.
+    Account(AccountNo),
+    /// The account of a name.
+    AccountNamed(AccountName),
+    /// The greatest number of an account.
+    LastAccount,
+    /// Whether an account is a member of a group.
+    Member(MemberKey),
+    /// All members of a group.
+    Group(GroupName),
+    /// The file that a project has of its own, with the parent that it names.
+    File(ProjectName),
+    /// Whether a project is there, without its file.
+    Project(ProjectName),
+    /// Whether there may be one more.
+    Room(Counted),
+    /// Whether a commit is a base of a branch.
+    Base(Base),
+    /// The last place of a branch's bases.
+    LastPlace(BranchKey),
+    /// The bases of a branch.
+    Bases(BranchKey),
+    /// A change with all its rows.
+    Change(ChangeNo),
+    /// The change for a branch that has a patch set of a commit.
+    ChangeOf(Base),
+    /// The greatest number of a change.
+    LastChange,
+    /// The last place that a change joined a branch at.
+    LastJoined(BranchKey),
+    /// What a commit is to a branch.
+    Standing(Base),
+    /// The changes that joined a branch.
+    Joined(BranchKey),
+    /// The least open epoch.
+    LeastEpoch,
+}
+
+/// What a load asks for.
+#[derive(Drop)]
+pub struct Need {
+    pub wants: Vec<Want>,
+}
+
+/// What is known of the tables: of each look-up that was made, what it found. Of others nothing is known.
+#[derive(Drop)]
+pub struct Rows {
+    pub requests: Option<u64>,
+    pub accounts: Table<AccountNo, Option<AccountName>>,
+    pub named: Table<AccountName, Option<AccountNo>>,
+    /// The greatest number of an account; 0 where there is none.
+    pub last_account: Option<u32>,
+    pub members: Table<MemberKey, bool>,
+    pub groups: Table<GroupName, Table<AccountNo, ()>>,
+    pub files: Table<ProjectName, Option<StoredFile>>,
+    pub projects: Table<ProjectName, bool>,
+    pub room_for_projects: Option<bool>,
+    pub room_for_bases: Table<ProjectName, bool>,
+    pub known_bases: Table<Base, bool>,
+    /// The last place of each branch; 0 where it has no base.
+    pub last_places: Table<BranchKey, u64>,
+    pub bases: Table<BranchKey, Bases>,
+    pub changes: Table<ChangeNo, Option<ChangeRows>>,
+    pub senders: Table<Base, Option<ChangeNo>>,
+    /// The greatest number of a change; 0 where there is none.
+    pub last_change: Option<u32>,
+    /// The last place that a change joined a branch at; 0 where none did.
+    pub last_joined: Table<BranchKey, u32>,
+    pub standings: Table<Base, Standing>,
+    /// The changes that joined a branch, in the order of their places.
+    pub joined: Table<BranchKey, Listed<JoinedChange>>,
+    /// The least open epoch.
+    pub least_epoch: Option<u32>,
+}
+
+/// What a request changes: for each account and member that it names a new row, or none; the file of a project and the base at a place
+/// of a branch, neither of which is ever taken away; the rows of changes; and the least open epoch, with which the kept answers of lower epochs
+/// are given up.
+#[derive(Drop)]
+pub struct Delta {
+    pub accounts: Vec<RowEdit<AccountNo, AccountName>>,
+    pub members: Vec<RowEdit<MemberKey, ()>>,
+    pub file: Option<Put<ProjectName, StoredFile>>,
+    pub base: Option<Put<PlaceKey, CommitName>>,
+    pub changes: Vec<ChangeEdit>,
+    /// The least open epoch from now on.
+    pub least_epoch: Option<Epoch>,
+}
+
+/// A stored request, with the texts of its command and its reply.
+#[derive(Drop)]
+pub struct Kept {
+    pub caller: AccountNo,
+    pub epoch: Epoch,
+    pub id: RequestId,
+    /// Its number among the stored requests, from 1.
+    pub request: u64,
+    pub content: String,
+    pub reply: String,
+}
+
+/// What is known of the identity of a request.
+#[derive(Drop)]
+pub enum Recalled {
+    /// Its epoch is open, and the request is stored.
+    Kept(Kept),
+    /// Its epoch is open, and no request is stored under it.
+    Fresh,
+    /// Its epoch is closed.
+    Closed,
+}

@@ -1,0 +1,10 @@
+pub mod Shown
+pub mod Loaded
+pub mod Standing
+pub mod Answered
+pub mod Listed
+pub mod Members
+pub mod Once
+pub mod Told
+pub mod Turned
+pub mod Decided

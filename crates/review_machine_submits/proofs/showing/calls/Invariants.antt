@@ -1,0 +1,6 @@
+use Rattle.std.{proofs.Common.◌≡◌, proofs.Common.◌++◌, proofs.Common.drop, proofs.Common.map, specs.Map.Iter.deref_pair}
+use Rattle.review_core_rules.specs.Shown.{shown_attention_entry}
+use Rattle.review_machine_submits.proofs.showing.calls.Given as goal
+
+abbrev pub invariant-loop-account : goal.invariant-loop-account
+invariant-loop-account l = l.shown.items ++ map shown_attention_entry (map deref_pair (drop l.account-index l.rows)) ≡ map shown_attention_entry (map deref_pair l.rows)

@@ -1,0 +1,108 @@
+-- What is given up of lower epochs.
+use Rattle.std.proofs.Common.{◌≡◌, ℕ, Bool, true, false, cond, ◌||◌, List, Option, Some, None, refl, sym, ap, ◌∙◌, subst, ⊎_elim}
+use Rattle.std.proofs.lemmas.{Bool.cases_Bool, List.Folds.list_any-append, Map.Views.tells_apart}
+use Rattle.std.specs.{BTreeMap.is_at, Prelude.nat_lt, Prelude.option_map, Prelude.unwrap_or}
+use Rattle.review_table.specs.Rows.{HasNoEmptyPlace, row_in, rows_of}
+use Rattle.review_words.specs.History.{Identity, is_same}
+use Rattle.review_machine_rows.specs.Rows.{Key, AccountKey, MemberKey, FileKey, BaseKey, PartKey, OddKey, Row, Count, Projects, BasesOf, ClosedEpochs, Stored, Answered, after, count_after, is_below, kept_row}
+use Rattle.review_machine_rows.specs.{Shelf.IsCommitted, declared.rows.Delta.Delta, declared.rows.Kept.Kept}
+use Rattle.review_memory_rows.proofs.Dropped.{among_lower, among_own, not_lower, not_own, or_parts}
+use Rattle.review_memory_rows.proofs.Orders.{at_answer, exact_answer}
+use Rattle.review_memory_rows.specs.Answers.{answer_cmp, key_of, is_among, if_lower, lower, lower_of}
+use Rattle.review_memory_rows.specs.declared.answer_keys.{AnswerKey.AnswerKey, StoredAnswer.StoredAnswer}
+use Rattle.review_memory.specs.Desk.{desk_of, tables_of, row_of, count_of, answer_of, stored_row, beside_epoch, with_answers, IsSound}
+use Rattle.review_memory.specs.declared.tables.MemoryTables.{MemoryTables}
+
+-- no row has a lower epoch where its key is none of those
+no_row : (least : ℕ) (rows : List (AnswerKey × StoredAnswer)) (i : Identity) → nat_lt i.epoch least ≡ true → is_among (lower least rows) (key_of i) ≡ false → answer_of rows i ≡ None
+no_row least rows i below none = at (row_in answer_cmp rows (key_of i)) refl
+  where
+    at : (o : Option StoredAnswer) → row_in answer_cmp rows (key_of i) ≡ o → answer_of rows i ≡ None
+    at None there = ap (λ r. option_map Answered (stored_row i r)) there
+    at (Some v) there = absurd (let t = among_lower least rows (key_of i) v below there in cc)
+
+-- nor has the request that is stored
+not_kept : (least : ℕ) (kept i : Identity) → nat_lt i.epoch least ≡ true → is_among (if_lower least (key_of kept)) (key_of i) ≡ false → is_same kept i ≡ false
+not_kept least kept i below none =
+    ⊎_elim
+    (λ (t : is_same kept i ≡ true).
+    absurd (let e = among_own least (key_of kept) (key_of i) (tells_apart exact_answer (key_of kept) (key_of i) (at_answer (key_of kept) (key_of i) ∙ t)) below in cc))
+    (λ (f : is_same kept i ≡ false). f)
+    (cases_Bool (is_same kept i))
+
+-- what is kept of an identity, once these keys are dropped
+given_up : (o : Option ℕ) (rows : List (AnswerKey × StoredAnswer)) (kept i : Identity) (x : Stored) (mid : Option StoredAnswer) →
+    option_map Answered (stored_row i mid) ≡ cond (is_same kept i) (Some x) (answer_of rows i) →
+    option_map Answered (stored_row i (cond (is_among (lower_of o rows (key_of kept)) (key_of i)) None mid)) ≡ cond (is_below o i.epoch) None (cond (is_same kept i) (Some x) (answer_of rows i))
+given_up None rows kept i x mid is = is
+given_up (Some least) rows kept i x mid is =
+    ⊎_elim
+    (λ (below : nat_lt i.epoch least ≡ true).
+    at below (is_among (lower_of (Some least) rows (key_of kept)) (key_of i)) refl ∙ sym (ap (λ b. cond b None (cond (is_same kept i) (Some x) (answer_of rows i))) below))
+    (λ (above : nat_lt i.epoch least ≡ false).
+    ap (λ b. option_map Answered (stored_row i (cond b None mid))) (split ∙ (λ j. not_lower least rows (key_of i) above j || not_own least (key_of kept) (key_of i) above j))
+    ∙ (is ∙ sym (ap (λ b. cond b None (cond (is_same kept i) (Some x) (answer_of rows i))) above)))
+    (cases_Bool (nat_lt i.epoch least))
+  where
+    split : is_among (lower_of (Some least) rows (key_of kept)) (key_of i) ≡ (is_among (lower least rows) (key_of i) || is_among (if_lower least (key_of kept)) (key_of i))
+    split = list_any-append (λ y. is_at (answer_cmp y) (key_of i)) (lower least rows) (if_lower least (key_of kept))
+
+    at : nat_lt i.epoch least ≡ true → (b : Bool) → is_among (lower_of (Some least) rows (key_of kept)) (key_of i) ≡ b → option_map Answered (stored_row i (cond b None mid)) ≡ None
+    at below true among = refl
+    at below false none =
+        let parts = or_parts (is_among (lower least rows) (key_of i)) (is_among (if_lower least (key_of kept)) (key_of i)) (sym split ∙ none) in
+        is ∙ (ap (λ c. cond c (Some x) (answer_of rows i)) (not_kept least kept i below parts.1) ∙ no_row least rows i below parts.0)
+
+-- the rows and counts beside what is stored of requests
+rows_beside : (t : MemoryTables) (answers : List (AnswerKey × Option StoredAnswer)) (least : ℕ) (k : Key) → row_of (desk_of (with_answers t answers least)) k ≡ row_of (desk_of t) k
+rows_beside t answers least (AccountKey number) = refl
+rows_beside t answers least (MemberKey group account) = refl
+rows_beside t answers least (FileKey project) = refl
+rows_beside t answers least (BaseKey project branch place) = refl
+rows_beside t answers least (PartKey n part) = refl
+rows_beside t answers least (OddKey o) = refl
+
+after_beside : (delta : Delta) (k : Key) (was : Option Row) → after (beside_epoch delta) k was ≡ after delta k was
+after_beside delta (AccountKey number) was = refl
+after_beside delta (MemberKey group account) was = refl
+after_beside delta (FileKey project) was = refl
+after_beside delta (BaseKey project branch place) was = refl
+after_beside delta (PartKey n part) was = refl
+after_beside delta (OddKey o) was = refl
+
+-- a delta is applied, once it is so but for its epoch and what is lower is given up
+pub all_committed : (delta : Delta) (kept : Kept) (keys : List AnswerKey) (old mid new : MemoryTables) → keys ≡ lower_of delta.least_epoch (rows_of old.answers) (key_of (kept_row kept).identity) →
+    IsCommitted (tables_of (desk_of old)) (beside_epoch delta) (kept_row kept) (tables_of (desk_of mid)) → new ≡ with_answers mid new.answers (unwrap_or delta.least_epoch mid.least) →
+    ((q : AnswerKey) → row_in answer_cmp (rows_of new.answers) q ≡ cond (is_among keys q) None (row_in answer_cmp (rows_of mid.answers) q)) →
+    IsCommitted (tables_of (desk_of old)) delta (kept_row kept) (tables_of (desk_of new))
+all_committed delta kept keys old mid new are c rest dropped = record {
+  row_is = λ k. ap (λ (t : MemoryTables). row_of (desk_of t) k) rest ∙ rows_beside mid new.answers (unwrap_or delta.least_epoch mid.least) k ∙ c.row_is k ∙ after_beside delta k (row_of (desk_of old) k);
+  count_is = counts;
+  answer_is = λ i.
+      ap (λ r. option_map Answered (stored_row i r)) (dropped (key_of i) ∙ ap (λ ks. cond (is_among ks (key_of i)) None (row_in answer_cmp (rows_of mid.answers) (key_of i))) are)
+      ∙ given_up delta.least_epoch (rows_of old.answers) (kept_row kept).identity i (Answered (kept_row kept)) (row_in answer_cmp (rows_of mid.answers) (key_of i)) (c.answer_is i);
+  version = refl;
+  requests = ap (λ (t : MemoryTables). t.requests) rest ∙ c.requests;
+}
+  where
+    counts : (n : Count) → count_of (desk_of new) n ≡ count_after delta (row_of (desk_of old)) n (count_of (desk_of old) n)
+    counts Projects = ap (λ (t : MemoryTables). t.projects) rest ∙ c.count_is Projects
+    counts (BasesOf project) = ap (λ (t : MemoryTables). count_of (desk_of t) (BasesOf project)) rest ∙ c.count_is (BasesOf project)
+    counts ClosedEpochs = ap (λ (t : MemoryTables). t.least) rest ∙ ap (unwrap_or delta.least_epoch) (c.count_is ClosedEpochs)
+
+-- what held of the tables holds without what was given up
+pub sound_beside : (old : MemoryTables) (new : MemoryTables) (least : ℕ) → new ≡ with_answers old new.answers least → (HasNoEmptyPlace answer_cmp old.answers → HasNoEmptyPlace answer_cmp new.answers) → IsSound old → IsSound new
+sound_beside old new least rest filled sound = subst IsSound (sym rest) (record {
+  indexed = sound.indexed;
+  in_use = sound.in_use;
+  numbered = sound.numbered;
+  bounded = record { projects = sound.bounded.projects; bases = sound.bounded.bases };
+  filled = record {
+    accounts = sound.filled.accounts;
+    names = sound.filled.names;
+    members = sound.filled.members;
+    files = sound.filled.files;
+    changes = sound.filled.changes;
+    answers = filled sound.filled.answers;
+  };
+})

@@ -1,0 +1,15 @@
+use Rattle.std.proofs.Common.{ap, sym, subst, ◌<◌, inr}
+use Rattle.std.specs.{Cmp.nat_cmp_is, Option.option_map, Option.IsSome, Ordering.nat_cmp}
+use Rattle.std.specs.declared.cmp.Ordering.TheVariants.{Less}
+use Rattle.review_table.specs.Rows.{row_in, rows_of}
+use Rattle.review_machine_rows.specs.Rows.{AccountRow}
+use Rattle.review_memory.proofs.Picked.{some_mapped}
+use Rattle.review_memory.proofs.tables.MemoryTables.last_account.Goals as goal
+
+pub returns-in-Some : goal.returns-in-Some
+returns-in-Some c =
+    let rows = rows_of c.args.self.now.accounts in
+    record {
+      above = λ n less. ap (option_map AccountRow) (c.in-Some.ensures.above n (sym (nat_cmp_is c.in-Some.number.now n Less (subst (λ m. m < n) c.get.ensures.value less))));
+      there = inr (some_mapped AccountRow (row_in nat_cmp rows c.get.result) (subst (λ m. IsSome (row_in nat_cmp rows m)) (sym c.get.ensures.value) c.in-Some.ensures.there));
+    }

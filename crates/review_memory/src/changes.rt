@@ -1,0 +1,174 @@
+//! What a delta and its request change in tables in memory, in copies of their own.
+ghost use Rattle.std.specs.{List.All, Prelude.◌≡◌, Prelude.IfOk, Prelude.OnOk};
+ghost use Rattle.review_table.specs.Rows.{rows_of};
+ghost use Rattle.review_memory_rows.specs.Kept.{ArePrepared};
+ghost use Rattle.review_memory.specs.Desk.{IsNumber, IsHeld, IsGiven, IsNameOf, AreChangesOf, PutsAnswer, file_changes};
+
+use crate::keys::NameKey;
+use review_machine_rows::{Delta, Kept, MemberKey, Put, StoredFile};
+use review_memory_rows::{AnswerKey, KeptChanges, Prepared, StoredAnswer};
+use review_table::{Key, RowEdit, Table};
+use review_words::{AccountName, AccountNo, ProjectName};
+use std::alloc::{AllocError, Global};
+
+/// The changes of a delta but for the base of a branch.
+#[derive(Drop)]
+pub struct Changes {
+    pub accounts: Vec<RowEdit<AccountNo, AccountName>>,
+    pub members: Vec<RowEdit<MemberKey, ()>>,
+    pub files: Vec<RowEdit<ProjectName, StoredFile>>,
+    pub edits: Prepared,
+}
+
+impl Changes {
+    /// Those of a delta, where these are the changes before it.
+    pub fn new(alloc: Global, delta: &Delta, changes: &KeptChanges) -> Result<Changes, AllocError>
+        ensures copied { IfOk result (AreChangesOf delta.now) }
+        ensures edits { IfOk result (λ c. ArePrepared (rows_of changes.now.kept) delta.now.changes.items c.edits) }
+    {
+        let accounts = copied_accounts(alloc, &delta.accounts)?;
+        let members = copied_members(alloc, &delta.members)?;
+        let files = copied_file(alloc, &delta.file)?;
+        let edits = changes.prepare(alloc, &delta.changes)?;
+        Ok(Changes {
+            accounts,
+            members,
+            files,
+            edits,
+        })
+    }
+}
+
+fn copied_accounts(
+    alloc: Global,
+    changes: &[RowEdit<AccountNo, AccountName>],
+) -> Result<Vec<RowEdit<AccountNo, AccountName>>, AllocError>
+    ensures copied { IfOk result (λ copies. copies.items ≡ changes.now) }
+{
+    let mut copies = Vec::new(alloc);
+    for change in changes {
+        copies.push(copied_account(alloc, change)?)?;
+    }
+    Ok(copies)
+}
+
+fn copied_account(
+    alloc: Global,
+    change: &RowEdit<AccountNo, AccountName>,
+) -> Result<RowEdit<AccountNo, AccountName>, AllocError>
+    ensures { IfOk result (λ copy. copy ≡ change.now) }
+{
+    let row = match &change.row {
+        Some(name) => Some(name.copy(alloc)?),
+        None => None,
+    };
+    Ok(RowEdit {
+        key: change.key,
+        row,
+    })
+}
+
+fn copied_members(
+    alloc: Global,
+    changes: &[RowEdit<MemberKey, ()>],
+) -> Result<Vec<RowEdit<MemberKey, ()>>, AllocError>
+    ensures copied { IfOk result (λ copies. copies.items ≡ changes.now) }
+    ensures numbered { OnOk result (All (λ c. IsNumber c.key.account) changes.now) }
+{
+    let mut copies = Vec::new(alloc);
+    for change in changes {
+        copies.push(copied_member(alloc, change)?)?;
+    }
+    Ok(copies)
+}
+
+fn copied_member(
+    alloc: Global,
+    change: &RowEdit<MemberKey, ()>,
+) -> Result<RowEdit<MemberKey, ()>, AllocError>
+    ensures copied { IfOk result (λ copy. copy ≡ change.now) }
+    ensures numbered { IsNumber change.now.key.account }
+{
+    // A range over a group finds the member, since it is an account by its number.
+    let _ = change.key.account.get();
+    Ok(RowEdit {
+        key: change.key.copy(alloc)?,
+        row: change.row,
+    })
+}
+
+fn copied_file(
+    alloc: Global,
+    file: &Option<Put<ProjectName, StoredFile>>,
+) -> Result<Vec<RowEdit<ProjectName, StoredFile>>, AllocError>
+    ensures { IfOk result (λ v. v.items ≡ file_changes file.now) }
+{
+    match file {
+        Some(put) => Ok(vec![in alloc;
+            RowEdit {
+                key: put.key.copy(alloc)?,
+                row: Some(put.row.copy(alloc)?),
+            },
+        ]?),
+        None => Ok(Vec::new(alloc)),
+    }
+}
+
+/// The answer of a stored request, under its identity.
+pub fn stored(alloc: Global, kept: &Kept) -> Result<Put<AnswerKey, StoredAnswer>, AllocError>
+    ensures { IfOk result (PutsAnswer kept.now) }
+{
+    let key = AnswerKey {
+        epoch: kept.epoch,
+        caller: kept.caller,
+        id: kept.id.copy(alloc)?,
+    };
+    let row = StoredAnswer {
+        request: kept.request,
+        content: kept.content.clone()?,
+        reply: kept.reply.clone()?,
+    };
+    Ok(Put { key, row })
+}
+
+/// The names that accounts have before they change, each with its account.
+pub fn names_held(
+    alloc: Global,
+    accounts: &Table<AccountNo, AccountName>,
+    changes: &[RowEdit<AccountNo, AccountName>],
+) -> Result<Vec<NameKey>, AllocError>
+    ensures { IfOk result (λ names. All (IsHeld (rows_of accounts.now) names.items) changes.now) }
+{
+    let mut names = Vec::new(alloc);
+    for change in changes {
+        if let Some(name) = accounts.get(&change.key) {
+            names.push(NameKey {
+                name: name.copy(alloc)?,
+                account: change.key,
+            })?;
+        }
+    }
+    Ok(names)
+}
+
+/// The names that accounts get, each with its account.
+pub fn names_given(
+    alloc: Global,
+    changes: &[RowEdit<AccountNo, AccountName>],
+) -> Result<Vec<NameKey>, AllocError>
+    ensures all { IfOk result (λ names. All (IsGiven names.items) changes.now) }
+    ensures only { IfOk result (λ names. All (IsNameOf changes.now) names.items) }
+{
+    let mut names = Vec::new(alloc);
+    for change in changes {
+        // A range over a name finds the account by its number.
+        let _ = change.key.get();
+        if let Some(name) = &change.row {
+            names.push(NameKey {
+                name: name.copy(alloc)?,
+                account: change.key,
+            })?;
+        }
+    }
+    Ok(names)
+}

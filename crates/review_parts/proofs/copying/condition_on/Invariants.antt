@@ -1,5 +1,0 @@
-use Rattle.std.{proofs.Common.◌≡◌, proofs.Common.drop, specs.Prelude.find, specs.Str.bytes_eq}
-use Rattle.review_parts.proofs.copying.condition_on.Given as goal
-
-abbrev pub invariant-loop-condition : goal.invariant-loop-condition
-invariant-loop-condition l = find (λ c. bytes_eq c.label.now.name l.name) (drop l.condition-index l.list) ≡ find (λ c. bytes_eq c.label.now.name l.name) l.list

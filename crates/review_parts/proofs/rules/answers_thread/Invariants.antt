@@ -1,6 +1,0 @@
-use Rattle.std.proofs.Common.{◌≡◌, drop}
-use Rattle.review_changes.specs.Change.{answers_thread}
-use Rattle.review_parts.proofs.rules.answers_thread.Given as goal
-
-abbrev pub invariant-loop-comment : goal.invariant-loop-comment
-invariant-loop-comment l = answers_thread l.stored (drop l.comment-index l.new) l.root ≡ answers_thread l.stored l.new l.root

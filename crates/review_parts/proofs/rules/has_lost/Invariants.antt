@@ -1,6 +1,0 @@
-use Rattle.std.proofs.Common.{◌≡◌, drop}
-use Rattle.review_parts.specs.Copies.{has_lost}
-use Rattle.review_parts.proofs.rules.has_lost.Given as goal
-
-abbrev pub invariant-loop-key : goal.invariant-loop-key
-invariant-loop-key l = has_lost (drop l.key-index l.lost) l.account l.label ≡ has_lost l.lost l.account l.label

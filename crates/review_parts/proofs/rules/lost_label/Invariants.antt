@@ -1,6 +1,0 @@
-use Rattle.std.proofs.Common.{◌≡◌, drop}
-use Rattle.review_parts.specs.Copies.{lost_label}
-use Rattle.review_parts.proofs.rules.lost_label.Given as goal
-
-abbrev pub invariant-loop-label : goal.invariant-loop-label
-invariant-loop-label l = lost_label (drop l.label-index l.labels) l.lost l.account ≡ lost_label l.labels l.lost l.account

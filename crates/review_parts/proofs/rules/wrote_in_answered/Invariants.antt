@@ -1,8 +1,0 @@
-use Rattle.std.{proofs.Common.◌≡◌, proofs.Common.◌&&◌, proofs.Common.◌==◌, proofs.Common.drop, specs.List.list_any}
-use Rattle.review_changes.specs.Change.{answers_thread}
-use Rattle.review_parts.proofs.rules.wrote_in_answered.Given as goal
-
-abbrev pub invariant-loop-post : goal.invariant-loop-post
-invariant-loop-post l =
-    list_any (λ x. (x.author == l.account) && answers_thread l.stored l.new x.root) (drop l.post-index l.stored)
-    ≡ list_any (λ x. (x.author == l.account) && answers_thread l.stored l.new x.root) l.stored

@@ -1,7 +1,0 @@
-use Rattle.std.proofs.Common.{◌≡◌, ℕ, List, drop}
-use Rattle.review_changes.specs.Seen.{vote_in}
-use Rattle.review_parts.specs.Tables.{given_at}
-use Rattle.review_parts.proofs.votes.give.Given as goal
-
-abbrev pub invariant-loop-given : goal.invariant-loop-given
-invariant-loop-given l = (n : ℕ) (name : List ℕ) (a : ℕ) → given_at l.patch l.account (drop l.given-index l.labels) n name a (vote_in l.votes n name a) ≡ given_at l.patch l.account l.labels n name a (vote_in l.fn.votes n name a)

@@ -1,8 +1,0 @@
--- The table of paths, computed.
-use Rattle.std.proofs.Common.{refl}
-use Rattle.matchit.specs.Route.{scan}
-use Rattle.review_paths.specs.{Laws.HoldsEachPath, Table.table, Table.with_path}
-
-pub whole : HoldsEachPath
-unfolding table with_path scan
-whole = refl

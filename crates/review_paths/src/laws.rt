@@ -1,7 +1,0 @@
-//! Laws of the table of paths.
-ghost use Rattle.review_paths.specs.Laws.{HoldsEachPath};
-
-/// The table has a row for each path: none is left out, since each is one that the router reads.
-pub fn table_holds_each_path()
-    ensures { HoldsEachPath }
-{}

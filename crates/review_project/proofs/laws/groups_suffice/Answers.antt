@@ -1,8 +1,0 @@
-use Rattle.review_project.proofs.Alike.{vote_alike, change_alike}
-use Rattle.review_project.proofs.laws.groups_suffice.Goals as goal
-
-pub returns-clause-vote : goal.returns-clause-vote
-returns-clause-vote c = vote_alike
-
-pub returns-clause-change : goal.returns-clause-change
-returns-clause-change c = change_alike

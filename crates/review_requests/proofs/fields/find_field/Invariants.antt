@@ -1,9 +1,0 @@
-use Rattle.std.proofs.Common.{◌≡◌, map, drop}
-use Rattle.httparse.specs.Spans.{header_bytes}
-use Rattle.review_requests.specs.{Fields.occurs_from, Fields.absent, Seen.seen}
-use Rattle.review_requests.proofs.fields.find_field.Given as goal
-
-abbrev pub invariant-loop-header : goal.invariant-loop-header
-invariant-loop-header l =
-    occurs_from (seen l.found) l.name (map (header_bytes l.buf) (drop l.header-index l.headers))
-    ≡ occurs_from absent l.name (map (header_bytes l.buf) l.headers)

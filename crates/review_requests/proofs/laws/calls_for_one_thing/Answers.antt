@@ -1,5 +1,0 @@
-use Rattle.review_requests.proofs.One.{one}
-use Rattle.review_requests.proofs.laws.calls_for_one_thing.Goals as goal
-
-pub returns : goal.returns
-returns c = λ bytes ended o p x y. one bytes ended o p x y

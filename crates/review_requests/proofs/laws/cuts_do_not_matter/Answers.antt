@@ -1,5 +1,0 @@
-use Rattle.review_requests.proofs.Longer.{whole}
-use Rattle.review_requests.proofs.laws.cuts_do_not_matter.Goals as goal
-
-pub returns : goal.returns
-returns c = λ input bytes left ended o g h. whole input bytes left ended o g h

@@ -1,7 +1,0 @@
-use Rattle.std.{proofs.Common.◌≡◌, proofs.Common.◌++◌, proofs.Common.drop, specs.Prelude.option_map}
-use Rattle.serde_json.specs.View.{items_view}
-use Rattle.review_routes.specs.Parts.{paths_in}
-use Rattle.review_routes.proofs.changes.paths_in.Given as goal
-
-abbrev pub invariant-loop-value : goal.invariant-loop-value
-invariant-loop-value l = option_map (λ more. l.paths.items ++ more) (paths_in (items_view (drop l.value-index l.list.items))) ≡ paths_in (items_view l.list.items)

@@ -1,7 +1,0 @@
-use Rattle.std.proofs.Common.{◌≡◌, ◌++◌, drop}
-use Rattle.std.specs.Prelude.{flat_map, string_bytes}
-use Rattle.review_showing.specs.Pages.{vote_line}
-use Rattle.review_showing.proofs.pages.push_votes.Given as goal
-
-abbrev pub invariant-loop-vote : goal.invariant-loop-vote
-invariant-loop-vote l = string_bytes l.text ++ flat_map vote_line (drop l.vote-index l.votes) ≡ string_bytes l.fn.text ++ flat_map vote_line l.votes

@@ -1,5 +1,0 @@
-pub mod Cuts
-pub mod Values
-pub mod Labels
-pub mod Readings
-pub mod Words

@@ -1,0 +1,103 @@
+//! Whether a commit is a base of a branch.
+ghost use Rattle.std.specs.Prelude.{◌≡◌, true, false, Some, None, IfOk};
+ghost use Rattle.sqlite.specs.Held.{state};
+ghost use Rattle.sqlite_trees.specs.Tree.{Trees};
+ghost use Rattle.review_sql_tables.specs.{Greatest.HasOne, Ran.Looks, Search.row_at};
+ghost use Rattle.review_machine_rows.specs.Known.{IsBaseOrNot};
+ghost use Rattle.review_sql_records.specs.Forms.{base_commits, bases};
+ghost use Rattle.review_sql_lookups.specs.{Loads.HasLearnt, Loads.IfTold, Loads.Sees, Tables.tables_at};
+ghost use Rattle.review_machine_rows.specs.declared.rows.Want.TheVariants as want;
+
+use review_machine_rows::{Base, PlaceKey, Rows};
+use review_sql_lookups::Sight;
+use review_sql_lookups::learning::{learn_base, learnt};
+use review_sql_records::bases::{BaseCommits, Bases};
+use review_sql_tables::reads::{find, find_any};
+use review_words::CommitName;
+use sqlite::{Alter, Error, Transaction};
+use std::alloc::{AllocError, Global};
+
+// Whether a commit stands at a place.
+fn stands(found: &Option<Option<CommitName>>, commit: &CommitName) -> bool
+    ensures is { result ≡ true → found.now ≡ Some (Some commit.now) }
+    ensures other { result ≡ false → found.now ≡ Some (Some commit.now) → ⊥ }
+{
+    match found {
+        Some(Some(other)) => other.as_str() == commit.as_str(),
+        _ => false,
+    }
+}
+
+fn stands_at(base: &Base, place: u64, found: Option<Option<CommitName>>) -> Option<bool>
+    ensures { (db : Trees) → HasOne base_commits base.now db (Some (Some place)) → found ≡ row_at bases db (record { project = base.now.project; branch = base.now.branch; place = place }) → IfTold db (IsBaseOrNot (tables_at db).row base.now) result }
+{
+    let _place = place;
+    if stands(&found, &base.commit) {
+        return Some(true);
+    }
+    None
+}
+
+fn stands_nowhere(base: &Base) -> Option<bool>
+    ensures { (db : Trees) → HasOne base_commits base.now db None → IfTold db (IsBaseOrNot (tables_at db).row base.now) result }
+{
+    let _base = base;
+    Some(false)
+}
+
+fn place_key(alloc: Global, base: &Base, place: u64) -> Result<PlaceKey, AllocError>
+    ensures { IfOk result (λ k. k ≡ record { project = base.now.project; branch = base.now.branch; place = place }) }
+{
+    Ok(PlaceKey {
+        project: base.project.copy(alloc)?,
+        branch: base.branch.copy(alloc)?,
+        place,
+    })
+}
+
+/// Whether a commit is a base of a branch; none where the tables are those of no history. The commit is looked up first, and then the place that it has.
+pub fn is_base<S: Alter>(
+    tx: &mut Transaction<'_, S>,
+    alloc: Global,
+    base: &Base,
+) -> Result<Option<bool>, Error>
+    ensures same_reference { tx.new.conn.ghost_name ≡ tx.old.conn.ghost_name }
+    ensures looks { Looks (λ db is. IfTold db (IsBaseOrNot (tables_at db).row base.now) is) (state S.Store tx.old.conn.now) (state S.Store tx.new.conn.now) result }
+{
+    let found = find_any::<BaseCommits, S>(tx, alloc, base)?;
+    match found {
+        Some(Some(place)) => {
+            let key = place_key(alloc, base, place)?;
+            let stored = find::<Bases, S>(tx, alloc, &key)?;
+            Ok(stands_at(base, place, stored))
+        }
+        Some(None) => Ok(None),
+        None => Ok(stands_nowhere(base)),
+    }
+}
+
+#[tactic(auto, using(review_sql_lookups::proofs::Telling::has_learnt))]
+fn tell_base(alloc: Global, base: &Base, is: Option<bool>, rows: &mut Rows) -> Sight
+    ensures told { (db : Trees) → IfTold db (IsBaseOrNot (tables_at db).row base.now) is → Sees (want.Base base.now) rows.old rows.new db result }
+    ensures learnt { result ≡ Sight.Learnt → HasLearnt (want.Base base.now) rows.old rows.new }
+{
+    match is {
+        Some(is) => learnt(learn_base(alloc, base, is, rows)),
+        None => Sight::Damaged,
+    }
+}
+
+/// Whether a commit is a base of a branch.
+pub fn find_base<S: Alter>(
+    tx: &mut Transaction<'_, S>,
+    alloc: Global,
+    base: &Base,
+    rows: &mut Rows,
+) -> Result<Sight, Error>
+    ensures same_reference { tx.new.conn.ghost_name ≡ tx.old.conn.ghost_name }
+    ensures looks { Looks (Sees (want.Base base.now) rows.old rows.new) (state S.Store tx.old.conn.now) (state S.Store tx.new.conn.now) result }
+    ensures learnt { IfOk result (λ s. s ≡ Sight.Learnt → HasLearnt (want.Base base.now) rows.old rows.new) }
+{
+    let is = is_base(tx, alloc, base)?;
+    Ok(tell_base(alloc, base, is, rows))
+}

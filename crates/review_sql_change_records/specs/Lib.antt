@@ -1,0 +1,5 @@
+pub mod Paths
+pub mod Forms
+pub mod Laws
+pub mod Keyed
+pub mod inner

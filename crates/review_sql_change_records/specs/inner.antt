@@ -1,0 +1,2 @@
+-- Words that only proofs and private clauses use.
+pub mod Words

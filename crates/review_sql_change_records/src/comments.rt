@@ -1,0 +1,158 @@
+//! The comments of changes.
+
+use crate::values::{
+    answers_at, answers_number, change_number, comment_at, comment_number, flag_at, flag_number,
+    patch_at, patch_number,
+};
+use review_core_rules::{Comment, CommentRow};
+use review_sql_records::names::{account_at, account_number, name_at, small, small_at};
+use review_sql_tables::bound::Bound;
+use review_sql_tables::columns::number_at;
+use review_sql_tables::fronts::Front;
+use review_sql_tables::table::{Lookup, Single, Table};
+use review_sql_tables::texts;
+use review_words::{ChangeNo, CommentNo};
+use sqlite::{Error, Row};
+use std::alloc::{AllocError, Global};
+
+/// The comments of a change, by their numbers.
+pub struct Comments;
+
+impl Lookup for Comments {
+    ghost use Rattle.std.specs.Prelude.{pos};
+    ghost use Rattle.review_sql_tables.proofs.TextsOfLookups.{find_comments};
+    ghost use Rattle.review_sql_tables.specs.declared.texts.TheConstants.{FIND_COMMENTS};
+    ghost use Rattle.review_sql_change_records.specs.Forms.{change_comments};
+
+    type Key = ChangeNo;
+
+    type Item = (CommentNo, Comment);
+
+    ghost sql = { FIND_COMMENTS.now };
+
+    ghost search = { change_comments };
+
+    fn text() -> &'static str {
+        texts::FIND_COMMENTS
+    }
+
+    fn bind<'a>(key: &'a ChangeNo) -> Result<Bound<'a>, Error> {
+        Ok(Bound::new().number(key.get()))
+    }
+
+    fn read(alloc: Global, row: &Row) -> Result<Option<(CommentNo, Comment)>, AllocError> {
+        let Some(path) = name_at(alloc, row, 2)? else {
+            return Ok(None);
+        };
+        let Some(message) = name_at(alloc, row, 5)? else {
+            return Ok(None);
+        };
+        let (Some(number), Some(patch), Some(line)) = (
+            comment_at(row, 0),
+            patch_at(row, 1),
+            small_at(row, 3),
+        ) else {
+            return Ok(None);
+        };
+        let (Some(author), Some(unresolved)) = (account_at(row, 4), flag_at(row, 6)) else {
+            return Ok(None);
+        };
+        let (Some(answers), Some(request)) = (answers_at(row, 7), number_at(row, 8)) else {
+            return Ok(None);
+        };
+        let comment = CommentRow {
+            patch,
+            path,
+            line,
+            author,
+            message,
+            unresolved,
+            answers,
+            request,
+        };
+        let comment = Comment::new(alloc, comment)?;
+        Ok(Some((number, comment)))
+    }
+
+    ghost asks = { λ change. find_comments (pos change) };
+}
+
+impl Front for Comments {
+    ghost use Rattle.review_sql_change_records.specs.{Forms.comments, Laws.comments_of_change};
+
+    type Part = CommentNo;
+
+    type Rest = Comment;
+
+    ghost whole = { comments };
+
+    ghost lawful = { comments_of_change };
+}
+
+impl Table for Comments {
+    ghost use Rattle.std.specs.Prelude.{pos};
+    ghost use Rattle.review_sql_tables.proofs.TextsOfChanges.{insert_comment, delete_comment};
+    ghost use Rattle.review_sql_tables.specs.declared.texts.TheConstants.{INSERT_COMMENT, DELETE_COMMENT};
+    ghost use Rattle.review_sql_change_records.specs.Forms.{flag_number, answers_number, comments, comment_form};
+    ghost use Rattle.review_sql_change_records.specs.Laws.{comment_lawful};
+
+    type Key = (ChangeNo, CommentNo);
+
+    type Item = Comment;
+
+    ghost insert_sql = { INSERT_COMMENT.now };
+
+    ghost delete_sql = { DELETE_COMMENT.now };
+
+    ghost search = { comments };
+
+    ghost form = { comment_form };
+
+    fn insert_text() -> &'static str {
+        texts::INSERT_COMMENT
+    }
+
+    fn delete_text() -> &'static str {
+        texts::DELETE_COMMENT
+    }
+
+    fn bind_key<'a>(key: &'a (ChangeNo, CommentNo)) -> Result<Bound<'a>, Error> {
+        let (change, comment) = (change_number(key.0), comment_number(key.1));
+        Ok(Bound::new().number(change).number(comment))
+    }
+
+    fn bind_row<'a>(
+        _alloc: Global,
+        key: &'a (ChangeNo, CommentNo),
+        row: &'a Comment,
+        _buffer: &'a mut String,
+    ) -> Result<Bound<'a>, Error> {
+        let row = row.row();
+        let values = Comments::bind_key(key)?;
+        values
+            .number(patch_number(row.patch))
+            .text(row.path.as_str())
+            .number(small(row.line))
+            .number(account_number(row.author))
+            .text(row.message.as_str())
+            .number(flag_number(row.unresolved))
+            .number(answers_number(row.answers))
+            .large(row.request)
+    }
+
+    ghost inserts = { λ p x. insert_comment (pos p.0) (pos p.1) (pos x.patch) x.path (pos x.line) (pos x.author) x.message (pos (flag_number x.unresolved)) (pos (answers_number x.answers)) (pos x.request) };
+
+    ghost deletes = { λ p. delete_comment (pos p.0) (pos p.1) };
+
+    ghost lawful = { comment_lawful };
+}
+
+impl Single for Comments {
+    ghost use Rattle.review_sql_change_records.specs.Laws.{comment_single};
+
+    ghost single = { comment_single };
+
+    fn replaces() -> bool {
+        false
+    }
+}

@@ -1,0 +1,235 @@
+//! The patch sets of changes.
+ghost use Rattle.std.specs.Prelude.{◌≡◌, ◌≤◌, ◌+◌, IfOk};
+ghost use Rattle.sqlite_value.specs.Order.{column};
+ghost use Rattle.review_sql_change_records.specs.Forms.{patch_in};
+
+use crate::paths::{is_read_back, paths_text, read_paths};
+use crate::values::{change_number, kind_at, patch_at, patch_number};
+use review_core_rules::PatchRow;
+use review_sql_records::names::{account_at, account_number, name_at};
+use review_sql_tables::bound::Bound;
+use review_sql_tables::columns::text_at;
+use review_sql_tables::fronts::Front;
+use review_sql_tables::greatest::Greatest;
+use review_sql_tables::table::{Lookup, Single, Table};
+use review_sql_tables::texts;
+use review_words::{ChangeNo, PatchNo};
+use sqlite::{Error, Row};
+use std::alloc::{AllocError, Global};
+
+// A patch set from five columns.
+fn read_patch(alloc: Global, row: &Row, from: usize) -> Result<Option<PatchRow>, AllocError>
+    requires { from ≤ 1 }
+    ensures { IfOk result (λ x. x ≡ patch_in (column row.now from) (column row.now (from + 1)) (column row.now (from + 2)) (column row.now (from + 3)) (column row.now (from + 4))) }
+{
+    let Some(commit) = name_at(alloc, row, from)? else {
+        return Ok(None);
+    };
+    let Some(parent) = name_at(alloc, row, from + 1)? else {
+        return Ok(None);
+    };
+    let (Some(kind), Some(uploader), Some(text)) = (
+        kind_at(row, from + 2),
+        account_at(row, from + 3),
+        text_at(row, from + 4),
+    ) else {
+        return Ok(None);
+    };
+    let Some(paths) = read_paths(alloc, text)? else {
+        return Ok(None);
+    };
+    Ok(Some(PatchRow {
+        commit,
+        parent,
+        kind,
+        uploader,
+        paths,
+    }))
+}
+
+/// The patch sets, by the numbers of their changes and their own.
+pub struct PatchSets;
+
+impl Lookup for PatchSets {
+    ghost use Rattle.std.specs.Prelude.{pos};
+    ghost use Rattle.review_sql_tables.{proofs.TextsOfLookups.find_patch, specs.declared.texts.TheConstants.FIND_PATCH};
+    ghost use Rattle.review_sql_change_records.specs.Forms.{patches};
+
+    type Key = (ChangeNo, PatchNo);
+
+    type Item = PatchRow;
+
+    ghost sql = { FIND_PATCH.now };
+
+    ghost search = { patches };
+
+    fn text() -> &'static str {
+        texts::FIND_PATCH
+    }
+
+    fn bind<'a>(key: &'a (ChangeNo, PatchNo)) -> Result<Bound<'a>, Error> {
+        Ok(Bound::new().number(key.0.get()).number(key.1.get()))
+    }
+
+    fn read(alloc: Global, row: &Row) -> Result<Option<PatchRow>, AllocError> {
+        read_patch(alloc, row, 0)
+    }
+
+    ghost asks = { λ p. find_patch (pos p.0) (pos p.1) };
+}
+
+/// The greatest number of a patch set of a change.
+pub struct LastPatch;
+
+impl Greatest for LastPatch {
+    ghost use Rattle.std.specs.Prelude.{pos};
+    ghost use Rattle.review_sql_tables.proofs.TextsOfLookups.{find_last_patch};
+    ghost use Rattle.review_sql_tables.specs.declared.texts.TheConstants.{FIND_LAST_PATCH};
+    ghost use Rattle.review_sql_change_records.specs.Forms.{patch_numbers};
+
+    type Key = ChangeNo;
+
+    type Item = PatchNo;
+
+    ghost sql = { FIND_LAST_PATCH.now };
+
+    ghost search = { patch_numbers };
+
+    ghost place = { 2 };
+
+    fn text() -> &'static str {
+        texts::FIND_LAST_PATCH
+    }
+
+    fn bind<'a>(key: &'a ChangeNo) -> Result<Bound<'a>, Error> {
+        Ok(Bound::new().number(key.get()))
+    }
+
+    fn read(_alloc: Global, row: &Row) -> Result<Option<PatchNo>, AllocError> {
+        Ok(patch_at(row, 0))
+    }
+
+    ghost asks = { λ change. find_last_patch (pos change) };
+}
+
+/// The patch sets of a change, by their numbers.
+pub struct Patches;
+
+impl Lookup for Patches {
+    ghost use Rattle.std.specs.Prelude.{pos};
+    ghost use Rattle.review_sql_tables.proofs.TextsOfLookups.{find_patches};
+    ghost use Rattle.review_sql_tables.specs.declared.texts.TheConstants.{FIND_PATCHES};
+    ghost use Rattle.review_sql_change_records.specs.Forms.{change_patches};
+
+    type Key = ChangeNo;
+
+    type Item = (PatchNo, PatchRow);
+
+    ghost sql = { FIND_PATCHES.now };
+
+    ghost search = { change_patches };
+
+    fn text() -> &'static str {
+        texts::FIND_PATCHES
+    }
+
+    fn bind<'a>(key: &'a ChangeNo) -> Result<Bound<'a>, Error> {
+        Ok(Bound::new().number(key.get()))
+    }
+
+    fn read(alloc: Global, row: &Row) -> Result<Option<(PatchNo, PatchRow)>, AllocError> {
+        let Some(patch) = read_patch(alloc, row, 1)? else {
+            return Ok(None);
+        };
+        let Some(number) = patch_at(row, 0) else {
+            return Ok(None);
+        };
+        Ok(Some((number, patch)))
+    }
+
+    ghost asks = { λ change. find_patches (pos change) };
+}
+
+impl Front for Patches {
+    ghost use Rattle.review_sql_change_records.specs.{Forms.patches, Laws.patches_of_change};
+
+    type Part = PatchNo;
+
+    type Rest = PatchRow;
+
+    ghost whole = { patches };
+
+    ghost lawful = { patches_of_change };
+}
+
+impl Table for Patches {
+    ghost use Rattle.std.specs.Prelude.{pos};
+    ghost use Rattle.review_names.specs.Kinds.{kind_name};
+    ghost use Rattle.review_sql_tables.proofs.TextsOfChanges.{insert_patch, delete_patch};
+    ghost use Rattle.review_sql_tables.specs.declared.texts.TheConstants.{INSERT_PATCH, DELETE_PATCH};
+    ghost use Rattle.review_sql_change_records.specs.Forms.{patches, patch_form};
+    ghost use Rattle.review_sql_change_records.specs.{Laws.patch_lawful, Paths.paths_text};
+
+    type Key = (ChangeNo, PatchNo);
+
+    type Item = PatchRow;
+
+    ghost insert_sql = { INSERT_PATCH.now };
+
+    ghost delete_sql = { DELETE_PATCH.now };
+
+    ghost search = { patches };
+
+    ghost form = { patch_form };
+
+    fn insert_text() -> &'static str {
+        texts::INSERT_PATCH
+    }
+
+    fn delete_text() -> &'static str {
+        texts::DELETE_PATCH
+    }
+
+    fn bind_key<'a>(key: &'a (ChangeNo, PatchNo)) -> Result<Bound<'a>, Error> {
+        let (change, patch) = (change_number(key.0), patch_number(key.1));
+        Ok(Bound::new().number(change).number(patch))
+    }
+
+    fn bind_row<'a>(
+        alloc: Global,
+        key: &'a (ChangeNo, PatchNo),
+        row: &'a PatchRow,
+        buffer: &'a mut String,
+    ) -> Result<Bound<'a>, Error> {
+        // What would not read back is not stored; the paths of a patch set always do.
+        if !is_read_back(alloc, &row.paths)? {
+            return Err(Error::InvalidQuery);
+        }
+        *buffer = paths_text(alloc, row.paths.as_slice())?;
+        let values = Patches::bind_key(key)?;
+        Ok(
+            values
+                .text(row.commit.as_str())
+                .text(row.parent.as_str())
+                .text(row.kind.name())
+                .number(account_number(row.uploader))
+                .text(buffer.as_str()),
+        )
+    }
+
+    ghost inserts = { λ p x. insert_patch (pos p.0) (pos p.1) x.commit x.parent (kind_name x.kind) (pos x.uploader) (paths_text x.paths) };
+
+    ghost deletes = { λ p. delete_patch (pos p.0) (pos p.1) };
+
+    ghost lawful = { patch_lawful };
+}
+
+impl Single for Patches {
+    ghost use Rattle.review_sql_change_records.specs.Laws.{patch_single};
+
+    ghost single = { patch_single };
+
+    fn replaces() -> bool {
+        false
+    }
+}

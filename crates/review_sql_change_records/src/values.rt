@@ -1,0 +1,157 @@
+//! Values of columns, as they are read and stored.
+ghost use Rattle.std.specs.{Int.w64, Prelude.◌≡◌, Prelude.true, Prelude.FitsSigned};
+ghost use Rattle.sqlite_value.specs.Order.{column};
+ghost use Rattle.review_names.specs.Forms.{is_within, most_changes, most_comments, most_patches};
+ghost use Rattle.review_names.specs.Kinds.{kind_named};
+ghost use Rattle.review_words.specs.{States.state_named, Texts.role_named};
+ghost use Rattle.review_sql_tables.specs.Columns.{number_in, text_in};
+ghost use Rattle.review_sql_records.specs.Forms.{where_is};
+ghost use Rattle.review_sql_change_records.specs.Forms.{answered, answers_number, flag_number, flagged, integer_in, is_answer, is_vote, named};
+
+use review_core_rules::Vote;
+use review_sql_tables::columns::{number_at, text_at};
+use review_words::{ChangeKind, ChangeNo, CommentNo, PatchNo, Role, State};
+use sqlite::Row;
+use sqlite::types::ValueRef;
+
+/// The role whose name is in a column; none where it is no such name.
+pub fn role_at(row: &Row, at: usize) -> Option<Role>
+    ensures { result ≡ named role_named (text_in (column row.now at)) }
+{
+    Role::from_name(text_at(row, at)?)
+}
+
+/// The kind whose name is in a column; none where it is no such name.
+pub fn kind_at(row: &Row, at: usize) -> Option<ChangeKind>
+    ensures { result ≡ named kind_named (text_in (column row.now at)) }
+{
+    ChangeKind::from_name(text_at(row, at)?)
+}
+
+/// Where a change stands, by the name in a column; none where it is no such name.
+pub fn state_at(row: &Row, at: usize) -> Option<State>
+    ensures { result ≡ named state_named (text_in (column row.now at)) }
+{
+    State::from_name(text_at(row, at)?)
+}
+
+/// 1 where it is so, and 0 where it isn't.
+pub fn flag_number(is: bool) -> u32
+    ensures { result ≡ flag_number is }
+{
+    if is { 1 } else { 0 }
+}
+
+/// Whether it is so, by the number in a column; none where that is neither 0 nor 1.
+pub fn flag_at(row: &Row, at: usize) -> Option<bool>
+    ensures { result ≡ flagged (number_in (column row.now at)) }
+{
+    match number_at(row, at)? {
+        0 => Some(false),
+        1 => Some(true),
+        _ => None,
+    }
+}
+
+/// The patch set whose number is in a column; none where it is no such number.
+pub fn patch_at(row: &Row, at: usize) -> Option<PatchNo>
+    ensures { result ≡ where_is (is_within most_patches) (number_in (column row.now at)) }
+{
+    PatchNo::from_number(number_at(row, at)?)
+}
+
+/// The change whose number is in a column; none where it is no such number.
+pub fn change_at(row: &Row, at: usize) -> Option<ChangeNo>
+    ensures { result ≡ where_is (is_within most_changes) (number_in (column row.now at)) }
+{
+    ChangeNo::from_number(number_at(row, at)?)
+}
+
+/// The comment whose number is in a column; none where it is no such number.
+pub fn comment_at(row: &Row, at: usize) -> Option<CommentNo>
+    ensures { result ≡ where_is (is_within most_comments) (number_in (column row.now at)) }
+{
+    CommentNo::from_number(number_at(row, at)?)
+}
+
+/// The comment that is answered, by its number, 0 for none; none where the column has no such number.
+pub fn answers_at(row: &Row, at: usize) -> Option<Option<CommentNo>>
+    ensures { result ≡ answered (number_in (column row.now at)) }
+{
+    let number = number_at(row, at)?;
+    if number == 0 {
+        return Some(None);
+    }
+    match CommentNo::from_number(number) {
+        Some(comment) => Some(Some(comment)),
+        None => None,
+    }
+}
+
+/// The number of a comment that is answered, and 0 for none.
+#[tactic(auto, unfolding(review_names::specs::Forms::is_within))]
+pub fn answers_number(answers: Option<CommentNo>) -> u32
+    ensures number { result ≡ answers_number answers }
+    ensures good { is_answer answers ≡ true }
+{
+    match answers {
+        Some(comment) => comment.get(),
+        None => 0,
+    }
+}
+
+/// The number of a change.
+#[tactic(auto, unfolding(review_names::specs::Forms::is_within))]
+pub fn change_number(change: ChangeNo) -> u32
+    ensures number { result ≡ change }
+    ensures good { is_within most_changes change ≡ true }
+{
+    change.get()
+}
+
+/// The number of a patch set.
+#[tactic(auto, unfolding(review_names::specs::Forms::is_within))]
+pub fn patch_number(patch: PatchNo) -> u32
+    ensures number { result ≡ patch }
+    ensures good { is_within most_patches patch ≡ true }
+{
+    patch.get()
+}
+
+/// The number of a comment.
+#[tactic(auto, unfolding(review_names::specs::Forms::is_within))]
+pub fn comment_number(comment: CommentNo) -> u32
+    ensures number { result ≡ comment }
+    ensures good { is_within most_comments comment ≡ true }
+{
+    comment.get()
+}
+
+fn integer_at(row: &Row, at: usize) -> Option<i64>
+    ensures { result ≡ integer_in (column row.now at) }
+{
+    match row.get_ref(at) {
+        Ok(ValueRef::Int(number)) => Some(number),
+        _ => None,
+    }
+}
+
+/// The vote whose value is in a column; none where it is no value of a vote.
+pub fn vote_at(row: &Row, at: usize) -> Option<Vote>
+    ensures { result ≡ where_is is_vote (integer_in (column row.now at)) }
+{
+    let number = integer_at(row, at)?;
+    if number < -128 || number > 127 {
+        return None;
+    }
+    Vote::from_value(number as i8)
+}
+
+/// The value of a vote.
+pub fn vote_value(vote: Vote) -> i64
+    ensures value { result ≡ vote }
+    ensures fits { FitsSigned w64 result }
+    ensures good { is_vote vote ≡ true }
+{
+    vote.get() as i64
+}

@@ -1,0 +1,14 @@
+use Rattle.std.proofs.Common.{◌≡◌, Option, Ok}
+use Rattle.sqlite.specs.Held.{state}
+use Rattle.sqlite_trees.specs.Tree.{Trees}
+use Rattle.review_sql_tables.{proofs.Found.look_on, specs.Search.row_at}
+use Rattle.review_machine_rows.specs.declared.rows.StoredFile.{StoredFile}
+use Rattle.review_sql_records.specs.Forms.{projects}
+use Rattle.review_sql_lookups.proofs.branches.find_file.Goals as goal
+
+pub returns-clause-looks : goal.returns-clause-looks
+returns-clause-looks g c =
+    let F : Trees → Option (Option StoredFile) → Type 0 = λ db found. found ≡ row_at projects db c.args.project.now in
+    let a = state g.S.Store c.args.tx.now.conn.now in
+    let m = state g.S.Store c.find.new.tx.conn.now in
+    look_on F _ a m c.in_ok-found.found (Ok c.tell_file.result) c.in_ok-found.ensures.looks (λ db h. c.tell_file.ensures.told db h)

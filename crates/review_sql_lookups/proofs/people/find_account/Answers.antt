@@ -1,0 +1,13 @@
+use Rattle.std.proofs.Common.{◌≡◌, Option, List, ℕ, Ok}
+use Rattle.sqlite.specs.Held.{state}
+use Rattle.sqlite_trees.specs.Tree.{Trees}
+use Rattle.review_sql_tables.{proofs.Found.look_on, specs.Search.row_at}
+use Rattle.review_sql_records.specs.Forms.{accounts}
+use Rattle.review_sql_lookups.proofs.people.find_account.Goals as goal
+
+pub returns-clause-looks : goal.returns-clause-looks
+returns-clause-looks g c =
+    let F : Trees → Option (Option (List ℕ)) → Type 0 = λ db found. found ≡ row_at accounts db c.args.number in
+    let a = state g.S.Store c.args.tx.now.conn.now in
+    let m = state g.S.Store c.find.new.tx.conn.now in
+    look_on F _ a m c.in_ok-found.found (Ok c.tell_account.result) c.in_ok-found.ensures.looks (λ db h. c.tell_account.ensures.told db h)

@@ -1,0 +1,15 @@
+use Rattle.std.proofs.Common.{Option, List, ℕ, option_map, Ok}
+use Rattle.std.specs.Ordering.{nat_cmp}
+use Rattle.sqlite.specs.Held.{state}
+use Rattle.sqlite_trees.specs.Tree.{Trees}
+use Rattle.review_table.specs.Rows.{rows_of}
+use Rattle.review_sql_tables.{proofs.Found.look_on, specs.Fronts.AreParts}
+use Rattle.review_sql_records.specs.Forms.{group_members, member_parts}
+use Rattle.review_sql_lookups.proofs.people.find_group.Goals as goal
+
+pub returns-clause-looks : goal.returns-clause-looks
+returns-clause-looks g c =
+    let F : Trees → Option (List (ℕ × Option (Unit {0}))) → Type 0 = λ db found. AreParts nat_cmp group_members member_parts c.args.group.now db (option_map (λ t. rows_of t) found) in
+    let a = state g.S.Store c.args.tx.now.conn.now in
+    let m = state g.S.Store c.find_parts.new.tx.conn.now in
+    look_on F _ a m c.in_ok-found.found (Ok c.tell_group.result) c.in_ok-found.ensures.looks (λ db h. c.tell_group.ensures.told db h)

@@ -1,0 +1,4 @@
+pub mod Tables
+pub mod Loads
+pub mod EarlierTables
+pub mod Counts

@@ -1,0 +1,19 @@
+//! A database as the tables of a desk, of this version and of earlier ones (`specs/Tables`, `specs/EarlierTables`); and what look-ups find
+//! of accounts, groups, projects and branches.
+//!
+//! A look-up ends in one of three ways: found, no memory, or damage, where a row doesn't read or doesn't fit ([`Sight`]).
+//!
+//! - **Proved**: a look-up finds what the tables have, and tells a row that doesn't read as damage.
+//! - **Assumed**: nothing beyond the kit.
+//! - **Only tested**: `bench/damages`; what a look-up costs (`bench/instructions`).
+//! - **Must not know**: transactions, or who asks.
+#![tactic(auto)]
+
+pub mod branches;
+pub mod counts;
+pub mod known;
+pub mod learning;
+pub mod people;
+pub mod sights;
+
+pub use sights::{Loaded, Sight};

@@ -1,0 +1,264 @@
+//! The bases of branches, by their places.
+ghost use Rattle.std.specs.Prelude.{◌≡◌, ◌∷◌, [], length, Some};
+ghost use Rattle.sqlite.specs.Held.{state};
+ghost use Rattle.sqlite_value.specs.declared.value.Value.TheVariants.{Text};
+ghost use Rattle.review_sql_tables.specs.{Greatest.as_counted, Ran.Looks, Search.rows_at, inner.Words.ShowsCount};
+ghost use Rattle.review_sql_tables.specs.Desk as table;
+
+use crate::counted::read_count;
+use crate::names::{name_at, place_at};
+use crate::rows::PlaceNo;
+use review_machine_rows::{Base, BranchKey, PlaceKey};
+use review_sql_tables::bound::Bound;
+use review_sql_tables::columns::number_at;
+use review_sql_tables::fronts::Front;
+use review_sql_tables::greatest::Greatest;
+use review_sql_tables::table::{Lookup, Single, Table};
+use review_sql_tables::texts;
+use review_words::{CommitName, ProjectName};
+use sqlite::{Alter, Error, Row, Transaction};
+use std::alloc::{AllocError, Global};
+
+/// The commits of bases, by their places.
+pub struct Bases;
+
+impl Lookup for Bases {
+    ghost use Rattle.std.specs.Prelude.{pos};
+    ghost use Rattle.review_sql_tables.{proofs.TextsOfLookups.find_base, specs.declared.texts.TheConstants.FIND_BASE};
+    ghost use Rattle.review_sql_records.specs.Forms.{bases};
+
+    type Key = PlaceKey;
+
+    type Item = CommitName;
+
+    ghost sql = { FIND_BASE.now };
+
+    ghost search = { bases };
+
+    fn text() -> &'static str {
+        texts::FIND_BASE
+    }
+
+    fn bind<'a>(key: &'a PlaceKey) -> Result<Bound<'a>, Error> {
+        Bound::new()
+            .text(key.project.as_str())
+            .text(key.branch.as_str())
+            .large(key.place)
+    }
+
+    fn read(alloc: Global, row: &Row) -> Result<Option<CommitName>, AllocError> {
+        name_at(alloc, row, 0)
+    }
+
+    ghost asks = { λ b. find_base b.project b.branch (pos b.place) };
+}
+
+impl Table for Bases {
+    ghost use Rattle.std.specs.Prelude.{pos};
+    ghost use Rattle.review_sql_tables.proofs.TextsOfChanges.{insert_base, delete_base};
+    ghost use Rattle.review_sql_tables.specs.declared.texts.TheConstants.{INSERT_BASE, DELETE_BASE};
+    ghost use Rattle.review_sql_records.specs.{Forms.bases, Forms.base_form, Laws.base_lawful};
+
+    type Key = PlaceKey;
+
+    type Item = CommitName;
+
+    ghost insert_sql = { INSERT_BASE.now };
+
+    ghost delete_sql = { DELETE_BASE.now };
+
+    ghost search = { bases };
+
+    ghost form = { base_form };
+
+    fn insert_text() -> &'static str {
+        texts::INSERT_BASE
+    }
+
+    fn delete_text() -> &'static str {
+        texts::DELETE_BASE
+    }
+
+    fn bind_key<'a>(key: &'a PlaceKey) -> Result<Bound<'a>, Error> {
+        if key.place > u64::from(u32::MAX) {
+            return Err(Error::InvalidQuery);
+        }
+        Bases::bind(key)
+    }
+
+    fn bind_row<'a>(
+        _alloc: Global,
+        key: &'a PlaceKey,
+        row: &'a CommitName,
+        _buffer: &'a mut String,
+    ) -> Result<Bound<'a>, Error> {
+        let values = Bases::bind_key(key)?;
+        Ok(values.text(row.as_str()))
+    }
+
+    ghost inserts = { λ b commit. insert_base b.project b.branch (pos b.place) commit };
+
+    ghost deletes = { λ b. delete_base b.project b.branch (pos b.place) };
+
+    ghost lawful = { base_lawful };
+}
+
+impl Single for Bases {
+    ghost use Rattle.review_sql_records.specs.Laws.{base_single};
+
+    ghost single = { base_single };
+
+    fn replaces() -> bool {
+        false
+    }
+}
+
+/// The places of a commit in a branch.
+pub struct BaseCommits;
+
+impl Lookup for BaseCommits {
+    ghost use Rattle.review_sql_tables.proofs.TextsOfLookups.{find_base_commit};
+    ghost use Rattle.review_sql_tables.specs.declared.texts.TheConstants.{FIND_BASE_COMMIT};
+    ghost use Rattle.review_sql_records.specs.Forms.{base_commits};
+
+    type Key = Base;
+
+    type Item = u64;
+
+    ghost sql = { FIND_BASE_COMMIT.now };
+
+    ghost search = { base_commits };
+
+    fn text() -> &'static str {
+        texts::FIND_BASE_COMMIT
+    }
+
+    fn bind<'a>(key: &'a Base) -> Result<Bound<'a>, Error> {
+        Ok(
+            Bound::new()
+                .text(key.project.as_str())
+                .text(key.branch.as_str())
+                .text(key.commit.as_str()),
+        )
+    }
+
+    fn read(_alloc: Global, row: &Row) -> Result<Option<u64>, AllocError> {
+        Ok(number_at(row, 0))
+    }
+
+    ghost asks = { λ b. find_base_commit b.project b.branch b.commit };
+}
+
+/// The bases of a branch, by their places.
+pub struct BranchBases;
+
+impl Lookup for BranchBases {
+    ghost use Rattle.review_sql_tables.proofs.TextsOfLookups.{find_branch};
+    ghost use Rattle.review_sql_tables.specs.declared.texts.TheConstants.{FIND_BRANCH};
+    ghost use Rattle.review_sql_records.specs.Forms.{branch_bases};
+
+    type Key = BranchKey;
+
+    type Item = (PlaceNo, CommitName);
+
+    ghost sql = { FIND_BRANCH.now };
+
+    ghost search = { branch_bases };
+
+    fn text() -> &'static str {
+        texts::FIND_BRANCH
+    }
+
+    fn bind<'a>(key: &'a BranchKey) -> Result<Bound<'a>, Error> {
+        Ok(
+            Bound::new()
+                .text(key.project.as_str())
+                .text(key.branch.as_str()),
+        )
+    }
+
+    fn read(alloc: Global, row: &Row) -> Result<Option<(PlaceNo, CommitName)>, AllocError> {
+        let Some(place) = place_at(row, 0) else {
+            return Ok(None);
+        };
+        let Some(commit) = name_at(alloc, row, 1)? else {
+            return Ok(None);
+        };
+        Ok(Some((place, commit)))
+    }
+
+    ghost asks = { λ b. find_branch b.project b.branch };
+}
+
+impl Front for BranchBases {
+    ghost use Rattle.review_sql_records.specs.{Forms.base_parts, Laws.bases_of_branch};
+
+    type Part = PlaceNo;
+
+    type Rest = CommitName;
+
+    ghost whole = { base_parts };
+
+    ghost lawful = { bases_of_branch };
+}
+
+/// The last place of a branch's bases.
+pub struct LastPlace;
+
+impl Greatest for LastPlace {
+    ghost use Rattle.review_sql_tables.proofs.TextsOfLookups.{find_last_place};
+    ghost use Rattle.review_sql_tables.specs.declared.texts.TheConstants.{FIND_LAST_PLACE};
+    ghost use Rattle.review_sql_records.specs.Forms.{base_places};
+
+    type Key = BranchKey;
+
+    type Item = u64;
+
+    ghost sql = { FIND_LAST_PLACE.now };
+
+    ghost search = { base_places };
+
+    ghost place = { 3 };
+
+    fn text() -> &'static str {
+        texts::FIND_LAST_PLACE
+    }
+
+    fn bind<'a>(key: &'a BranchKey) -> Result<Bound<'a>, Error> {
+        Ok(
+            Bound::new()
+                .text(key.project.as_str())
+                .text(key.branch.as_str()),
+        )
+    }
+
+    fn read(_alloc: Global, row: &Row) -> Result<Option<u64>, AllocError> {
+        Ok(number_at(row, 0))
+    }
+
+    ghost asks = { λ b. find_last_place b.project b.branch };
+}
+
+// The row that says how many bases a project has.
+fn select_count<S: Alter>(
+    tx: &mut Transaction<'_, S>,
+    project: &ProjectName,
+) -> Result<Vec<Row>, Error>
+    ensures same_reference { tx.new.conn.ghost_name ≡ tx.old.conn.ghost_name }
+    ensures looks { Looks (λ db rows. ShowsCount (rows_at ((1, Text project.now) ∷ []) (db table.bases.tree)) rows.items) (state S.Store tx.old.conn.now) (state S.Store tx.new.conn.now) result }
+{
+    let values = Bound::new().text(project.as_str());
+    tx.query_all(texts::COUNT_BASES, values.as_slice())
+}
+
+/// How many bases a project has; none where the store tells no number.
+pub fn count<S: Alter>(
+    tx: &mut Transaction<'_, S>,
+    project: &ProjectName,
+) -> Result<Option<u64>, Error>
+    ensures same_reference { tx.new.conn.ghost_name ≡ tx.old.conn.ghost_name }
+    ensures looks { Looks (λ db count. count ≡ Some (as_counted (length (rows_at ((1, Text project.now) ∷ []) (db table.bases.tree))))) (state S.Store tx.old.conn.now) (state S.Store tx.new.conn.now) result }
+{
+    let rows = select_count(tx, project)?;
+    Ok(read_count(&rows))
+}

@@ -1,0 +1,186 @@
+//! The projects and their files.
+ghost use Rattle.std.specs.Prelude.{◌≡◌, [], true, Some, IfOk, length};
+ghost use Rattle.sqlite.specs.Held.{state};
+ghost use Rattle.sqlite_value.specs.Order.{column};
+ghost use Rattle.review_sql_tables.specs.{Columns.text_in, Greatest.as_counted, Ran.Looks, Search.rows_at};
+ghost use Rattle.review_sql_tables.specs.inner.Words.{ShowsCount};
+ghost use Rattle.review_sql_records.specs.Forms.{is_parent, stored_parent, parent_text};
+ghost use Rattle.review_sql_tables.specs.Desk as table;
+
+use crate::counted::read_count;
+use crate::names::name_at;
+use review_machine_rows::StoredFile;
+use review_sql_tables::bound::Bound;
+use review_sql_tables::columns::text_at;
+use review_sql_tables::table::{Lookup, Single, Table};
+use review_sql_tables::texts;
+use review_words::{FileText, ProjectName};
+use sqlite::{Alter, Error, Row, Transaction};
+use std::alloc::{AllocError, Global};
+
+/// The files of the projects.
+pub struct Projects;
+
+// The parent that a column names; none where it is no text, or one that is no name of a project.
+fn parent_at(alloc: Global, row: &Row, at: usize) -> Result<Option<Option<ProjectName>>, AllocError>
+    ensures { IfOk result (λ parent. parent ≡ stored_parent (text_in (column row.now at))) }
+{
+    let Some(text) = text_at(row, at) else {
+        return Ok(None);
+    };
+    if text.is_empty() {
+        return Ok(Some(None));
+    }
+    Ok(name_at(alloc, row, at)?.map(Some))
+}
+
+// A parent as it is stored.
+fn parent_text(parent: &Option<ProjectName>) -> &str
+    ensures text { result.now ≡ parent_text parent.now }
+    ensures good { is_parent parent.now ≡ true }
+{
+    match parent {
+        Some(name) => name.as_str(),
+        None => "",
+    }
+}
+
+impl Lookup for Projects {
+    ghost use Rattle.review_sql_tables.proofs.TextsOfLookups.{find_project};
+    ghost use Rattle.review_sql_tables.specs.declared.texts.TheConstants.{FIND_PROJECT};
+    ghost use Rattle.review_sql_records.specs.Forms.{projects};
+
+    type Key = ProjectName;
+
+    type Item = StoredFile;
+
+    ghost sql = { FIND_PROJECT.now };
+
+    ghost search = { projects };
+
+    fn text() -> &'static str {
+        texts::FIND_PROJECT
+    }
+
+    fn bind<'a>(key: &'a ProjectName) -> Result<Bound<'a>, Error> {
+        Ok(Bound::new().text(key.as_str()))
+    }
+
+    fn read(alloc: Global, row: &Row) -> Result<Option<StoredFile>, AllocError> {
+        let Some(text) = text_at(row, 0) else {
+            return Ok(None);
+        };
+        let Some(parent) = parent_at(alloc, row, 1)? else {
+            return Ok(None);
+        };
+        let text = FileText::from_str(alloc, text)?;
+        Ok(Some(StoredFile { text, parent }))
+    }
+
+    ghost asks = { find_project };
+}
+
+impl Table for Projects {
+    ghost use Rattle.review_sql_tables.proofs.TextsOfChanges.{insert_project, delete_project};
+    ghost use Rattle.review_sql_tables.specs.declared.texts.TheConstants.{INSERT_PROJECT, DELETE_PROJECT};
+    ghost use Rattle.review_sql_records.specs.Forms.{projects, project_form, parent_text};
+    ghost use Rattle.review_sql_records.specs.Laws.{project_lawful};
+
+    type Key = ProjectName;
+
+    type Item = StoredFile;
+
+    ghost insert_sql = { INSERT_PROJECT.now };
+
+    ghost delete_sql = { DELETE_PROJECT.now };
+
+    ghost search = { projects };
+
+    ghost form = { project_form };
+
+    fn insert_text() -> &'static str {
+        texts::INSERT_PROJECT
+    }
+
+    fn delete_text() -> &'static str {
+        texts::DELETE_PROJECT
+    }
+
+    fn bind_key<'a>(key: &'a ProjectName) -> Result<Bound<'a>, Error> {
+        Projects::bind(key)
+    }
+
+    fn bind_row<'a>(
+        _alloc: Global,
+        key: &'a ProjectName,
+        row: &'a StoredFile,
+        _buffer: &'a mut String,
+    ) -> Result<Bound<'a>, Error> {
+        let values = Bound::new().text(key.as_str()).text(row.text.as_str());
+        Ok(values.text(parent_text(&row.parent)))
+    }
+
+    ghost inserts = { λ project file. insert_project project file.text (parent_text file.parent) };
+
+    ghost deletes = { delete_project };
+
+    ghost lawful = { project_lawful };
+}
+
+impl Single for Projects {
+    ghost use Rattle.review_sql_records.specs.Laws.{project_single};
+
+    ghost single = { project_single };
+
+    fn replaces() -> bool {
+        true
+    }
+}
+
+/// The projects without their files.
+pub struct ProjectNames;
+
+impl Lookup for ProjectNames {
+    ghost use Rattle.review_sql_tables.proofs.TextsOfLookups.{find_project_name};
+    ghost use Rattle.review_sql_tables.specs.declared.texts.TheConstants.{FIND_PROJECT_NAME};
+    ghost use Rattle.review_sql_records.specs.Forms.{project_names};
+
+    type Key = ProjectName;
+
+    type Item = ();
+
+    ghost sql = { FIND_PROJECT_NAME.now };
+
+    ghost search = { project_names };
+
+    fn text() -> &'static str {
+        texts::FIND_PROJECT_NAME
+    }
+
+    fn bind<'a>(key: &'a ProjectName) -> Result<Bound<'a>, Error> {
+        Ok(Bound::new().text(key.as_str()))
+    }
+
+    fn read(_alloc: Global, _row: &Row) -> Result<Option<()>, AllocError> {
+        Ok(Some(()))
+    }
+
+    ghost asks = { find_project_name };
+}
+
+// The row that says how many projects there are.
+fn select_count<S: Alter>(tx: &mut Transaction<'_, S>) -> Result<Vec<Row>, Error>
+    ensures same_reference { tx.new.conn.ghost_name ≡ tx.old.conn.ghost_name }
+    ensures looks { Looks (λ db rows. ShowsCount (rows_at [] (db table.projects_2.tree)) rows.items) (state S.Store tx.old.conn.now) (state S.Store tx.new.conn.now) result }
+{
+    tx.query_all(texts::COUNT_PROJECTS, &[])
+}
+
+/// How many projects there are; none where the store tells no number.
+pub fn count<S: Alter>(tx: &mut Transaction<'_, S>) -> Result<Option<u64>, Error>
+    ensures same_reference { tx.new.conn.ghost_name ≡ tx.old.conn.ghost_name }
+    ensures looks { Looks (λ db count. count ≡ Some (as_counted (length (db table.projects_2.tree)))) (state S.Store tx.old.conn.now) (state S.Store tx.new.conn.now) result }
+{
+    let rows = select_count(tx)?;
+    Ok(read_count(&rows))
+}

@@ -1,0 +1,7 @@
+use Rattle.std.proofs.Common.{◌∙◌}
+use Rattle.review_sql_tables.proofs.Made.{made_in_memory, decides_desk}
+use Rattle.review_sql_tables.specs.Versions.{schema_at}
+use Rattle.review_sql_tables.proofs.creating.is_desk.Goals as goal
+
+pub returns : goal.returns
+returns c = decides_desk c.args.version c.is_same_schema.result c.args.schema.now c.schema.result.now (c.schema.ensures.value ∙ made_in_memory (schema_at c.args.version) c.in_ok-plain.plain c.create_all.new.conn _ c.in_ok-plain.ensures.empty c.in_ok-create_all.ensures.acts) c.is_same_schema.ensures

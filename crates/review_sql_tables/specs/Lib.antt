@@ -1,0 +1,15 @@
+pub mod Desk
+pub mod Content
+pub mod Ran
+pub mod Search
+pub mod Greatest
+pub mod Texts
+pub mod Moved
+pub mod Fronts
+pub mod Made
+pub mod Migrated
+pub mod Plain
+pub mod Single
+pub mod Columns
+pub mod Versions
+pub mod inner

@@ -1,0 +1,4 @@
+-- Words that only proofs and private clauses use.
+pub mod Rowids
+pub mod Words
+pub mod Moving

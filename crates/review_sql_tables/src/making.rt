@@ -1,0 +1,38 @@
+//! Tables are made by their texts.
+ghost use Rattle.std.specs.Prelude.{◌≡◌, ◌<◌, ℕ, List, map, slice_index_or};
+ghost use Rattle.sqlite.specs.Held.{state};
+ghost use Rattle.review_sql_tables.specs.{Desk.schema_0, Desk.schema_1, Made.MakesBy, Made.Grows};
+ghost use Rattle.review_sql_tables.specs.{Ran.Within, Ran.Opens, declared.texts.TheConstants.CREATE};
+
+use crate::texts;
+use sqlite::{Alter, Error, Transaction};
+
+/// Makes the table of a text.
+pub fn make<S: Alter>(tx: &mut Transaction<'_, S>, sql: &str) -> Result<usize, Error>
+    ensures same_reference { tx.new.conn.ghost_name ≡ tx.old.conn.ghost_name }
+    ensures ran { Within (MakesBy sql.now) (state S.Store tx.old.conn.now) (state S.Store tx.new.conn.now) result }
+    ensures open { Opens (state S.Store tx.old.conn.now) (state S.Store tx.new.conn.now) result }
+{
+    tx.execute(sql, &[])
+}
+
+// The text that makes a table of the list.
+fn create_text(at: usize) -> &'static str
+    requires { at < 12 }
+    ensures { (d : List ℕ) → result.now ≡ slice_index_or (map (λ t. t.now) CREATE) at d }
+{
+    texts::CREATE[at]
+}
+
+/// Makes the tables of version 1, where there is none.
+pub fn make_first_tables<S: Alter>(tx: &mut Transaction<'_, S>) -> Result<(), Error>
+    ensures same_reference { tx.new.conn.ghost_name ≡ tx.old.conn.ghost_name }
+    ensures ran { Within (Grows schema_0 schema_1) (state S.Store tx.old.conn.now) (state S.Store tx.new.conn.now) result }
+    ensures open { Opens (state S.Store tx.old.conn.now) (state S.Store tx.new.conn.now) result }
+{
+    make(tx, create_text(0))?;
+    for at in 1..12 {
+        make(tx, create_text(at))?;
+    }
+    Ok(())
+}

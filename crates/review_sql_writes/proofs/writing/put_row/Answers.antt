@@ -1,0 +1,10 @@
+use Rattle.std.proofs.Common.{rules, refl, None}
+use Rattle.sqlite.specs.Held.{state}
+use Rattle.review_sql_tables.proofs.Sequences.{still}
+use Rattle.review_sql_writes.specs.inner.Changes.{SetsPut}
+use Rattle.review_sql_writes.proofs.writing.put_row.Goals as goal
+
+pub returns-in-None-clause-ran : goal.returns-in-None-clause-ran
+returns-in-None-clause-ran g c =
+    let it = still (SetsPut g.T.Table.search None) (state g.S.Store c.args.tx.now.conn.now) (tt {0}) (λ db. refl) in
+    search rules

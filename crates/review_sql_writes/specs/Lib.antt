@@ -1,0 +1,5 @@
+pub mod Commits
+pub mod Named
+pub mod First
+pub mod Numbers
+pub mod inner

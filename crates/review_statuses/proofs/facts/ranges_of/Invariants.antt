@@ -1,8 +1,0 @@
-use Rattle.std.proofs.Common.{◌≡◌, ℕ, List, drop}
-use Rattle.std.specs.{BTreeMap.get, Cmp.Lexicographic.slice_cmp, Option.option_or, Ordering.nat_cmp}
-use Rattle.std.specs.{Prelude.find, Prelude.option_map, Str.bytes_eq}
-use Rattle.review_changes.specs.Change.{range_of}
-use Rattle.review_statuses.proofs.facts.ranges_of.Given as goal
-
-abbrev pub invariant-loop-label : goal.invariant-loop-label
-invariant-loop-label l = (name : List ℕ) → option_or (get (slice_cmp nat_cmp) l.ranges name) (option_map range_of (find (λ x. bytes_eq x.name name) (drop l.label-index l.labels))) ≡ option_map range_of (find (λ x. bytes_eq x.name name) l.labels)

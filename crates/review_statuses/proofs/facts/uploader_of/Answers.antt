@@ -1,6 +1,0 @@
-use Rattle.std.{proofs.Common.◌∙◌, proofs.Common.sym, proofs.Common.ap, specs.Option.option_copied}
-use Rattle.review_statuses.proofs.Made.{last_sender}
-use Rattle.review_statuses.proofs.facts.uploader_of.Goals as goal
-
-pub returns-in-Some : goal.returns-in-Some
-returns-in-Some c = sym (last_sender c.args.owner c.args.patches.now c.in-Some.patch.now (sym c.last.ensures.value ∙ ap option_copied c.in-Some.is))

@@ -1,7 +1,0 @@
-use Rattle.std.proofs.Common.{◌≡◌, ◌++◌, drop, map}
-use Rattle.review_changes.specs.Facts.{stands}
-use Rattle.review_statuses.specs.Grouped.{grouped}
-use Rattle.review_statuses.proofs.standing.all_standing.Given as goal
-
-abbrev pub invariant-loop-requirement : goal.invariant-loop-requirement
-invariant-loop-requirement l = l.shown.items ++ map (stands (grouped l.change.facts.now l.change.groups.now)) (drop l.requirement-index l.requirements) ≡ map (stands (grouped l.change.facts.now l.change.groups.now)) l.requirements

@@ -1,7 +1,0 @@
-use Rattle.std.proofs.Common.{take}
-use Rattle.review_table.specs.Rows.{rows_of}
-use Rattle.review_tables.specs.Fronts.{WereApart}
-use Rattle.review_tables.proofs.fronts.read_apart.Given as goal
-
-abbrev pub invariant-loop-row : goal.invariant-loop-row
-invariant-loop-row g l = WereApart g.F.Part.Ord.cmp g.F.Lookup.search.read (take l.row-index l.rows) (rows_of l.table)

@@ -1,7 +1,0 @@
-use Rattle.std.proofs.Common.{◌≡◌, take, map}
-use Rattle.sqlite_value.specs.declared.value.Value.TheVariants.{Int}
-use Rattle.review_tables.specs.Rowids.{firsts}
-use Rattle.review_tables.proofs.rowids.read_ids.Given as goal
-
-abbrev pub invariant-loop-row : goal.invariant-loop-row
-invariant-loop-row l = firsts (take l.row-index l.rows) ≡ map Int l.ids.items

@@ -1,8 +1,0 @@
-pub mod Patterns
-pub mod Lexemes
-pub mod Scan
-pub mod Scanned
-pub mod Grammar
-pub mod Reading
-pub mod Views
-pub mod Words

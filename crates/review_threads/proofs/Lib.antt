@@ -1,3 +1,0 @@
-pub mod InThreads
-pub mod FromLast
-mod Law

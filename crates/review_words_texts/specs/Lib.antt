@@ -1,0 +1,4 @@
+pub mod Shown
+pub mod Cutting
+pub mod Reading
+pub mod inner

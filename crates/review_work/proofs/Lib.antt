@@ -1,3 +1,0 @@
-pub mod Warned
-pub mod Fewer
-pub mod Turning

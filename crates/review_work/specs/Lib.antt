@@ -1,4 +1,0 @@
-pub mod Faults
-pub mod Worked
-pub mod Turns
-pub mod OnFile
