@@ -9,7 +9,9 @@
 //! - **Must not know**: what its rows mean.
 #![tactic(auto)]
 
+pub mod edited;
 pub mod table;
 
+pub use edited::Edited;
 pub use review_names::Key;
 pub use table::{BadRows, RowEdit, Table};
