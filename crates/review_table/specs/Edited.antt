@@ -1,0 +1,8 @@
+-- A table with edits beside it.
+use Rattle.std.specs.Prelude.{Option}
+use Rattle.std.specs.declared.cmp.Ordering.{Ordering}
+use Rattle.review_table.specs.{Rows.after_row_edit, Rows.place_at, Rows.row_in, Rows.rows_of, declared.edited.Edited.Edited}
+
+-- the row that a key has once the edits are made
+abbrev pub row_with : {K X : Type 0} → (K → K → Ordering) → Edited K X → K → Option X
+row_with cmp e q = after_row_edit (place_at cmp e.edits.entries q) (row_in cmp (rows_of e.rows.now) q)

@@ -1,0 +1,75 @@
+//! A table with edits beside it that are noted and not made.
+ghost use Rattle.std.specs.{BTreeMap.is_at, List.list_any};
+ghost use Rattle.std.specs.Prelude.{◌≡◌, IfOk, IsSome, OnOk, map, true, option_copied, if◌then◌else◌};
+ghost use Rattle.review_table.specs.{Edited.row_with, Rows.NamesOnce, Rows.place_at, Rows.row_edit_of, Rows.row_in, Rows.rows_of};
+
+use crate::table::{RowEdit, Table};
+use review_names::Key;
+use std::alloc::{AllocError, Global};
+use std::collections::BTreeMap;
+
+/// A table that stays as it is, and what is to change in it: at most one edit at each key.
+#[derive(Drop)]
+pub struct Edited<'t, K: Ord, V> {
+    rows: &'t Table<K, V>,
+    edits: BTreeMap<K, Option<V>>,
+}
+
+impl<'t, K: Key, V: Drop> Edited<'t, K, V> {
+    /// A table with no edit yet.
+    pub fn new(alloc: Global, rows: &'t Table<K, V>) -> Edited<'t, K, V>
+        ensures table { result.rows ≡ rows.entry }
+        ensures rows { (q : K) → row_with K.cmp result q ≡ row_in K.cmp (rows_of rows.now) q }
+    {
+        Edited {
+            rows,
+            edits: BTreeMap::new(alloc),
+        }
+    }
+
+    /// The row that a key has once the edits are made.
+    pub fn get(&self, key: &K) -> Option<&V>
+        ensures { option_copied result ≡ row_with K.cmp self.now key.now }
+    {
+        match self.edits.get(key) {
+            Some(Some(row)) => Some(row),
+            Some(None) => None,
+            None => self.rows.get(key),
+        }
+    }
+
+    /// Notes the row that a key is to have, or that it is to have none, in place of what was noted for it.
+    pub fn set(&mut self, key: K, row: Option<V>) -> Result<(), AllocError>
+        ensures table { self.new.rows ≡ self.old.rows }
+        ensures rows { OnOk result ((q : K) → row_with K.cmp self.new q ≡ (if is_at (K.cmp key) q then row else row_with K.cmp self.old q)) }
+    {
+        self.edits.insert(key, row)?;
+        Ok(())
+    }
+
+    /// The keys of the table's rows and those that are edited: each that has a row once the edits are made is among them.
+    pub fn keys(&self, alloc: Global) -> Result<Vec<&K>, AllocError>
+        ensures { IfOk result (λ keys. (q : K) → IsSome (row_with K.cmp self.now q) → list_any (is_at (K.cmp q)) (map (λ k. k.now) keys.items) ≡ true) }
+    {
+        let mut keys = Vec::new(alloc);
+        for (key, _) in self.rows.rows(alloc)? {
+            keys.push(key)?;
+        }
+        for (key, _) in &self.edits {
+            keys.push(key)?;
+        }
+        Ok(keys)
+    }
+
+    /// The edits, in the order of their keys.
+    pub fn into_edits(self, alloc: Global) -> Result<Vec<RowEdit<K, V>>, AllocError>
+        ensures edits { IfOk result (λ edits. (q : K) → row_edit_of K.cmp edits.items q ≡ place_at K.cmp self.entry.edits.entries q) }
+        ensures once { IfOk result (λ edits. NamesOnce K.cmp edits.items) }
+    {
+        let mut edits = Vec::with_capacity(alloc, self.edits.len())?;
+        for (key, row) in self.edits {
+            edits.push(RowEdit { key, row })?;
+        }
+        Ok(edits)
+    }
+}
