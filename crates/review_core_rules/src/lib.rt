@@ -13,9 +13,13 @@
 //! - **Must not know**: other changes, branches or histories, or how rows are made (`review_core` does that).
 #![tactic(auto)]
 
+pub mod draft;
+pub mod drafting;
 pub mod laws;
 pub mod rows;
 
+pub use draft::Draft;
+pub use drafting::drafted;
 pub use laws::{begins_sound, joins_sound, stays_sound, voters_are_eligible};
 pub use rows::{
     AttentionEntry, ChangeRows, Comment, CommentRow, Header, PatchRow, Post, Vote, VoteKey, Why,

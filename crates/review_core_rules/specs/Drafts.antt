@@ -1,0 +1,21 @@
+-- A change in the making.
+use Rattle.std.specs.Prelude.{◌++◌}
+use Rattle.review_core_rules.specs.{Change.Change, EditedRows.for_account, EditedRows.vote_for, declared.draft.Draft.Draft}
+
+-- the change that is made
+abbrev pub drafted : Draft → Change
+drafted d = record {
+  project = d.header.project;
+  branch = d.header.branch;
+  subject = d.header.subject;
+  owner = d.header.owner;
+  state = d.header.state;
+  wip = d.header.wip;
+  place = d.header.place;
+  updated = d.header.updated;
+  patches = d.rows.now.patches.items ++ d.patches.items;
+  vote = vote_for d.votes;
+  role = for_account d.roles;
+  comments = d.rows.now.comments.items ++ d.comments.items;
+  attention = for_account d.attention;
+}

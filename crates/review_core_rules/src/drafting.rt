@@ -1,0 +1,39 @@
+//! A change in the making, begun.
+ghost use Rattle.std.specs.Prelude.{◌≡◌, IfOk};
+ghost use Rattle.review_core_rules.specs.{Drafts.drafted, Seen.seen};
+
+use crate::draft::Draft;
+use crate::rows::{ChangeRows, Header};
+use review_table::Edited;
+use std::alloc::{AllocError, Global};
+
+/// A change as it is, but that this request is the last that named it. An error where there was no memory for it.
+pub fn drafted<'r>(
+    alloc: Global,
+    rows: &'r ChangeRows,
+    request: u64,
+) -> Result<Draft<'r>, AllocError>
+    ensures rows { IfOk result (λ d. d.rows ≡ rows.entry) }
+    ensures same { IfOk result (λ d. drafted d ≡ record (seen rows.now) { updated = request }) }
+{
+    let header = &rows.header;
+    let header = Header {
+        project: header.project.copy(alloc)?,
+        branch: header.branch.copy(alloc)?,
+        subject: header.subject.copy(alloc)?,
+        owner: header.owner,
+        state: header.state,
+        wip: header.wip,
+        place: header.place,
+        updated: request,
+    };
+    Ok(Draft {
+        rows,
+        header,
+        patches: Vec::new(alloc),
+        votes: Edited::new(alloc, &rows.votes),
+        roles: Edited::new(alloc, &rows.roles),
+        comments: Vec::new(alloc),
+        attention: Edited::new(alloc, &rows.attention),
+    })
+}
