@@ -22,7 +22,7 @@ pub use attention::{Rule, Who, call_eligible, drop_called, tell};
 pub use comments::{Origin, answered, new_comments, of_number};
 pub use copying::{GroupTables, Parted, is_in, part_votes};
 pub use reasons::reason_of;
-pub use roles::{is_eligible, is_reviewer, review_roles, set_role};
+pub use roles::{is_eligible, is_reviewer, review_roles};
 pub use rules::{WhenAdded, WhenLost, WhenReady, WhenReviewed};
 pub use threads::posts;
 pub use votes::{drop_votes, give, put_all};

@@ -1,6 +1,6 @@
 //! A table with edits beside it that are noted and not made.
 ghost use Rattle.std.specs.{BTreeMap.is_at, List.list_any};
-ghost use Rattle.std.specs.Prelude.{◌≡◌, IfOk, IsSome, OnOk, map, true, option_copied, if◌then◌else◌};
+ghost use Rattle.std.specs.Prelude.{◌≡◌, IfOk, IsSome, None, OnOk, map, true, option_copied, if◌then◌else◌};
 ghost use Rattle.review_table.specs.{Edited.row_with, Rows.NamesOnce, Rows.place_at, Rows.row_edit_of, Rows.row_in, Rows.rows_of};
 
 use crate::table::{RowEdit, Table};
@@ -61,6 +61,26 @@ impl<'t, K: Key, V: Drop> Edited<'t, K, V> {
         Ok(keys)
     }
 
+    /// Notes that these keys are to have no row.
+    pub fn take_away(&mut self, keys: Vec<K>) -> Result<(), AllocError>
+        ensures table { self.new.rows ≡ self.old.rows }
+        ensures rows { OnOk result ((q : K) → row_with K.cmp self.new q ≡ (if list_any (is_at (K.cmp q)) keys.items then None else row_with K.cmp self.old q)) }
+    {
+        for key in keys {
+            self.set(key, None)?;
+        }
+        Ok(())
+    }
+
+    /// Notes that no key is to have a row.
+    pub fn clear(&mut self, alloc: Global) -> Result<(), AllocError>
+        ensures table { self.new.rows ≡ self.old.rows }
+        ensures rows { OnOk result ((q : K) → row_with K.cmp self.new q ≡ None) }
+    {
+        let keys = copied_keys(alloc, &self.keys(alloc)?)?;
+        self.take_away(keys)
+    }
+
     /// The edits, in the order of their keys.
     pub fn into_edits(self, alloc: Global) -> Result<Vec<RowEdit<K, V>>, AllocError>
         ensures edits { IfOk result (λ edits. (q : K) → row_edit_of K.cmp edits.items q ≡ place_at K.cmp self.entry.edits.entries q) }
@@ -72,4 +92,14 @@ impl<'t, K: Key, V: Drop> Edited<'t, K, V> {
         }
         Ok(edits)
     }
+}
+
+fn copied_keys<K: Key>(alloc: Global, keys: &[&K]) -> Result<Vec<K>, AllocError>
+    ensures { IfOk result (λ copies. copies.items ≡ map (λ k. k.now) keys.now) }
+{
+    let mut copies = Vec::with_capacity(alloc, keys.len())?;
+    for key in keys {
+        copies.push(key.copy(alloc)?)?;
+    }
+    Ok(copies)
 }
