@@ -1,12 +1,10 @@
 -- Rows by account, and who is called.
-use denote.Ref.{Bor}
-use Rattle.std.proofs.Common.{◌≡◌, ℕ, List, [], ◌∷◌, map, Option, Some, None, Bool, true, false, not, ◌&&◌, ◌||◌, refl, sym, ap, ◌∙◌, eqb-true, eq-eqb, arith}
+use Rattle.std.proofs.Common.{◌≡◌, ℕ, List, [], ◌∷◌, Option, Some, None, Bool, true, false, not, ◌&&◌, ◌||◌, refl, sym, ap, ◌∙◌, eqb-true, eq-eqb, arith}
 use Rattle.std.{proofs.lemmas.Bool.Decides.nat_tests, specs.BTreeMap.is_at}
-use Rattle.std.specs.{Cmp.unsigned_tied, List.list_any, List.filter, Map.Iter.deref_pair, Ordering.nat_cmp}
-use Rattle.std.specs.Prelude.{◌==◌, if◌then◌else◌, is_some}
-use Rattle.review_table.specs.Rows.{row_in}
+use Rattle.std.specs.{Cmp.unsigned_tied, List.list_any, List.filter, Ordering.nat_cmp}
+use Rattle.std.specs.Prelude.{◌==◌, if◌then◌else◌}
 use Rattle.review_core_rules.specs.{Change.kept_or, declared.rows.AttentionEntry.AttentionEntry, declared.rows.Why.Why}
-use Rattle.review_core_tables.proofs.InTurn.{Tells, at_sym}
+use Rattle.review_core_tables.proofs.{InTurn.Tells, InTurn.at_sym, VoteKeys.any_kept}
 use Rattle.review_core_tables.specs.inner.Words.{called_among}
 
 pub accounts_tell : Tells nat_cmp
@@ -15,20 +13,17 @@ accounts_tell = record {
   self = λ k. unsigned_tied k k ∙ eq-eqb k k refl;
 }
 
-some_where : {X : Type 0} (b : Bool) (x : X) (o : Option X) → is_some (if b then Some x else o) ≡ (b || is_some o)
-some_where true x o = refl
-some_where false x o = refl
+-- the accounts that have a row are those of some accounts that pass, where who has one is among these
+pub has_row : (p : ℕ → Bool) (u : ℕ) (xs : List ℕ) → (p u ≡ true → list_any (is_at (nat_cmp u)) xs ≡ true) → list_any (λ x. x == u) (filter p xs) ≡ p u
+has_row p u xs all = sym (any_same (filter p xs)) ∙ (any_kept accounts_tell p u xs ∙ both (p u) (list_any (is_at (nat_cmp u)) xs) all)
+  where
+    any_same : (ys : List ℕ) → list_any (is_at (nat_cmp u)) ys ≡ list_any (λ x. x == u) ys
+    any_same [] = refl
+    any_same (y ∷ ys) = λ i. (at_sym accounts_tell u y ∙ unsigned_tied y u) i || any_same ys i
 
--- who has a row
-pub has_row : {X : Type 0} (rows : List (ℕ × X)) (u : ℕ) → list_any (λ x. x == u) (map (λ e. e.0) rows) ≡ is_some (row_in nat_cmp rows u)
-has_row [] u = refl
-has_row (e ∷ rows) u =
-    (λ i. (sym (unsigned_tied e.0 u) ∙ at_sym accounts_tell e.0 u) i || has_row rows u i)
-    ∙ sym (some_where (is_at (nat_cmp u) e.0) e.1 (row_in nat_cmp rows u))
-
-pub keys_now : {X : Type 0} (rows : List (Bor ℕ × Bor X)) → map (λ e. e.0.now) rows ≡ map (λ e. e.0) (map deref_pair rows)
-keys_now [] = refl
-keys_now (e ∷ rows) = ap (λ ks. e.0.now ∷ ks) (keys_now rows)
+    both : (b any : Bool) → (b ≡ true → any ≡ true) → (b && any) ≡ b
+    both true any all = all refl
+    both false any all = refl
 
 -- all but the caller
 pub any_but : (caller u : ℕ) (xs : List ℕ) → list_any (λ x. x == u) (filter (λ x. not (x == caller)) xs) ≡ (list_any (λ x. x == u) xs && not (caller == u))

@@ -1,15 +1,13 @@
 -- Votes by their keys.
-use Rattle.std.proofs.Common.{◌≡◌, ℕ, ℤ, pos, List, Option, Some, None, Bool, true, false, not, ◌&&◌, refl, sym, ap, ◌∙◌, eqb-true, eq-eqb, int_eq, unwrap_or, ⊎_elim}
+use Rattle.std.proofs.Common.{◌≡◌, ℕ, ℤ, pos, List, [], ◌∷◌, Option, Some, None, Bool, true, false, not, ◌&&◌, ◌||◌, refl, sym, ap, ◌∙◌, eqb-true, eq-eqb, int_eq, ⊎_elim}
 use Rattle.std.proofs.lemmas.Bool.{cases_Bool, and_parts, and_from, Decides.Decides-int_eq}
 use Rattle.std.proofs.lemmas.{Map.Text.is_eq-slice_cmp, Slice.Eq.bytes_eq-Decides}
-use Rattle.std.specs.{BTreeMap.is_at, Cmp.tied_then, Cmp.unsigned_tied, Cmp.Lexicographic.slice_cmp, List.filter}
-use Rattle.std.specs.{List.Sorted.IsStrictlySortedBy, Map.keys_of, Ordering.nat_cmp, Ordering.ordering_then}
-use Rattle.std.specs.{Prelude.◌==◌, Prelude.if◌then◌else◌, Str.bytes_eq}
-use Rattle.review_table.specs.Rows.{row_in, rows_of}
-use Rattle.review_core_rules.specs.Seen.{Votes, vote_cmp, value_of, vote_in}
-use Rattle.review_core_rules.specs.{Votes.voted, declared.rows.VoteKey.VoteKey}
-use Rattle.review_core_tables.proofs.InTurn.{Tells, put_filtered}
-use Rattle.review_core_tables.specs.{Tables.put_in, inner.Words.is_vote, inner.Words.is_of, inner.Words.or_else}
+use Rattle.std.specs.{BTreeMap.is_at, Cmp.tied_then, Cmp.unsigned_tied, Cmp.Lexicographic.slice_cmp}
+use Rattle.std.specs.{List.filter, List.list_any, Option.IsSome, Ordering.nat_cmp, Ordering.ordering_then}
+use Rattle.std.specs.{Prelude.◌==◌, Prelude.if◌then◌else◌, Str.bytes_eq, declared.cmp.Ordering.Ordering}
+use Rattle.review_core_rules.specs.{Seen.vote_cmp, Seen.value_of, Votes.voted, declared.rows.VoteKey.VoteKey}
+use Rattle.review_core_tables.proofs.InTurn.{Tells}
+use Rattle.review_core_tables.specs.inner.Words.{is_vote, is_of}
 
 -- two keys of votes are the same
 pub vote_tied : (k : VoteKey) (n : ℕ) (l : List ℕ) (a : ℕ) → is_at (vote_cmp k) (record { patch = n; label = l; account = a }) ≡ is_vote k n l a
@@ -21,17 +19,16 @@ value_where : (b : Bool) (x y : Option ℤ) → value_of (if b then x else y) �
 value_where true x y = refl
 value_where false x y = refl
 
--- one vote is put or taken away
-pub vote_set : (k : VoteKey) (o : Option ℤ) (new old : Votes) →
-    ((q : VoteKey) → row_in vote_cmp (rows_of new) q ≡ (if is_at (vote_cmp k) q then o else row_in vote_cmp (rows_of old) q)) →
-    (n : ℕ) (l : List ℕ) (a : ℕ) → vote_in new n l a ≡ (if is_vote k n l a then value_of o else vote_in old n l a)
-vote_set k o new old is n l a =
-    ap value_of (is (record { patch = n; label = l; account = a }))
-    ∙ (value_where (is_at (vote_cmp k) (record { patch = n; label = l; account = a })) o (row_in vote_cmp (rows_of old) (record { patch = n; label = l; account = a }))
-    ∙ ap (λ b. if b then value_of o else vote_in old n l a) (vote_tied k n l a))
-
 abbrev pub vote_key : ℕ → List ℕ → ℕ → VoteKey
 vote_key n l a = record { patch = n; label = l; account = a }
+
+-- one vote is put or taken away
+pub vote_set : (k : VoteKey) (o : Option ℤ) (new old : VoteKey → Option ℤ) → ((q : VoteKey) → new q ≡ (if is_at (vote_cmp k) q then o else old q)) →
+    (n : ℕ) (l : List ℕ) (a : ℕ) → value_of (new (vote_key n l a)) ≡ (if is_vote k n l a then value_of o else value_of (old (vote_key n l a)))
+vote_set k o new old is n l a =
+    ap value_of (is (vote_key n l a))
+    ∙ (value_where (is_at (vote_cmp k) (vote_key n l a)) o (old (vote_key n l a))
+    ∙ ap (λ b. if b then value_of o else value_of (old (vote_key n l a))) (vote_tied k n l a))
 
 pub votes_tell : Tells vote_cmp
 votes_tell = record {
@@ -47,35 +44,58 @@ votes_tell = record {
       (and_from (bytes_eq k.label k.label) (k.account == k.account) ((bytes_eq-Decides k.label k.label).1 refl) (eq-eqb k.account k.account refl));
 }
 
-or_none : {X : Type 0} (o : Option X) → or_else o None ≡ o
-or_none None = refl
-or_none (Some x) = refl
+value_same : (b : Bool) (v w : ℤ) → (b ≡ true → w ≡ v) → w ≡ (if b then v else w)
+value_same true v w same = same refl
+value_same false v w same = refl
 
-value_dropped : (b : Bool) (o : Option ℤ) → value_of (if not b then or_else o None else None) ≡ (if b then pos 0 else value_of o)
-value_dropped true o = refl
-value_dropped false o = ap value_of (or_none o)
+-- a vote that has its value already
+pub vote_stays : (k : VoteKey) (v : ℤ) (old : VoteKey → Option ℤ) → value_of (old k) ≡ v → (n : ℕ) (l : List ℕ) (a : ℕ) → value_of (old (vote_key n l a)) ≡ (if is_vote k n l a then v else value_of (old (vote_key n l a)))
+vote_stays k v old is n l a = value_same (is_vote k n l a) v (value_of (old (vote_key n l a))) (λ here. ap (λ q. value_of (old q)) (sym (votes_tell.same k (vote_key n l a) (vote_tied k n l a ∙ here))) ∙ is)
+
+and_no : (b : Bool) → false ≡ (b && false)
+and_no true = refl
+and_no false = refl
+
+any_where : {K : Type 0} (test : K → Bool) (b : Bool) (k : K) (ks : List K) → list_any test (if b then k ∷ ks else ks) ≡ (if b then test k || list_any test ks else list_any test ks)
+any_where test true k ks = refl
+any_where test false k ks = refl
+
+kept_step : (b here passes kept rest : Bool) → (here ≡ true → passes ≡ b) → kept ≡ (passes && rest) → (if b then here || kept else kept) ≡ (passes && (here || rest))
+kept_step true true passes kept rest same ih = ap (λ x. x && true) (sym (same refl))
+kept_step true false passes kept rest same ih = ih
+kept_step false true passes kept rest same ih = ih ∙ (ap (λ x. x && rest) (same refl) ∙ ap (λ x. x && true) (sym (same refl)))
+kept_step false false passes kept rest same ih = ih
+
+-- a key is among those that pass a test where it passes and is among all
+pub any_kept : {K : Type 0} {R : K → K → Ordering} → Tells R → (p : K → Bool) (q : K) (ks : List K) → list_any (is_at (R q)) (filter p ks) ≡ (p q && list_any (is_at (R q)) ks)
+any_kept t p q [] = and_no (p q)
+any_kept {R = R} t p q (k ∷ ks) =
+    any_where (is_at (R q)) (p k) k (filter p ks)
+    ∙ kept_step (p k) (is_at (R q) k) (p q) (list_any (is_at (R q)) (filter p ks)) (list_any (is_at (R q)) ks) (λ h. ap p (t.same q k h)) (any_kept t p q ks)
 
 -- the votes but those of an account on a patch set
-pub votes_dropped : (patch account : ℕ) (votes after : Votes) → IsStrictlySortedBy vote_cmp (keys_of (rows_of votes)) →
-    ((q : VoteKey) → row_in vote_cmp (rows_of after) q ≡ put_in vote_cmp (filter (λ e. not (is_of patch account e.0)) (rows_of votes)) q None) →
-    (n : ℕ) (l : List ℕ) (a : ℕ) → vote_in after n l a ≡ (if (patch == n) && (account == a) then pos 0 else vote_in votes n l a)
-votes_dropped patch account votes after sorted is n l a =
-    ap value_of (is (vote_key n l a) ∙ put_filtered votes_tell (λ k. not (is_of patch account k)) (rows_of votes) sorted (vote_key n l a) None)
-    ∙ value_dropped ((patch == n) && (account == a)) (row_in vote_cmp (rows_of votes) (vote_key n l a))
+pub votes_dropped : (patch account : ℕ) (keys : List VoteKey) (new old : VoteKey → Option ℤ) →
+    ((q : VoteKey) → is_of patch account q ≡ true → IsSome (old q) → list_any (is_at (vote_cmp q)) keys ≡ true) → ((q : VoteKey) → is_of patch account q ≡ false → list_any (is_at (vote_cmp q)) keys ≡ false) →
+    ((q : VoteKey) → new q ≡ (if list_any (is_at (vote_cmp q)) keys then None else old q)) →
+    (n : ℕ) (l : List ℕ) (a : ℕ) → value_of (new (vote_key n l a)) ≡ (if is_of patch account (vote_key n l a) then pos 0 else value_of (old (vote_key n l a)))
+votes_dropped patch account keys new old all only is n l a =
+    let q = vote_key n l a in
+    ap value_of (is q) ∙ by (is_of patch account q) (list_any (is_at (vote_cmp q)) keys) (old q) (all q) (only q)
+  where
+    by : (b any : Bool) (o : Option ℤ) → (b ≡ true → IsSome o → any ≡ true) → (b ≡ false → any ≡ false) → value_of (if any then None else o) ≡ (if b then pos 0 else value_of o)
+    by true true o there none = refl
+    by true false None there none = refl
+    by true false (Some v) there none = absurd (let no : false ≡ true = there refl refl in cc)
+    by false true o there none = absurd (let no : true ≡ false = none refl in cc)
+    by false false o there none = refl
 
--- a value that is a vote, or none
-pub none_voted : (v : ℤ) → (if voted v then Some v else None) ≡ None → pos 0 ≡ v
-none_voted v h = ⊎_elim
-    (λ (e : voted v ≡ true). let f : (if voted v then Some v else None) ≡ Some v = rw e refl in let g : Some v ≡ None = sym f ∙ h in absurd (cc))
-    (λ (e : voted v ≡ false). sym ((Decides-int_eq v (pos 0)).0 (untrue (int_eq v (pos 0)) e)))
+-- the value of a vote that is made of a value
+pub value_voted : (v : ℤ) → value_of (if voted v then Some v else None) ≡ v
+value_voted v = ⊎_elim
+    (λ (e : voted v ≡ true). rw e refl)
+    (λ (e : voted v ≡ false). rw e (sym ((Decides-int_eq v (pos 0)).0 (untrue (int_eq v (pos 0)) e))))
     (cases_Bool (voted v))
   where
     untrue : (b : Bool) → not b ≡ false → b ≡ true
     untrue true e = refl
     untrue false e = absurd (let f : true ≡ false = e in cc)
-
-pub some_voted : (v w : ℤ) → (if voted v then Some v else None) ≡ Some w → w ≡ v
-some_voted v w h = ⊎_elim
-    (λ (e : voted v ≡ true). let f : (if voted v then Some v else None) ≡ Some v = rw e refl in let g : Some w ≡ Some v = sym h ∙ f in ap (λ o. unwrap_or o v) g)
-    (λ (e : voted v ≡ false). let f : (if voted v then Some v else None) ≡ None = rw e refl in let g : Some w ≡ None = sym h ∙ f in absurd (cc))
-    (cases_Bool (voted v))

@@ -57,6 +57,12 @@ fn call_all<R: Rule>(
     Ok(())
 }
 
+fn has_role(roles: &Edited<'_, AccountNo, Role>, account: AccountNo) -> bool
+    ensures { result ≡ is_some (for_account roles.now account) }
+{
+    roles.get(&account).is_some()
+}
+
 /// The owner, the current uploader and who has a role.
 fn eligible_accounts(
     alloc: Global,
@@ -69,9 +75,10 @@ fn eligible_accounts(
     let mut accounts = Vec::new(alloc);
     accounts.push(owner)?;
     accounts.push(uploader)?;
-    for account in roles.keys(alloc)? {
-        if roles.get(account).is_some() {
-            accounts.push(*account)?;
+    let keys = roles.keys(alloc)?;
+    for account in &keys {
+        if has_role(roles, **account) {
+            accounts.push(**account)?;
         }
     }
     Ok(accounts)

@@ -1,7 +1,7 @@
 //! The votes of a change in the making.
-ghost use Rattle.std.specs.List.{All, list_any};
+ghost use Rattle.std.specs.List.{list_any};
 ghost use Rattle.std.specs.Ordering.{int_eq};
-ghost use Rattle.std.specs.Prelude.{◌≡◌, ◌==◌, option_copied, ◌&&◌, ℕ, ℤ, pos, true, List, IfOk, IsSome, OnOk, if◌then◌else◌};
+ghost use Rattle.std.specs.Prelude.{◌≡◌, ◌==◌, option_copied, ◌&&◌, ℕ, ℤ, pos, true, false, List, IfOk, IsSome, OnOk, if◌then◌else◌};
 ghost use Rattle.std.specs.BTreeMap.{is_at};
 ghost use Rattle.review_table.specs.Edited.{row_with};
 ghost use Rattle.review_core_rules.specs.{Change.given_or, EditedRows.vote_for, Seen.value_of, Seen.vote_cmp};
@@ -75,12 +75,13 @@ fn keys_of(
     account: AccountNo,
 ) -> Result<Vec<VoteKey>, AllocError>
     ensures all { IfOk result (λ keys. (q : VoteKey) → is_of patch account q ≡ true → IsSome (row_with vote_cmp votes.now q) → list_any (is_at (vote_cmp q)) keys.items ≡ true) }
-    ensures only { IfOk result (λ keys. All (λ k. is_of patch account k ≡ true) keys.items) }
+    ensures only { IfOk result (λ keys. (q : VoteKey) → is_of patch account q ≡ false → list_any (is_at (vote_cmp q)) keys.items ≡ false) }
 {
     let mut keys = Vec::new(alloc);
-    for key in votes.keys(alloc)? {
+    let all = votes.keys(alloc)?;
+    for key in &all {
         if is_of(key, patch, account) {
-            keys.push(Key::copy(key, alloc)?)?;
+            keys.push(Key::copy(*key, alloc)?)?;
         }
     }
     Ok(keys)
