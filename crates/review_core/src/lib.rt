@@ -1,8 +1,8 @@
 //! One change: a [`ChangeFile`] has the rows of a change, which fit together, and a call for each request makes of it the change that the
 //! definitions in `review_core_rules` say.
 //!
-//! `ChangeFile::begin` makes a new change, `from_rows` takes stored rows and refuses those that don't fit together, and `rows` gives them
-//! back. `with_patch_set` copies votes by the file and the groups before the upload, and counts the copied and the lost ones;
+//! [`begun`] makes the rows of a new change, `from_rows` takes stored rows and refuses those that don't fit together, and `rows` gives them
+//! back. Each request is noted beside the rows, as a `Draft`: nothing is copied but what it edits. `with_patch_set` copies votes by the file and the groups before the upload, and counts the copied and the lost ones;
 //! `with_review`, `with_reviewer`, `without_reviewer`, `wip`, `ready`, `abandon`, `restore`, `attend`, `unattend` and `merged` are the
 //! other requests.
 //!
@@ -25,6 +25,7 @@ mod sound;
 mod states;
 mod uploading;
 
+pub use beginning::begun;
 pub use file::{ChangeFile, RowsFault};
 pub use review_core_rules::{
     AttentionEntry, ChangeRows, Comment, CommentRow, Header, PatchRow, Vote, VoteKey,

@@ -3,15 +3,13 @@ ghost use Rattle.std.specs.Prelude.{◌≡◌, ◌==◌, ◌&&◌, ◌||◌, not
 ghost use Rattle.review_names.specs.Forms.{is_within, most_patches};
 ghost use Rattle.review_words.specs.declared.command.ChangeCommand.TheVariants.{AddReviewer, RemoveReviewer};
 ghost use Rattle.review_core_rules.specs.Change.{after_plain, current, is_open, is_reviewer, last_uploader};
-ghost use Rattle.review_core_rules.specs.Seen.{seen};
+ghost use Rattle.review_core_rules.specs.{Drafts.drafted, Seen.seen};
 ghost use Rattle.review_core_tables.specs.declared.attention.Who.{Who};
 
 use crate::states::is_open;
-use review_core_rules::{ChangeRows, Header, PatchRow};
+use review_core_rules::{ChangeRows, Draft, Header, PatchRow, drafted};
 use review_core_standing::last_uploader;
-use review_core_tables::{
-    WhenAdded, Who, call_eligible, drop_called, drop_votes, is_reviewer, set_role,
-};
+use review_core_tables::{WhenAdded, Who, call_eligible, drop_called, drop_votes, is_reviewer};
 use review_words::{AccountNo, PatchNo, Role, State};
 use std::alloc::{AllocError, Global};
 
@@ -45,19 +43,19 @@ fn calls_reviewer(role: Role, state: State) -> bool
 }
 
 /// A role for an account.
-pub fn with_reviewer(
+pub fn with_reviewer<'r>(
     alloc: Global,
-    rows: ChangeRows,
+    rows: &'r ChangeRows,
     account: AccountNo,
     role: Role,
     caller: AccountNo,
     request: u64,
-) -> Result<ChangeRows, AllocError>
-    ensures { IfOk result (λ new. seen new ≡ after_plain (AddReviewer account role) caller request (seen rows)) }
+) -> Result<Draft<'r>, AllocError>
+    ensures rows { IfOk result (λ new. new.rows ≡ rows.entry) }
+    ensures made { IfOk result (λ new. drafted new ≡ after_plain (AddReviewer account role) caller request (seen rows.now)) }
 {
-    let mut rows = rows;
-    set_role(&mut rows.roles, account, Some(role))?;
-    rows.header.updated = request;
+    let mut draft = drafted(alloc, rows, request)?;
+    draft.roles.set(account, Some(role))?;
     let who = who_for(&rows.header, &rows.patches, caller);
     let rule = WhenAdded {
         account,
@@ -65,13 +63,13 @@ pub fn with_reviewer(
     };
     call_eligible(
         alloc,
-        &mut rows.attention,
-        &rows.roles,
+        &mut draft.attention,
+        &draft.roles,
         &who,
         &rule,
         request,
     )?;
-    Ok(rows)
+    Ok(draft)
 }
 
 fn is_other(account: AccountNo, owner: AccountNo, uploader: AccountNo) -> bool
@@ -81,23 +79,23 @@ fn is_other(account: AccountNo, owner: AccountNo, uploader: AccountNo) -> bool
 }
 
 /// No role for an account any more, and no votes on the current patch set.
-pub fn without_reviewer(
+pub fn without_reviewer<'r>(
     alloc: Global,
-    rows: ChangeRows,
+    rows: &'r ChangeRows,
     account: AccountNo,
     caller: AccountNo,
     request: u64,
-) -> Result<ChangeRows, AllocError>
-    requires { is_within most_patches (current (seen rows)) ≡ true }
-    ensures { IfOk result (λ new. seen new ≡ after_plain (RemoveReviewer account) caller request (seen rows)) }
+) -> Result<Draft<'r>, AllocError>
+    requires { is_within most_patches (current (seen rows.now)) ≡ true }
+    ensures rows { IfOk result (λ new. new.rows ≡ rows.entry) }
+    ensures made { IfOk result (λ new. drafted new ≡ after_plain (RemoveReviewer account) caller request (seen rows.now)) }
 {
-    let mut rows = rows;
-    rows.header.updated = request;
+    let mut draft = drafted(alloc, rows, request)?;
     let who = who_for(&rows.header, &rows.patches, caller);
     let patch = current_patch(&rows.patches);
-    set_role(&mut rows.roles, account, None)?;
+    draft.roles.set(account, None)?;
     let is_gone = is_other(account, who.owner, who.uploader);
-    drop_called(&mut rows.attention, account, is_gone);
-    rows.votes = drop_votes(alloc, rows.votes, patch, account)?;
-    Ok(rows)
+    drop_called(&mut draft.attention, account, is_gone)?;
+    drop_votes(alloc, &mut draft.votes, patch, account)?;
+    Ok(draft)
 }

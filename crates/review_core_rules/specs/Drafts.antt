@@ -1,6 +1,7 @@
 -- A change in the making.
-use Rattle.std.specs.Prelude.{◌++◌}
-use Rattle.review_core_rules.specs.{Change.Change, EditedRows.for_account, EditedRows.vote_for, declared.draft.Draft.Draft}
+use Rattle.std.specs.Prelude.{◌≡◌, ◌++◌, []}
+use Rattle.review_core_rules.specs.{Change.Change, EditedRows.for_account, EditedRows.vote_for, Sound.IsSound}
+use Rattle.review_core_rules.specs.declared.{draft.Draft.Draft, rows.ChangeRows.ChangeRows}
 
 -- the change that is made
 abbrev pub drafted : Draft → Change
@@ -19,3 +20,16 @@ drafted d = record {
   comments = d.rows.now.comments.items ++ d.comments.items;
   attention = for_account d.attention;
 }
+
+-- a draft over these rows makes this change, which is sound
+pub record Makes (rows : ChangeRows) (change : Change) (d : Draft) : Type 0 where
+  pub over : d.rows.now ≡ rows
+  pub made : drafted d ≡ change
+  pub sound : IsSound change
+
+-- rows with patch sets alone
+pub record IsBare (rows : ChangeRows) : Type 0 where
+  pub votes : rows.votes ≡ []
+  pub roles : rows.roles ≡ []
+  pub comments : rows.comments.items ≡ []
+  pub attention : rows.attention ≡ []

@@ -9,7 +9,7 @@ use Rattle.review_core_rules.specs.declared.rows.{PatchRow.PatchRow, Why.TheVari
 use Rattle.review_core_tables.proofs.{Copied.votes_carried, Copied.lost_is, Counted.many_copied, Counted.many_lost}
 use Rattle.review_core_tables.specs.Copies.{copies_by, group_list, has_lost, with_groups}
 use Rattle.review_core_tables.specs.{Tables.put_in, declared.attention.Who.Who}
-use Rattle.review_core.proofs.uploading.add_patch_set.Goals as goal
+use Rattle.review_core.proofs.uploading.with_patch_set.Goals as goal
 
 pub returns : goal.returns
 returns c =

@@ -1,30 +1,30 @@
 use Rattle.std.proofs.Common.{◌≡◌, ℕ, ◌==◌, ◌&&◌, ◌||◌, ◌++◌, not, ◌∙◌, ap, length, map, None}
 use Rattle.std.specs.Prelude.{if◌then◌else◌, unwrap_or, is_some}
 use Rattle.review_core_rules.specs.Change.{last_uploader, reviewed, given_or, stored_as, said, new_comments, posts, kept_or, why_replied, why_commented, writer_role, is_open}
-use Rattle.review_core_rules.specs.Seen.{seen, vote_in, of_account}
+use Rattle.review_core_rules.specs.{EditedRows.for_account, Seen.seen, Seen.of_account}
 use Rattle.review_core_tables.specs.declared.attention.Who.{Who}
-use Rattle.review_core.proofs.reviewing.review_rows.Goals as goal
+use Rattle.review_core.proofs.reviewing.with_review.Goals as goal
 
-pub returns : goal.returns
-returns c =
+pub returns-clause-made : goal.returns-clause-made
+returns-clause-made c =
     let rows = c.args.rows.now in
     let r = c.args.review.now in
     let caller = c.args.caller in
+    let same = c.in_ok-draft.ensures.same in
     let n : c.reviewed_patch-patch.result ≡ reviewed r (seen rows) = c.reviewed_patch-patch.ensures ∙ ap (λ ps. unwrap_or r.patch (length ps)) c.deref-2.ensures.value in
-    let new : c.in_ok-new.new.items ≡ new_comments r caller c.args.request (seen rows) =
-    c.in_ok-new.ensures ∙ (λ i. map (stored_as (c.deref-3.ensures.value i) (n i) caller c.args.request) (said r)) in
+    let new : c.in_ok-new_comments.new_comments.items ≡ new_comments r caller c.args.request (seen rows) =
+    c.in_ok-new_comments.ensures ∙ (λ i. map (stored_as (c.deref-3.ensures.value i) (n i) caller c.args.request) (said r)) in
     let stored : c.in_ok-stored.stored.items ≡ posts rows.comments.items = c.in_ok-stored.ensures ∙ ap posts c.deref-4.ensures.value in
     let whole : Who = record { owner = rows.header.owner; uploader = last_uploader rows.header.owner rows.patches.items; caller = caller; wip = rows.header.wip } in
     let who : c.who_for-who.result ≡ whole = c.who_for-who.ensures ∙ (λ i. record whole { uploader = last_uploader rows.header.owner (c.deref.ensures.value i) }) in
-    let role : (u : ℕ) → of_account c.review_roles.new.roles u ≡ (if caller == u then writer_role r rows.header.owner caller (of_account rows.roles caller) else of_account rows.roles u) =
-    λ u. c.in_ok-review_roles.ensures u ∙ (λ j. if caller == u then writer_role r (who j).owner caller (of_account rows.roles caller) else of_account rows.roles u) in
-    λ i. record (seen rows) {
-      updated = c.args.request;
-      vote = λ m l a. (c.in_ok-give.ensures m l a ∙ (λ j. if (n j == m) && (caller == a) then given_or (c.as_slice-labels.ensures.given j) l (vote_in rows.votes m l a) else vote_in rows.votes m l a)) i;
+    let role : (u : ℕ) → for_account c.review_roles.new.roles u ≡ (if caller == u then writer_role r rows.header.owner caller (of_account rows.roles caller) else of_account rows.roles u) =
+    λ u. c.in_ok-review_roles.ensures.roles u ∙ (λ j. if caller == u then writer_role r (who j).owner caller ((same j).role caller) else (same j).role u) in
+    λ i. record (same i) {
+      vote = λ m l a. (c.in_ok-give.ensures.votes m l a ∙ (λ j. if (n j == m) && (caller == a) then given_or (c.as_slice-labels.ensures.given j) l ((same j).vote m l a) else (same j).vote m l a)) i;
       role = λ u. role u i;
-      comments = (c.in_ok-append.ensures.items ∙ ap (λ xs. rows.comments.items ++ xs) new) i;
-      attention = λ u. (c.in_ok-call_reviewed.ensures u ∙ (λ j.
-          kept_or (if ((who j).caller == u) && (not (is_open rows.header.state) || not (who j).wip) then None else of_account rows.attention u)
+      comments = ap (λ xs. rows.comments.items ++ xs) new i;
+      attention = λ u. (c.in_ok-call_reviewed.ensures.called u ∙ (λ j.
+          kept_or (if ((who j).caller == u) && (not (is_open rows.header.state) || not (who j).wip) then None else (same j).attention u)
           (if (((who j).owner == u) || (((who j).uploader == u) || is_some (role u j))) && (not ((who j).caller == u) && not (who j).wip)
           then (if is_open rows.header.state
           then why_replied ((c.deref-5.ensures.value ∙ stored) j) (c.as_slice-given.ensures.comments j) (who j).caller (who j).owner (who j).uploader u
