@@ -17,6 +17,11 @@ use Rattle.review_sql.specs.declared.loading.Ended.TheVariants as ended
 abbrev pub Have : Rows → Counts → Counts → Trees → Unit {0} → Type 0
 Have rows before more db u = AreBounded before (tables_at db) → Agrees (tables_at db) rows × AreBounded more (tables_at db)
 
+-- the look-up of a group's members
+pub is_group : (w : Want) (group : List ℕ) → Some group ≡ group_of w → w ≡ want.Group group
+is_group (want.Group g) group is = ap want.Group (sym (same_Some group g is))
+is_group w group is = absurd (cc)
+
 -- a look-up that isn't of a count leaves what is known of them
 pub beside : {X : Type 0} (F : Trees → X → Type 0) (counts : Counts) (a b : State) (r : Result X Error) → Looks F a b r → Looks (λ db x. AreBounded counts (tables_at db) → F db x × AreBounded counts (tables_at db)) a b r
 beside F counts a b (Ok x) it = record { found = λ clean on ready. let f = it.found clean on ready in (f.0, f.1, λ bounded. (f.2, bounded)); kept = it.kept; survives = it.survives }

@@ -87,12 +87,7 @@ fn learnt(learning: Result<(), AllocError>) -> Ended
 }
 
 // Rows learn what was found, but for that of a group.
-fn put_found(
-    alloc: Global,
-    want: &Want,
-    found: Found,
-    rows: &mut Rows,
-) -> Result<(), AllocError>
+fn put_found(alloc: Global, want: &Want, found: Found, rows: &mut Rows) -> Result<(), AllocError>
     requires plain { group_of want.now ≡ None }
     ensures { OnOk result (Learns want.now (meaning found) rows.old rows.new) }
 {
