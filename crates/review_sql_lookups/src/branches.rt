@@ -41,7 +41,8 @@ fn tell_requests(found: Option<Option<DeskRow>>, counts: &mut Counts) -> Sight
             counts.learn_requests(row.requests);
             Sight::Found(Found::Number(row.requests))
         }
-        Some(None) | None => Sight::Damaged,
+        Some(None) => Sight::Damaged,
+        None => Sight::Damaged,
     }
 }
 

@@ -16,7 +16,7 @@ returns-in-Some-None c = λ db is bounded.
     let odd : c.args.found ≡ Some None = search rules in
     (desk_damaged db (ap (number_of (λ (d : DeskRow). d.version)) (sym is ∙ odd)), bounded)
 
-pub returns-in-Some-None-2 : goal.returns-in-Some-None-2
-returns-in-Some-None-2 c = λ db is bounded.
+pub returns-in-None : goal.returns-in-None
+returns-in-None c = λ db is bounded.
     let none : c.args.found ≡ None = search rules in
     (desk_damaged db (ap (number_of (λ (d : DeskRow). d.version)) (sym is ∙ none)), bounded)
