@@ -1,5 +1,5 @@
 -- What look-ups tell of tables.
-use Rattle.std.proofs.Common.{◌≡◌, ◌∙◌, ◌⊎◌, ◌<◌, ◌&&◌, ℕ, zero, pos, List, [], ◌∷◌, Option, Some, None, option_map, Result, Ok, Err, OnOk, refl, sym, ap, subst, cond, Bool, true, false, inl, inr, filter, is_gt, is_some, suc, int_lt, arith}
+use Rattle.std.proofs.Common.{◌≡◌, ◌∙◌, ◌⊎◌, ◌<◌, ◌&&◌, ℕ, zero, pos, List, [], ◌∷◌, Option, Some, None, option_map, refl, sym, ap, subst, cond, Bool, true, false, inl, inr, filter, is_gt, is_some, suc, int_lt, arith}
 use Rattle.std.proofs.lemmas.Bool.{lt-ltb, cases_Bool, and_from, and_parts, both_ways, Decides.leb_tells}
 use Rattle.std.proofs.lemmas.{Cmp.nat_list_eq_equiv, Option.same_Some}
 use Rattle.std.specs.{Ordering.nat_cmp, Ordering.int_cmp, Ordering.is_eq, Str.bytes_eq, Str.is_utf8}

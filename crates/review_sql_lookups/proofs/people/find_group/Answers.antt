@@ -1,4 +1,4 @@
-use Rattle.std.proofs.Common.{Option, List, ℕ, option_map, Ok, ◌≡◌, Some, None}
+use Rattle.std.proofs.Common.{Option, List, ℕ, option_map, Ok, Some, None}
 use Rattle.std.specs.Ordering.{nat_cmp}
 use Rattle.sqlite.specs.Held.{state}
 use Rattle.sqlite_trees.specs.Tree.{Trees}
