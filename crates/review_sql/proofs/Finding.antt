@@ -1,16 +1,17 @@
 -- Look-ups one after the other.
-use Rattle.std.proofs.Common.{◌≡◌, ◌∙◌, inl, inr, ℕ, ◌+◌, ◌<◌, Bool, true, false, List, take, get_or, length, None, Result, Ok, Err, refl, sym, subst, OnOk}
-use Rattle.std.specs.declared.alloc.AllocError.{AllocError}
+use Rattle.std.proofs.Common.{Some, ap, ◌≡◌, ◌∙◌, inl, inr, ℕ, ◌+◌, ◌<◌, Bool, true, false, List, take, get_or, length, None, Result, Ok, Err, refl, sym, subst, OnOk}
+use Rattle.std.{proofs.lemmas.Option.same_Some, specs.declared.alloc.AllocError.AllocError}
 use Rattle.sqlite.specs.{Held.Held, Held.state, State.State, declared.error.Error.Error}
 use Rattle.sqlite_trees.specs.{Tree.Trees, declared.store.Store.Ghosts}
 use Rattle.review_sql_tables.{proofs.Found.look_on, proofs.Found.look_both, specs.Ran.Looks}
 use Rattle.review_machine_rows.proofs.Looked.{asked_more, looked_agrees}
-use Rattle.review_machine_rows.specs.Known.{AreAsked, Agrees, known, Found, IsFound, Learns}
+use Rattle.review_machine_rows.specs.Known.{group_of, AreAsked, Agrees, known, Found, IsFound, Learns}
 use Rattle.review_machine_rows.specs.declared.rows.{Rows.Rows, Want.Want}
 use Rattle.review_sql_lookups.specs.{Counts.AreBounded, Counts.SeesBounded, Loads.Sees, Tables.tables_at}
 use Rattle.review_sql_lookups.specs.declared.{counts.Counts.Counts, sights.Sight.Sight}
 use Rattle.review_sql.specs.Loading.{HasLearnt, LearnsBounded, LearnsSeen, LooksIf, LooksOnce, WereSeen, learnt_by}
 use Rattle.review_sql.specs.declared.loading.Ended.{Ended}
+use Rattle.review_machine_rows.specs.declared.rows.Want.TheVariants as want
 use Rattle.review_sql.specs.declared.loading.Ended.TheVariants as ended
 
 -- what rows know is so, and what is known of counts, where what was known is so
@@ -21,11 +22,6 @@ Have rows before more db u = AreBounded before (tables_at db) → Agrees (tables
 pub is_group : (w : Want) (group : List ℕ) → Some group ≡ group_of w → w ≡ want.Group group
 is_group (want.Group g) group is = ap want.Group (sym (same_Some group g is))
 is_group w group is = absurd (cc)
-
--- a look-up that isn't of a count leaves what is known of them
-pub beside : {X : Type 0} (F : Trees → X → Type 0) (counts : Counts) (a b : State) (r : Result X Error) → Looks F a b r → Looks (λ db x. AreBounded counts (tables_at db) → F db x × AreBounded counts (tables_at db)) a b r
-beside F counts a b (Ok x) it = record { found = λ clean on ready. let f = it.found clean on ready in (f.0, f.1, λ bounded. (f.2, bounded)); kept = it.kept; survives = it.survives }
-beside F counts a b (Err e) it = record { found = λ _ _ _. tt; kept = it.kept; survives = it.survives }
 
 -- rows learnt what was found, or there was no memory for it
 pub learnt_seen : (w : Want) (f : Found) (old new : Rows) (db : Trees) (r : Result (Unit {0}) AllocError) → OnOk r (Learns w f old new) → IsFound (tables_at db) w f → LearnsSeen w old new db (learnt_by r)

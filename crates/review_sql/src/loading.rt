@@ -4,7 +4,7 @@ ghost use Rattle.sqlite.specs.Held.{state};
 ghost use Rattle.sqlite_trees.specs.Tree.{Trees};
 ghost use Rattle.review_table.specs.Rows.{rows_of};
 ghost use Rattle.review_sql_tables.specs.Ran.{Looks, Serves};
-ghost use Rattle.review_machine_rows.specs.Known.{AreAsked, HasMembers, Learns, Members, group_of, known, meaning};
+ghost use Rattle.review_machine_rows.specs.Known.{AreAsked, HasMembers, Learns, group_of, held, known, meaning};
 ghost use Rattle.review_sql_lookups.specs.{Counts.SeesBounded, Loads.IfTold, Loads.Sees, Loads.WereAsked};
 ghost use Rattle.review_sql_lookups.specs.Tables.{tables_at};
 ghost use Rattle.review_sql.specs.Loading.{AreLoadedBounded, HasLearnt, LearnsBounded, LearnsSeen, LooksIf, LooksOnce, WereSeen, learnt_by, loaded_by};
@@ -101,7 +101,7 @@ fn put_members(
     members: Table<AccountNo, ()>,
     rows: &mut Rows,
 ) -> Result<(), AllocError>
-    ensures { OnOk result (Learns (want.Group group.now) (Members (rows_of members)) rows.old rows.new) }
+    ensures { OnOk result (Learns (want.Group group.now) (held members) rows.old rows.new) }
 {
     rows.learn_group(group.copy(alloc)?, members)
 }
