@@ -7,8 +7,7 @@ use Rattle.review_sql_tables.{proofs.Found.look_on, proofs.Found.look_both, spec
 use Rattle.review_machine_rows.proofs.Looked.{asked_more, looked_agrees}
 use Rattle.review_machine_rows.specs.Known.{group_of, AreAsked, Agrees, known, Found, IsFound, Learns}
 use Rattle.review_machine_rows.specs.declared.rows.{Rows.Rows, Want.Want}
-use Rattle.review_sql_lookups.specs.{Counts.AreBounded, Counts.SeesBounded, Loads.Sees, Tables.tables_at}
-use Rattle.review_sql_lookups.specs.declared.{counts.Counts.Counts, sights.Sight.Sight}
+use Rattle.review_sql_lookups.specs.{Counts.AreBounded, Tables.tables_at, declared.counts.Counts.Counts}
 use Rattle.review_sql.specs.Loading.{HasLearnt, LearnsBounded, LearnsSeen, LooksIf, LooksOnce, WereSeen, learnt_by}
 use Rattle.review_sql.specs.declared.loading.Ended.{Ended}
 use Rattle.review_machine_rows.specs.declared.rows.Want.TheVariants as want

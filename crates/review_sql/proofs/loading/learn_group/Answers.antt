@@ -1,7 +1,6 @@
-use Rattle.std.proofs.Common.{◌≡◌, Option, List, ℕ, refl, sym, subst}
+use Rattle.std.proofs.Common.{◌≡◌, refl, sym, subst}
 use Rattle.review_table.specs.Rows.{rows_of}
-use Rattle.review_machine_rows.specs.Known.{HasMembers, Members}
-use Rattle.review_sql_lookups.specs.{Loads.IfTold, Tables.tables_at}
+use Rattle.review_machine_rows.specs.Known.{Members}
 use Rattle.review_sql.proofs.Finding.{has_learnt, learnt_seen}
 use Rattle.review_sql.specs.Loading.{LearnsSeen}
 use Rattle.review_machine_rows.specs.declared.rows.Want.TheVariants as want
