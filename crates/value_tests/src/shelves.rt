@@ -101,12 +101,7 @@ fn need_of(alloc: Global, want: &Want) -> Result<Need, Fault> {
 }
 
 /// What a look-up says of the account of a name.
-fn loaded_word<S: Shelf>(
-    alloc: Global,
-    shelf: &mut S,
-    need: &Need,
-    want: &Want,
-) -> &'static str {
+fn loaded_word<S: Shelf>(alloc: Global, shelf: &mut S, need: &Need, want: &Want) -> &'static str {
     match shelf.load(alloc, need) {
         Ok(rows) => holder_word(rows.found.get(want)),
         Err(fault) => fault_word(fault),
