@@ -48,16 +48,8 @@ exact_base x y e =
     let rest = exact_parts x y both.1 in
     λ i. record { project = project i; branch = rest.0 i; commit = rest.1 i }
 
-pub member_total : IsTotalOrder member_cmp
-member_total = then_total (on_total (λ (k : Member). k.group) nat_list_cmp_total) (on_total (λ (k : Member). k.account) nat_cmp_total)
-
 pub branch_total : IsTotalOrder branch_cmp
 branch_total = then_total (on_total (λ (k : Branch). k.project) nat_list_cmp_total) (on_total (λ (k : Branch). k.branch) nat_list_cmp_total)
-
-pub base_total : IsTotalOrder base_cmp
-base_total =
-    then_total (on_total (λ (k : Base). k.project) nat_list_cmp_total)
-    (then_total (on_total (λ (k : Base). k.branch) nat_list_cmp_total) (on_total (λ (k : Base). k.commit) nat_list_cmp_total))
 
 -- a table with another row at a key
 abbrev WithRow : {K X : Type 0} → (K → K → Ordering) → List (K × Option X) → K → X → List (K × Option X) → Type 0
