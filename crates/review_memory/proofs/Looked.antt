@@ -1,15 +1,13 @@
--- What look-ups in tables in memory find.
-use Rattle.std.proofs.Common.{◌≡◌, ℕ, List, Result, Ok, Err, Some, refl, ap, sym, subst}
+-- What look-ups in tables in memory don't find.
+use Rattle.std.proofs.Common.{◌≡◌, List, Result, Ok, Err, sym, subst}
 use Rattle.std.specs.{Prelude.IfErr, Result.IsErr, Result.IsErrAnd}
 use Rattle.review_words.specs.History.{bases as bases_in}
 use Rattle.review_machine_rows.proofs.{Looked.based_from, Readings.reading_of}
-use Rattle.review_machine_rows.specs.Known.{HasMembers, Learns, LearnsFound, Members, at_place, group_of}
-use Rattle.review_machine_rows.specs.{Rows.Tables, Rows.BaseKey, Shelf.IsDamaged, declared.rows.BranchKey.BranchKey}
-use Rattle.review_machine_rows.specs.declared.{rows.Rows.Rows, rows.Want.Want, shelf.ShelfFault.ShelfFault}
+use Rattle.review_machine_rows.specs.{Known.at_place, Rows.Tables, Rows.BaseKey, Shelf.IsDamaged}
+use Rattle.review_machine_rows.specs.declared.{rows.BranchKey.BranchKey, shelf.ShelfFault.ShelfFault}
 use Rattle.review_memory_rows.specs.Bases.{IsUnlisted, AreBases, base_at}
 use Rattle.review_memory_rows.specs.{Loads.fault_of, declared.bases.BasesFault.BasesFault}
 use Rattle.review_memory.specs.{Desk.Desk, Desk.tables_of, Loads.IsUnread}
-use Rattle.review_machine_rows.specs.declared.rows.Want.TheVariants as want
 use Rattle.review_memory_rows.specs.declared.bases.BasesFault.TheVariants as bases
 
 -- a branch whose bases make no list is that of no history
@@ -28,13 +26,3 @@ bases_unread d key bases.Gap none = unlisted_damaged d key none
 pub passed_on : {X F : Type 0} (t : Tables) (of : F → ShelfFault) (f : F) (r : Result X ShelfFault) → IsErr r × IsErrAnd r (λ e. e ≡ of f) → IsUnread t (of f) → IfErr r (IsUnread t)
 passed_on t of f (Ok x) e unread = tt
 passed_on t of f (Err x) e unread = subst (IsUnread t) (sym e.1) unread
-
-group_wanted : (w : Want) (group : List ℕ) → Some group ≡ group_of w → w ≡ want.Group group
-group_wanted (want.Group q) group is = let same : group ≡ q = cc in ap want.Group (sym same)
-group_wanted w group is = absurd (cc)
-
--- the members of a group are learnt under its name
-pub group_learnt : (t : Tables) (w : Want) (group copied : List ℕ) (members : List (ℕ × Unit {0})) (old new : Rows) → Some group ≡ group_of w → copied ≡ group → HasMembers t.row group members →
-    Learns (want.Group copied) (Members members) old new → LearnsFound t w old new
-group_learnt t w group copied members old new is same has learns =
-    subst (λ v. LearnsFound t v old new) (sym (group_wanted w group is)) (Members members, (members, refl, has), subst (λ g. Learns (want.Group g) (Members members) old new) same learns)
