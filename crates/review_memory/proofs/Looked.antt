@@ -1,5 +1,5 @@
 -- What look-ups in tables in memory don't find.
-use Rattle.std.proofs.Common.{◌≡◌, List, Result, Ok, Err, sym, subst}
+use Rattle.std.proofs.Common.{◌≡◌, ℕ, List, Result, Ok, Err, sym, subst}
 use Rattle.std.specs.{Prelude.IfErr, Result.IsErr, Result.IsErrAnd}
 use Rattle.review_words.specs.History.{bases as bases_in}
 use Rattle.review_machine_rows.proofs.{Looked.based_from, Readings.reading_of}
