@@ -5,7 +5,7 @@ use Rattle.std.specs.Option.{option_map_or}
 use Rattle.review_file_rules.specs.{Patterns.HasPattern, declared.fault.ReadFault.ReadFault}
 use Rattle.review_file_lines.specs.Texts.{IsLineFault}
 use Rattle.review_machine_rows.specs.Decisions.{IsUnread, SomePattern}
-use Rattle.review_machine_rows.specs.{Files.File, Lines.line_of, Lines.with_above, Steps.own_in}
+use Rattle.review_machine_rows.specs.{Lines.line_of, Lines.with_above, Steps.own_in}
 use Rattle.review_machine_rows.specs.declared.rows.{Rows.Rows, StoredFile.StoredFile}
 use Rattle.review_machine_needs.specs.inner.Files.{unread_cause}
 use Rattle.review_file_rules.specs.declared.fault.ReadFault.TheVariants as read
