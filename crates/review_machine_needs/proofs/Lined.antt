@@ -4,7 +4,7 @@ use Rattle.std.proofs.Common.{◌≡◌, ℕ, zero, suc, List, [], ◌∷◌, �
 use Rattle.std.specs.Prelude.{is_some, option_and_then}
 use Rattle.review_machine_rows.specs.Known.{file_in, known}
 use Rattle.review_machine_rows.specs.Steps.{line_steps, next_of, or_next, known_parent}
-use Rattle.review_machine_rows.specs.declared.rows.{Rows.Rows, Want.Want}
+use Rattle.review_machine_rows.specs.declared.rows.Rows.{Rows}
 use Rattle.review_machine_rows.specs.declared.rows.Want.TheVariants as want
 
 -- nothing is left where no project is

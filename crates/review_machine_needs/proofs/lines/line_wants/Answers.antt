@@ -1,4 +1,4 @@
-use Rattle.std.proofs.Common.{sym, ap, ◌∙◌, ◌-◌}
+use Rattle.std.proofs.Common.{sym, ap, ◌∙◌}
 use Rattle.std.specs.Prelude.{option_and_then, option_copied}
 use Rattle.review_machine_rows.specs.Steps.{line_steps, next_of}
 use Rattle.review_machine_needs.proofs.Lined.{line_goes_on, no_length, no_line}
