@@ -1,6 +1,6 @@
 //! Whether a project is there, and has room.
 ghost use Rattle.std.specs.Prelude.{◌≡◌, IfOk};
-ghost use Rattle.review_machine_rows.specs.{Known.known, Known.is_so};
+ghost use Rattle.review_machine_rows.specs.Known.{known, is_so};
 ghost use Rattle.review_machine_rows.specs.declared.rows.Counted.TheVariants as counted;
 ghost use Rattle.review_machine_rows.specs.declared.rows.Want.TheVariants as want;
 
