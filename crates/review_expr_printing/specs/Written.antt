@@ -2,7 +2,8 @@
 use Rattle.std.specs.{Char.is_ascii_lowercase, List.list_any}
 use Rattle.std.specs.Prelude.{◌≡◌, IsTrue, ℕ, suc, ℤ, pos, negsuc, List, [], ◌∷◌, ◌++◌, Bool, true, false, if◌then◌else◌, codes, Option, Some, None}
 use Rattle.review_names.specs.{Kinds.kind_name, Numerals.numeral}
-use Rattle.review_expr_terms.specs.{Lexemes.is_end, Lexemes.runs, Words.Good, Words.Reading, declared.terms.Comparison.Comparison}
+use Rattle.review_expr_terms.specs.Lexemes.{is_end, runs}
+use Rattle.review_expr_terms.specs.{Words.Good, Words.Reading, declared.terms.Comparison.Comparison}
 use Rattle.review_expr_terms.specs.declared.terms.{CopyTerm.CopyTerm, Count.Count, LabelTerm.LabelTerm}
 use Rattle.review_expr_terms.specs.declared.terms.{RequirementTerm.RequirementTerm, VoteValue.VoteValue, Voters.Voters}
 use Rattle.review_expr_terms.specs.declared.terms.VoteValue.TheVariants as value

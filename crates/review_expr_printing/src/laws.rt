@@ -4,7 +4,8 @@ ghost use Rattle.review_expr_terms.specs.Grammar.{Tree};
 ghost use Rattle.review_expr_terms.specs.declared.terms.{CopyTerm.CopyTerm, RequirementTerm.RequirementTerm};
 ghost use Rattle.review_expr_spelling.specs.Words.{copy_reading, requirement_reading};
 ghost use Rattle.review_expr.specs.Expressions.{HasExpr};
-ghost use Rattle.review_expr_printing.specs.{Printed.printed, Written.AreOneWord, Written.ReadAgain, Written.copy_word, Written.requirement_word};
+ghost use Rattle.review_expr_printing.specs.Printed.{printed};
+ghost use Rattle.review_expr_printing.specs.Written.{AreOneWord, ReadAgain, copy_word, requirement_word};
 
 use crate::written::Written;
 use review_expr_terms::{CopyTerm, RequirementTerm};
