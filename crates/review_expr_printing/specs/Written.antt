@@ -2,7 +2,8 @@
 use Rattle.std.specs.{Char.is_ascii_lowercase, List.list_any}
 use Rattle.std.specs.Prelude.{◌≡◌, IsTrue, ℕ, suc, ℤ, pos, negsuc, List, [], ◌∷◌, ◌++◌, Bool, true, false, if◌then◌else◌, codes, Option, Some, None}
 use Rattle.review_names.specs.{Kinds.kind_name, Numerals.numeral}
-use Rattle.review_expr_terms.specs.{Lexemes.is_end, Lexemes.runs, declared.terms.Comparison.Comparison}
+use Rattle.review_expr_terms.specs.Lexemes.{is_end, runs}
+use Rattle.review_expr_terms.specs.{Words.Good, Words.Reading, declared.terms.Comparison.Comparison}
 use Rattle.review_expr_terms.specs.declared.terms.{CopyTerm.CopyTerm, Count.Count, LabelTerm.LabelTerm}
 use Rattle.review_expr_terms.specs.declared.terms.{RequirementTerm.RequirementTerm, VoteValue.VoteValue, Voters.Voters}
 use Rattle.review_expr_terms.specs.declared.terms.VoteValue.TheVariants as value
@@ -88,3 +89,11 @@ copy_word copy.UnchangedFiles = word_of (codes "has") (codes "unchanged-files")
 -- One word of an expression, with a small letter in front: so it is no AND, OR or NOT, and begins with no minus.
 abbrev pub IsOneWord : List ℕ → Type 0
 IsOneWord word = (c : ℕ) × (cs : List ℕ) × (word ≡ c ∷ cs) × IsTrue (is_ascii_lowercase c) × IsTrue (runs false word)
+
+-- the word of each term that is read from a word is read as that term
+abbrev pub ReadAgain : {A : Type 0} → (List ℕ → Reading A) → (A → List ℕ) → Type 0
+ReadAgain {A = A} reading spelling = (word : List ℕ) (t : A) → reading word ≡ Good t → reading (spelling t) ≡ Good t
+
+-- the word of each term that is read from a word is one word
+abbrev pub AreOneWord : {A : Type 0} → (List ℕ → Reading A) → (A → List ℕ) → Type 0
+AreOneWord {A = A} reading spelling = (word : List ℕ) (t : A) → reading word ≡ Good t → IsOneWord (spelling t)

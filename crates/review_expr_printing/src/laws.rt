@@ -4,15 +4,16 @@ ghost use Rattle.review_expr_terms.specs.Grammar.{Tree};
 ghost use Rattle.review_expr_terms.specs.declared.terms.{CopyTerm.CopyTerm, RequirementTerm.RequirementTerm};
 ghost use Rattle.review_expr_spelling.specs.Words.{copy_reading, requirement_reading};
 ghost use Rattle.review_expr.specs.Expressions.{HasExpr};
-ghost use Rattle.review_expr_printing.specs.{Printed.printed, Written.copy_word, Written.requirement_word};
+ghost use Rattle.review_expr_printing.specs.Printed.{printed};
+ghost use Rattle.review_expr_printing.specs.Written.{AreOneWord, ReadAgain, copy_word, requirement_word};
 
-use crate::written::Respelled;
+use crate::written::Written;
 use review_expr_terms::{CopyTerm, RequirementTerm};
 
-/// The text that the tree of a text is printed as has that tree too, where it is no longer than a
-/// text may be.
-pub fn print_tells<T: Respelled>()
-    ensures { (text : List ℕ) (t : Tree T) → HasExpr T.reading text t → length (printed T.spelling t) ≤ 4096 → HasExpr T.reading (printed T.spelling t) t }
+/// Where the word of each term is read as that term and is one word, the text that the tree of a text is printed as has that tree too, if it
+/// is no longer than a text may be.
+pub fn print_tells<T: Written>()
+    ensures { ReadAgain T.reading T.spelling → AreOneWord T.reading T.spelling → (text : List ℕ) (t : Tree T) → HasExpr T.reading text t → length (printed T.spelling t) ≤ 4096 → HasExpr T.reading (printed T.spelling t) t }
 {}
 
 /// The text that a submit requirement's expression is printed as is that expression again, where

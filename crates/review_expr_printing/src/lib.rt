@@ -27,4 +27,4 @@ pub use word_laws::{
     copy_word_stands, copy_word_tells, minus_is_no_term, requirement_word_stands,
     requirement_word_tells,
 };
-pub use written::{Respelled, Written};
+pub use written::Written;

@@ -1,6 +1,6 @@
 //! How the terms of requirements and of copy conditions are written.
 
-use crate::written::{Respelled, Written};
+use crate::written::Written;
 use crate::{push_copy, push_requirement};
 use review_expr_terms::{CopyTerm, RequirementTerm};
 use std::alloc::AllocError;
@@ -15,14 +15,6 @@ impl Written for RequirementTerm {
     }
 }
 
-impl Respelled for RequirementTerm {
-    ghost use Rattle.review_expr_printing.proofs.RequirementWords.{requirement_again, requirement_stands};
-
-    ghost reads_again = { requirement_again };
-
-    ghost one_word = { requirement_stands };
-}
-
 impl Written for CopyTerm {
     ghost use Rattle.review_expr_printing.specs.Written.{copy_word};
 
@@ -31,12 +23,4 @@ impl Written for CopyTerm {
     fn push(&self, text: &mut String) -> Result<(), AllocError> {
         push_copy(text, self)
     }
-}
-
-impl Respelled for CopyTerm {
-    ghost use Rattle.review_expr_printing.proofs.CopyWords.{copy_again, copy_stands};
-
-    ghost reads_again = { copy_again };
-
-    ghost one_word = { copy_stands };
 }

@@ -1,30 +1,29 @@
 //! Laws of words.
 ghost use Rattle.std.specs.Prelude.{◌≡◌, ◌∷◌, ℕ, List};
-ghost use Rattle.review_expr_terms.specs.Words.{NoTerm, Bad, Good};
-ghost use Rattle.review_expr_terms.specs.declared.terms.{CopyTerm.CopyTerm, RequirementTerm.RequirementTerm};
+ghost use Rattle.review_expr_terms.specs.Words.{NoTerm, Bad};
 ghost use Rattle.review_expr_spelling.specs.Words.{copy_reading, requirement_reading};
-ghost use Rattle.review_expr_printing.specs.Written.{copy_word, requirement_word, IsOneWord};
+ghost use Rattle.review_expr_printing.specs.Written.{AreOneWord, ReadAgain, copy_word, requirement_word};
 
 /// The word of a copy condition's term is read as that term.
 pub fn copy_word_tells()
-    ensures { (word : List ℕ) (t : CopyTerm) → copy_reading word ≡ Good t → copy_reading (copy_word t) ≡ Good t }
+    ensures { ReadAgain copy_reading copy_word }
 {}
 
 /// The word of a submit requirement's term is read as that term.
 pub fn requirement_word_tells()
-    ensures { (word : List ℕ) (t : RequirementTerm) → requirement_reading word ≡ Good t → requirement_reading (requirement_word t) ≡ Good t }
+    ensures { ReadAgain requirement_reading requirement_word }
 {}
 
 /// The word of a copy condition's term is one word of an expression, and neither an operator nor
 /// negated.
 pub fn copy_word_stands()
-    ensures { (word : List ℕ) (t : CopyTerm) → copy_reading word ≡ Good t → IsOneWord (copy_word t) }
+    ensures { AreOneWord copy_reading copy_word }
 {}
 
 /// The word of a submit requirement's term is one word of an expression, and neither an operator
 /// nor negated.
 pub fn requirement_word_stands()
-    ensures { (word : List ℕ) (t : RequirementTerm) → requirement_reading word ≡ Good t → IsOneWord (requirement_word t) }
+    ensures { AreOneWord requirement_reading requirement_word }
 {}
 
 /// A word with a minus in front is no term of either kind.

@@ -15,15 +15,3 @@ pub trait Written: Spelled {
         ensures text { OnOk result (string_bytes text.new ≡ string_bytes text.old ++ spelling self.now) }
         ensures kept { OnErr result (string_bytes text.new ≡ string_bytes text.old) };
 }
-
-/// A term that reads again: where a word is read as a term, so is the word that the term is
-/// written as, and that one is a word of a text.
-pub trait Respelled: Written {
-    ghost use Rattle.std.specs.Prelude.{◌≡◌, ℕ, List};
-    ghost use Rattle.review_expr_terms.specs.Words.{Good};
-    ghost use Rattle.review_expr_printing.specs.Written.{IsOneWord};
-
-    ghost reads_again: { (w : List ℕ) (t : Self) → Self.reading w ≡ Good t → Self.reading (Self.spelling t) ≡ Good t };
-
-    ghost one_word: { (w : List ℕ) (t : Self) → Self.reading w ≡ Good t → IsOneWord (Self.spelling t) };
-}

@@ -13,7 +13,7 @@ use review_file_lines::FileMemo;
 use review_machine_accounts::{close_epoch, create_account, put_group, record_base, refused};
 use review_machine_changes::{create_change, on_change};
 use review_machine_needs::put_project;
-use review_machine_rows::{Delta, Rows};
+use review_machine_rows::{Delta, Rows, Want};
 use review_machine_submits::submit;
 use review_words::{AccountNo, Command, Epoch, NotTaken, Refusal, Reply};
 use std::alloc::Global;
@@ -42,7 +42,7 @@ pub fn decide(
     ensures raises { IfOk result (λ r. is_above r.0.least_epoch (number_of (known rows.now want.LeastEpoch)) ≡ true) }
     ensures once { IfOk result (λ r. NamesEachOnce r.0) }
 {
-    if !rows.is_account(caller) {
+    if !rows.is_there(&Want::Account(caller)) {
         return Ok(refused(alloc, Refusal::UnknownCaller));
     }
     decide_for(alloc, memo, effective, rows, caller, epoch, command)

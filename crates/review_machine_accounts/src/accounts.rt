@@ -1,6 +1,6 @@
 //! Decisions on accounts and groups.
 ghost use Rattle.std.specs.{List.list_all, List.Sorted.IsStrictlySortedBy, Map.Iter.deref_pair, Ordering.nat_cmp};
-ghost use Rattle.std.specs.Prelude.{◌≡◌, ◌++◌, ◌∷◌, ℕ, List, Option, None, Some, [], IfOk, IfErr, OnOk, is_some, map, true};
+ghost use Rattle.std.specs.Prelude.{◌≡◌, ◌++◌, ◌∷◌, ◌+◌, ◌<◌, ◌≤◌, ℕ, List, Option, None, Some, [], IfOk, IfSome, IfErr, OnOk, is_some, map, true};
 ghost use Rattle.review_table.specs.Rows.{rows_of};
 ghost use Rattle.review_words.specs.{History.Entry, History.is_account, Texts.IsStored};
 ghost use Rattle.review_words.specs.declared.command.Command.TheVariants.{CreateAccount, PutGroup};
@@ -14,7 +14,7 @@ ghost use Rattle.review_machine_rows.specs.declared.rows.Want.TheVariants as wan
 
 use crate::callers::is_admin;
 use crate::deltas::{nothing, refused};
-use review_machine_rows::{Delta, MemberKey, Rows};
+use review_machine_rows::{Delta, MemberKey, Rows, Want};
 use review_table::{Key, RowEdit, Table};
 use review_words::{AccountName, AccountNo, Answer, GroupName, Members, NotTaken, Refusal, Reply};
 use std::alloc::{AllocError, Global};
@@ -38,14 +38,26 @@ pub fn create_account(
     if !admin {
         return Ok(refused(alloc, Refusal::NotAdmin));
     }
-    if rows.holder(name).is_some() {
+    let taken = rows.has_holder(&Want::AccountNamed(name.copy(alloc)?));
+    if taken {
         return Ok(refused(alloc, Refusal::NameTaken));
     }
-    let Some(number) = AccountNo::after(rows.last_account()) else {
+    let Some(number) = next_account(rows.number(&Want::LastAccount)) else {
         return Ok(refused(alloc, Refusal::Limit));
     };
     let delta = account_delta(alloc, number, name)?;
     Ok((delta, Reply::Done(Answer::Account(number))))
+}
+
+// The account after the last one, or none where that is the last that there can be.
+fn next_account(last: u64) -> Option<AccountNo>
+    ensures some { IfSome result (λ n. (n ≡ last + 1) × (last < 1000000)) }
+    ensures none { result ≡ None → 1000000 ≤ last }
+{
+    match u32::try_from(last) {
+        Ok(last) => AccountNo::after(last),
+        Err(_) => None,
+    }
 }
 
 // The delta that gives an account a name.
@@ -104,7 +116,7 @@ fn have_accounts(rows: &Rows, members: &Members) -> bool
     members
         .as_slice()
         .iter()
-        .all(|number| rows.is_account(*number))
+        .all(|number| rows.is_there(&Want::Account(*number)))
 }
 
 // The rows that make these the members of a group: those that aren't there yet are put, those that are to leave taken away.

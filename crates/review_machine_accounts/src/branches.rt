@@ -9,8 +9,9 @@ ghost use Rattle.review_machine_rows.specs.{Steps.OfCommand, View.AreEnough, Vie
 use crate::callers::is_admin;
 use crate::commits::is_known;
 use crate::deltas::{nothing, refused};
-use crate::keys::base_of;
-use review_machine_rows::{BranchKey, Delta, PlaceKey, Put, Rows};
+use crate::keys::{base_of, branch_of};
+use crate::projects::{has_room, is_project};
+use review_machine_rows::{Delta, PlaceKey, Put, Rows, Want};
 use review_words::{
     AccountNo, Answer, BranchName, CommitName, NotTaken, ProjectName, Refusal, Reply,
 };
@@ -37,27 +38,26 @@ pub fn record_base(
     if !admin {
         return Ok(refused(alloc, Refusal::NotAdmin));
     }
-    if !rows.has_project(project) {
+    let there = is_project(alloc, rows, project)?;
+    if !there {
         return Ok(refused(alloc, Refusal::NoProject));
     }
     let known = is_known(alloc, rows, project, branch, commit)?;
     if known {
         return Ok(refused(alloc, Refusal::CommitKnown));
     }
-    if !rows.has_room_for_bases(project) {
+    let room = has_room(alloc, rows, project)?;
+    if !room {
         return Ok(refused(alloc, Refusal::Limit));
     }
+    let last = rows.number(&Want::LastPlace(branch_of(alloc, project, branch)?));
+    let place = last.saturating_add(1);
     let base = base_of(alloc, project, branch, commit)?;
-    let key = BranchKey {
-        project: base.project,
-        branch: base.branch,
-    };
-    let place = rows.last_place(&key).saturating_add(1);
     let mut delta = nothing(alloc);
     delta.base = Some(Put {
         key: PlaceKey {
-            project: key.project,
-            branch: key.branch,
+            project: base.project,
+            branch: base.branch,
             place,
         },
         row: base.commit,

@@ -7,7 +7,7 @@ ghost use Rattle.review_machine_rows.specs.{Changes.Reading, Files.File, Known.k
 ghost use Rattle.review_machine_rows.specs.{Questions.IsQueryAnswerBy, Steps.OfQuery, View.AreEnough};
 ghost use Rattle.review_machine_rows.specs.declared.rows.Want.TheVariants.{Account, Member};
 
-use review_machine_rows::{MemberKey, Rows};
+use review_machine_rows::{MemberKey, Rows, Want};
 use review_words::{AccountNo, administrators};
 use std::alloc::{AllocError, Global};
 
@@ -19,7 +19,7 @@ pub fn is_admin(alloc: Global, rows: &Rows, caller: AccountNo) -> Result<bool, A
         group: administrators(alloc)?,
         account: caller,
     };
-    Ok(rows.is_member(&key))
+    Ok(rows.is_so(&Want::Member(key)))
 }
 
 /// Whether who asks a question is an account. Where it is none, the question is refused for an unknown caller, whatever it asks.
@@ -28,5 +28,5 @@ pub fn is_asker(rows: &Rows, caller: AccountNo) -> bool
     ensures told { (reading : Reading) (file : Option File) (h : List Entry) (query : Query) → AreEnough reading h caller (OfQuery query) file rows.now → result ≡ is_account h caller }
     ensures refused { result ≡ false → (reading : Reading) (file : Option File) (h : List Entry) (query : Query) → AreEnough reading h caller (OfQuery query) file rows.now → IsQueryAnswerBy reading h caller query (Refused UnknownCaller) }
 {
-    rows.is_account(caller)
+    rows.is_there(&Want::Account(caller))
 }

@@ -3,7 +3,8 @@ ghost use Rattle.std.specs.Prelude.{◌≡◌, IfOk};
 ghost use Rattle.review_machine_accounts.specs.Commits.{known_in};
 
 use crate::keys::base_of;
-use review_machine_rows::Rows;
+use review_machine_rows::{Rows, Want};
+use review_table::Key;
 use review_words::{BranchName, CommitName, ProjectName};
 use std::alloc::{AllocError, Global};
 
@@ -18,5 +19,6 @@ pub fn is_known(
     ensures { IfOk result (λ b. b ≡ known_in rows.now project.now branch.now commit.now) }
 {
     let key = base_of(alloc, project, branch, commit)?;
-    Ok(rows.has_base(&key) || rows.change_of(&key).is_some())
+    let same = key.copy(alloc)?;
+    Ok(rows.is_so(&Want::Base(key)) || rows.has_holder(&Want::ChangeOf(same)))
 }

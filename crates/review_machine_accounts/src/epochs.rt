@@ -11,7 +11,7 @@ ghost use Rattle.review_machine_rows.specs.declared.rows.Want.TheVariants as wan
 
 use crate::callers::is_admin;
 use crate::deltas::{nothing, refused};
-use review_machine_rows::{Delta, Rows};
+use review_machine_rows::{Delta, Rows, Want};
 use review_words::{AccountNo, Answer, Epoch, NotTaken, Refusal, Reply};
 use std::alloc::Global;
 
@@ -40,7 +40,7 @@ pub fn close_epoch(
     if least.get() > epoch.get() {
         return Ok(refused(alloc, Refusal::EpochAhead));
     }
-    if least.get() <= rows.least_epoch() {
+    if u64::from(least.get()) <= rows.number(&Want::LeastEpoch) {
         return Ok(refused(alloc, Refusal::SameState));
     }
     let mut delta = nothing(alloc);

@@ -17,6 +17,7 @@ pub mod commits;
 pub mod deltas;
 pub mod epochs;
 pub mod keys;
+pub mod projects;
 
 pub use accounts::{create_account, put_group};
 pub use branches::record_base;
@@ -25,3 +26,4 @@ pub use commits::is_known;
 pub use deltas::{nothing, refused};
 pub use epochs::close_epoch;
 pub use keys::{base_of, branch_of};
+pub use projects::is_project;

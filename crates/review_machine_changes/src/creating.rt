@@ -20,7 +20,7 @@ use review_file::{ProjectFile, Right};
 use review_file_rules::one_effective_file;
 use review_machine_accounts::{branch_of, is_known, refused};
 use review_machine_change_rows::{copied_new, edit_of_new};
-use review_machine_rows::{ChangeEdit, Delta, Rows};
+use review_machine_rows::{ChangeEdit, Delta, Rows, Want};
 use review_names::{BranchName, ProjectName};
 use review_words::{AccountNo, Answer, ChangeNo, NewChange, NotTaken, PatchNo, Refusal, Reply};
 use std::alloc::{AllocError, Global};
@@ -35,7 +35,7 @@ fn has_branch(
     ensures { IfOk result (λ b. b ≡ nat_le 1 (number_of (known rows.now (want.LastPlace (record { project = project.now; branch = branch.now }))))) }
 {
     let key = branch_of(alloc, project, branch)?;
-    Ok(rows.last_place(&key) > 0)
+    Ok(rows.number(&Want::LastPlace(key)) > 0)
 }
 
 /// The first check of a new change that fails, where one does.
@@ -63,18 +63,18 @@ fn create_refusal(
     if !is_known(alloc, rows, &new.project, &new.branch, &new.parent)? {
         return Ok(Some(Refusal::UnknownParent));
     }
-    if rows.last_change() >= 1_000_000_000 {
+    if rows.number(&Want::LastChange) >= 1_000_000_000 {
         return Ok(Some(Refusal::Limit));
     }
     Ok(None)
 }
 
 /// The number after that of the last change.
-fn next_change(last: u32) -> ChangeNo
+fn next_change(last: u64) -> ChangeNo
     requires { is_within most_changes (last + 1) ≡ true }
     ensures { result ≡ last + 1 }
 {
-    match ChangeNo::from_number(last as u64 + 1) {
+    match ChangeNo::from_number(last + 1) {
         Some(next) => next,
         None => unreachable!(),
     }
@@ -130,8 +130,8 @@ pub fn create_change(
     if let Some(refusal) = refusal {
         return Ok(refused(alloc, refusal));
     }
-    let change = next_change(rows.last_change());
-    let request = rows.requests().saturating_add(1);
+    let change = next_change(rows.number(&Want::LastChange));
+    let request = rows.number(&Want::Requests).saturating_add(1);
     let edit = begun_edit(alloc, change, new, caller, request)?;
     let delta = edited(alloc, edit)?;
     let patch = patch_of(1);

@@ -5,7 +5,7 @@ ghost use Rattle.review_core_rules.specs.Change.{is_open};
 ghost use Rattle.review_machine_changes.specs.Facts.{in_rows, right_in};
 
 use review_file::{ProjectFile, Right};
-use review_machine_rows::{MemberKey, Rows};
+use review_machine_rows::{MemberKey, Rows, Want};
 use review_words::{AccountNo, GroupName, State};
 use std::alloc::{AllocError, Global};
 
@@ -25,7 +25,7 @@ pub fn is_in(
         group: group.copy(alloc)?,
         account,
     };
-    Ok(rows.is_member(&key))
+    Ok(rows.is_so(&Want::Member(key)))
 }
 
 fn is_in_any(

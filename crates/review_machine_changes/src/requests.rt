@@ -20,7 +20,7 @@ use review_file::ProjectFile;
 use review_file_rules::one_effective_file;
 use review_machine_accounts::refused;
 use review_machine_laws::changes_are_sound;
-use review_machine_rows::{Delta, Rows};
+use review_machine_rows::{Delta, Rows, Want};
 use review_words::{AccountNo, Answer, ChangeCommand, ChangeNo, NotTaken, Refusal, Reply};
 use std::alloc::{AllocError, Global};
 
@@ -187,7 +187,7 @@ fn done(
     ensures epoch { IfOk result (λ r. r.0.least_epoch ≡ None) }
     ensures once { IfOk result (λ r. NamesEachOnce r.0) }
 {
-    let request = rows.requests().saturating_add(1);
+    let request = rows.number(&Want::Requests).saturating_add(1);
     let delta = delta_by(alloc, change, found, file, command, caller, request)?;
     Ok((delta, Reply::Done(Answer::Nothing)))
 }

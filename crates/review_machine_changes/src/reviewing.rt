@@ -23,7 +23,7 @@ use review_file::ProjectFile;
 use review_file_rules::one_effective_file;
 use review_machine_accounts::refused;
 use review_machine_laws::changes_are_sound;
-use review_machine_rows::{Delta, Rows};
+use review_machine_rows::{Delta, Rows, Want};
 use review_words::{
     AccountNo, Answer, ChangeNo, CommentNo, CommentNumbers, NewComment, NotTaken, Refusal, Reply,
     Review,
@@ -297,7 +297,7 @@ fn reviewed(
     ensures once { IfOk result (λ r. NamesEachOnce r.0) }
 {
     let numbers = new_numbers(alloc, found.comments.len(), said_count(review))?;
-    let request = rows.requests().saturating_add(1);
+    let request = rows.number(&Want::Requests).saturating_add(1);
     let delta = with_review(alloc, change, found, file, review, caller, request)?;
     Ok((delta, Reply::Done(Answer::Reviewed(numbers))))
 }

@@ -23,7 +23,7 @@ use review_file_rules::{groups_suffice, one_effective_file};
 use review_machine_accounts::{is_known, refused};
 use review_machine_change_rows::copied_patch;
 use review_machine_laws::changes_are_sound;
-use review_machine_rows::{Delta, Rows};
+use review_machine_rows::{Delta, Rows, Want};
 use review_words::{AccountNo, Answer, ChangeNo, NewPatch, NotTaken, PatchNo, Refusal, Reply};
 use std::alloc::{AllocError, Global};
 
@@ -191,7 +191,7 @@ fn uploaded(
     ensures epoch { IfOk result (λ r. r.0.least_epoch ≡ None) }
     ensures once { IfOk result (λ r. NamesEachOnce r.0) }
 {
-    let request = rows.requests().saturating_add(1);
+    let request = rows.number(&Want::Requests).saturating_add(1);
     let (new, counts) = with_patch(alloc, project, rows, caller, file, patch, request)?;
     let delta = turned(alloc, change, found, new)?;
     let answer = patch_answer(change, next_patch(found.patches.len()), counts);

@@ -18,7 +18,7 @@ ghost use Rattle.review_machine_rows.specs.declared.rows.Want.TheVariants as wan
 use crate::gathering::gathered;
 use crate::rules::Rules;
 use review_file::ProjectFile;
-use review_machine_rows::{Delta, Kept, Matter, Recalled, Rows, Shelf, ShelfFault};
+use review_machine_rows::{Delta, Kept, Matter, Recalled, Rows, Shelf, ShelfFault, Want};
 use review_words::{AccountNo, Command, Delivery, Epoch, NotTaken, Query, Reply, RequestId};
 use review_words_texts::{BadReply, content_text, read_reply, reply_text};
 use std::alloc::{AllocError, Global};
@@ -246,7 +246,7 @@ fn decide<R: Rules>(
     ensures decided { IfOk result (IsDecidedBy caller epoch command.now (option_copied effective.entry) rows.now) }
     ensures cause { IfErr result (IsUndecidedBy caller command.now (option_copied effective.entry) rows.now) }
 {
-    let requests = rows.requests();
+    let requests = rows.number(&Want::Requests);
     if requests >= MOST_REQUESTS {
         return Err(NotTaken::Full);
     }

@@ -1,7 +1,6 @@
 -- What is asked, look-up by look-up and step by step.
-use Rattle.std.proofs.Common.{◌≡◌, ℕ, ◌+◌, ◌<◌, List, [], ◌∷◌, ◌++◌, length, map, take, get_or, Option, Some, refl, sym, ap, ◌∙◌}
+use Rattle.std.proofs.Common.{◌≡◌, ℕ, ◌+◌, ◌<◌, List, [], ◌∷◌, ◌++◌, length, map, take, get_or, sym, ap, ◌∙◌}
 use Rattle.std.proofs.lemmas.List.{take_more, map-append}
-use Rattle.review_machine_rows.specs.{Steps.or_next, Steps.unless_none, declared.rows.Want.Want}
 use Rattle.review_machine_rows.specs.declared.rows.Want.TheVariants as want
 
 -- one account more

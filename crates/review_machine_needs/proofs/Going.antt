@@ -7,7 +7,6 @@ use Rattle.review_machine_rows.specs.{Files.File, Lines.most_depth}
 use Rattle.review_machine_rows.specs.Steps.{Topic, HasComeTo, MayGoOnFor, change_wants, file_wants, first_wants, last_wants, line_steps, next, next_of, or_next, parent_of, steps, unknown, unless_none}
 use Rattle.review_machine_rows.specs.declared.rows.{Rows.Rows, Want.Want}
 use Rattle.review_machine_needs.specs.inner.{Asked.IsAsked, Walks.IsWalkIn}
-use Rattle.review_machine_rows.specs.declared.rows.Want.TheVariants as want
 use Rattle.review_machine_rows.specs.declared.step.Step.TheVariants as step
 
 -- the walk of a change alone is one to it

@@ -1,10 +1,10 @@
 -- What is left of the steps of a line.
 use native.Mathlib.Numerals.{unary_clauses}
-use Rattle.std.proofs.Common.{◌≡◌, ℕ, zero, suc, List, [], ◌∷◌, ◌<◌, ◌-◌, Option, Some, None, true, false, cond, not, refl, sym, ap, ◌∙◌}
+use Rattle.std.proofs.Common.{◌≡◌, ℕ, zero, suc, List, [], ◌∷◌, ◌<◌, ◌≤◌, ◌-◌, Option, Some, None, true, false, cond, not, refl, sym, ap, ◌∙◌}
 use Rattle.std.specs.Prelude.{is_some, option_and_then}
-use Rattle.review_machine_rows.specs.Known.{Text, file_in, known}
+use Rattle.review_machine_rows.specs.Known.{file_in, known}
 use Rattle.review_machine_rows.specs.Steps.{line_steps, next_of, or_next, known_parent}
-use Rattle.review_machine_rows.specs.declared.rows.{Rows.Rows, StoredFile.StoredFile, Want.Want}
+use Rattle.review_machine_rows.specs.declared.rows.Rows.{Rows}
 use Rattle.review_machine_rows.specs.declared.rows.Want.TheVariants as want
 
 -- nothing is left where no project is
@@ -29,8 +29,14 @@ pub line_known_at : (rows : Rows) (n : ℕ) (q : List ℕ) → 0 < n → is_some
 line_known_at rows zero q above is = elim above [ ]
 line_known_at rows (suc n) q above is = simp unary_clauses (line_known rows n q is)
 
--- the same of a file that was found, or of which it was found that there is none
-pub line_found : (rows : Rows) (n : ℕ) (q : List ℕ) (o : Option StoredFile) → 0 < n → Some (Text o) ≡ known rows (want.File q) →
-    next_of rows (line_steps rows n (Some q)) ≡ next_of rows (line_steps rows (n - 1) (option_and_then (λ f. f.parent) o))
-line_found rows n q o above is =
-    line_known_at rows n q above (ap is_some (sym is)) ∙ ap (λ found. next_of rows (line_steps rows (n - 1) (option_and_then (λ f. f.parent) (file_in found)))) (sym is)
+-- the same, where the project and the parent of its file are told by what is known of the file
+pub line_goes_on : (rows : Rows) (n : ℕ) (q copied : List ℕ) (parent : Option (List ℕ)) → copied ≡ q → 0 < n → is_some (known rows (want.File copied)) ≡ true →
+    parent ≡ option_and_then (λ f. f.parent) (file_in (known rows (want.File copied))) → next_of rows (line_steps rows n (Some q)) ≡ next_of rows (line_steps rows (n - 1) parent)
+line_goes_on rows n q copied parent same above there is =
+    line_known_at rows n q above (ap (λ x. is_some (known rows (want.File x))) (sym same) ∙ there)
+    ∙ ap (λ p. next_of rows (line_steps rows (n - 1) p)) (ap (known_parent rows) (sym same) ∙ sym is)
+
+-- nothing is left of a line that has come to its greatest length
+pub no_length : (rows : Rows) (n : ℕ) (p : Option (List ℕ)) → n ≤ 0 → next_of rows (line_steps rows n p) ≡ []
+no_length rows zero p at_end = refl
+no_length rows (suc n) p at_end = elim at_end [ ]

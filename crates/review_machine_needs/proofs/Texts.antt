@@ -4,9 +4,8 @@ use Rattle.std.proofs.Common.{◌≡◌, ℕ, zero, suc, ◌-◌, ◌<◌, List,
 use Rattle.std.specs.Option.{option_map_or}
 use Rattle.review_file_rules.specs.{Patterns.HasPattern, declared.fault.ReadFault.ReadFault}
 use Rattle.review_file_lines.specs.Texts.{IsLineFault}
-use Rattle.review_machine_rows.specs.Decisions.{IsUnread, SomePattern}
-use Rattle.review_machine_rows.specs.{Files.File, Lines.line_of, Lines.with_above, Steps.own_in}
-use Rattle.review_machine_rows.specs.declared.rows.{Rows.Rows, StoredFile.StoredFile}
+use Rattle.review_machine_rows.specs.{Decisions.IsUnread, Decisions.SomePattern, Lines.line_of, Lines.with_above}
+use Rattle.review_machine_rows.specs.{Steps.own_in, declared.rows.Rows.Rows, declared.rows.StoredFile.StoredFile}
 use Rattle.review_machine_needs.specs.inner.Files.{unread_cause}
 use Rattle.review_file_rules.specs.declared.fault.ReadFault.TheVariants as read
 

@@ -25,7 +25,7 @@ pub fn wants_above(
         return wants_above_put(alloc, memo, rows, project, file);
     }
     match project_of(rows, matter) {
-        Some(project) => line_wants(alloc, rows, parent_known(rows, project)),
+        Some(project) => line_wants(alloc, rows, parent_in(own_file(alloc, rows, project)?)),
         None => line_wants(alloc, rows, None),
     }
 }
@@ -40,25 +40,27 @@ fn wants_above_put(
 ) -> Result<Vec<Want>, AllocError>
     ensures { IfOk result (λ wants. wants.items ≡ next_of rows.now (line_steps rows.now most_depth (parent_or (named_parent file.now) (own_in rows.now project.now)))) }
 {
-    match rows.file(project) {
+    match own_file(alloc, rows, project)? {
         Some(stored) => line_wants(alloc, rows, stored.parent.as_ref()),
         None => line_wants(alloc, rows, memo.named_parent(alloc, file)?.as_ref()),
     }
 }
 
-// The parent that a project is known to have.
-fn parent_known<'r>(rows: &'r Rows, project: &ProjectName) -> Option<&'r ProjectName>
-    ensures { option_copied result ≡ known_parent rows.now project.now }
+/// The file that a project is known to have of its own.
+pub fn own_file<'r>(
+    alloc: Global,
+    rows: &'r Rows,
+    project: &ProjectName,
+) -> Result<Option<&'r StoredFile>, AllocError>
+    ensures { IfOk result (λ file. option_copied file ≡ own_in rows.now project.now) }
 {
-    match rows.file(project) {
-        Some(file) => file.parent.as_ref(),
-        None => None,
-    }
+    let want = Want::File(project.copy(alloc)?);
+    Ok(rows.file(&want))
 }
 
 // The parent that a file names, where there is a file.
-fn parent_in(found: &Option<StoredFile>) -> Option<&ProjectName>
-    ensures { option_copied result ≡ option_and_then (λ f. f.parent) found.now }
+fn parent_in(found: Option<&StoredFile>) -> Option<&ProjectName>
+    ensures { option_copied result ≡ option_and_then (λ f. f.parent) (option_copied found.entry) }
 {
     match found {
         Some(file) => file.parent.as_ref(),
@@ -67,7 +69,7 @@ fn parent_in(found: &Option<StoredFile>) -> Option<&ProjectName>
 }
 
 // What is left of the first step of a line that has some left: the file of the first project of it whose file isn't known.
-#[tactic(auto, using(crate::proofs::Lined::line_found, crate::proofs::Lined::line_unknown_at, crate::proofs::Lined::no_line))]
+#[tactic(auto, using(crate::proofs::Lined::line_unknown_at, crate::proofs::Lined::no_line))]
 fn line_wants<'r>(
     alloc: Global,
     rows: &'r Rows,
@@ -81,10 +83,11 @@ fn line_wants<'r>(
         let Some(name) = project else {
             return Ok(Vec::new(alloc));
         };
-        let Some(found) = rows.found_file(name) else {
+        let want = Want::File(name.copy(alloc)?);
+        if !rows.knows(&want) {
             return file_want(alloc, name);
-        };
-        project = parent_in(found);
+        }
+        project = parent_in(rows.file(&want));
         left -= 1;
     }
     Ok(Vec::new(alloc))

@@ -13,12 +13,13 @@ ghost use Rattle.review_machine_rows.specs.View.{AreEnough, IsDecided};
 ghost use Rattle.review_machine_accounts.specs.Decisions.{IsEmpty};
 ghost use Rattle.review_machine_needs.specs.inner.Files.{file_refused, has_unknown, heir, keeps_parent, parent_refused, room_in, IsFilePut, IsPut, IsPutBelow, IsReadCause, PutsFile};
 
+use crate::lines::own_file;
 use crate::reading::read_line;
 use review_file::{ProjectFile, ReadFault, covers};
 use review_file_lines::{FileMemo, InheritFault, MOST_DEPTH, ReadLine, ReadText};
 use review_file_rules::one_effective_file;
 use review_machine_accounts::{is_admin, nothing, refused};
-use review_machine_rows::{Delta, Put, Rows, StoredFile};
+use review_machine_rows::{Counted, Delta, Put, Rows, StoredFile, Want};
 use review_words::{AccountNo, Answer, FileFault, FileText, NotTaken, ProjectName, Refusal, Reply};
 use std::alloc::{AllocError, Global};
 
@@ -84,7 +85,8 @@ fn put_file(
     ensures once { IfOk result (λ r. NamesEachOnce r.0) }
 {
     let put = row_put(alloc, project, &new)?;
-    if !keeps_parent(rows, &put) {
+    let keeps = keeps_parent(alloc, rows, &put)?;
+    if !keeps {
         return Ok(refused(alloc, Refusal::ParentFixed));
     }
     put_below(alloc, memo, effective, rows, put, new)
@@ -106,12 +108,16 @@ fn row_put(
 }
 
 // Whether a project keeps its parent, if it is there.
-fn keeps_parent(rows: &Rows, put: &Put<ProjectName, StoredFile>) -> bool
-    ensures { result ≡ keeps_parent (own_in rows.now put.now.key) put.now.row.parent }
+fn keeps_parent(
+    alloc: Global,
+    rows: &Rows,
+    put: &Put<ProjectName, StoredFile>,
+) -> Result<bool, AllocError>
+    ensures { IfOk result (λ keeps. keeps ≡ keeps_parent (own_in rows.now put.now.key) put.now.row.parent) }
 {
-    match rows.file(&put.key) {
-        Some(was) => is_same_parent(was.parent.as_ref(), put.row.parent.as_ref()),
-        None => true,
+    match own_file(alloc, rows, &put.key)? {
+        Some(was) => Ok(is_same_parent(was.parent.as_ref(), put.row.parent.as_ref())),
+        None => Ok(true),
     }
 }
 
@@ -209,7 +215,8 @@ fn put_line(
     ensures once { IfOk result (λ r. NamesEachOnce r.0) }
 {
     let covered = is_covered(effective, line.file());
-    if let Some(refusal) = refusal_by(covered, rows.has_room_for_projects()) {
+    let has_room = rows.is_so(&Want::Room(Counted::Projects));
+    if let Some(refusal) = refusal_by(covered, has_room) {
         return Ok(refused(alloc, refusal));
     }
     let _ = memo.keep(alloc, &put.key, line);

@@ -6,6 +6,7 @@ ghost use Rattle.review_machine_rows.specs.Steps.{HasFile, texts_for, texts_in, 
 ghost use Rattle.review_machine_needs.specs.inner.Files.{unread_cause};
 
 use crate::judging::project_of;
+use crate::lines::own_file;
 use review_file::{ProjectFile, ReadFault};
 use review_file_lines::{FileMemo, LinePart, MOST_DEPTH, ReadLine};
 use review_machine_rows::{Matter, Rows};
@@ -83,7 +84,7 @@ fn line_of<'r>(
         let Some(project) = next else {
             return Ok(parts);
         };
-        let Some(file) = rows.file(project) else {
+        let Some(file) = own_file(alloc, rows, project)? else {
             return Ok(parts);
         };
         let text = &file.text;

@@ -3,7 +3,6 @@ use Rattle.std.proofs.Common.{◌≡◌, ℕ, ◌+◌, ◌<◌, ◌≤◌, List,
 use Rattle.std.proofs.lemmas.{Bool.cases_Bool, List.Elements.All-head, List.Elements.All-tail}
 use Rattle.std.specs.{List.All, List.AllByRecursion, Option.option_or}
 use Rattle.std.specs.Prelude.{is_some, ◌&&◌, ◌++◌, option_and_then, option_map, option_to_list}
-use Rattle.review_table.specs.Rows.{row_in, rows_of}
 use Rattle.review_words.specs.declared.changes.Given.{Given}
 use Rattle.review_words.specs.declared.command.{ChangeCommand.ChangeCommand, ChangeQuery.ChangeQuery, Command.Command}
 use Rattle.review_words.specs.declared.command.Command.TheVariants.{CreateAccount, PutGroup, PutProject, RecordBase, CloseEpoch, CreateChange, OnChange, Submit}
@@ -17,8 +16,7 @@ use Rattle.review_file_rules.specs.Reading.{named_parent}
 use Rattle.review_core_rules.specs.Change.{Change, is_open}
 use Rattle.review_machine_rows.specs.Files.{File}
 use Rattle.review_machine_rows.specs.Known.{Found, Stands, IsFound, known, number_of, change_in, standing_of, file_in, Agrees, IsKnown, AreAdded}
-use Rattle.review_machine_rows.specs.{Lines.most_depth, Links.link_for, Links.links_in}
-use Rattle.review_machine_rows.specs.Rows.{ClosedEpochs, Tables, base_cmp}
+use Rattle.review_machine_rows.specs.{Lines.most_depth, Links.link_for, Links.links_in, Rows.ClosedEpochs, Rows.Tables}
 use Rattle.review_machine_rows.specs.Steps.{Topic, OfCommand, OfQuery, first_wants, change_wants, file_wants, given_wants, has_some, question_wants, request_wants, submit_wants, wants_by, own_in, known_parent, parent_or, needs_file, project_for, asks_file, parent_of, line_wants, line_steps, wanted_for, chain_wants, chain_left, last_of, last_wants, look_up, steps, unknown, or_next, next, next_of, left, left_before, left_if, left_of, left_where, AskingLowers, ComesTo, HasComeTo, IsWalkTo, MayGoOnFor}
 use Rattle.review_machine_rows.specs.declared.{rows.Rows.Rows, rows.Want.Want, step.Step.Step}
 use Rattle.review_words.specs.declared.command.Query.TheVariants as asked
@@ -205,11 +203,12 @@ links_grow rows more both project branch added = record {
 
 -- where a commit was looked up, it is known what it is to the branch
 pub commit_known : (rows : Rows) (project branch x : List ℕ) → IsKnown rows (want.Standing (record { project = project; branch = branch; commit = x })) → IsSome ((links_in rows project branch).standing x)
-commit_known rows project branch x there = at (row_in base_cmp (rows_of rows.standings) (record { project = project; branch = branch; commit = x })) there
+commit_known rows project branch x there = at (known rows (want.Standing (record { project = project; branch = branch; commit = x }))) there
   where
-    at : (o : Option Standing) → is_some (option_map Stands o) ≡ true → IsSome (standing_of (option_map Stands o))
+    at : (o : Option Found) → is_some o ≡ true → IsSome (standing_of o)
     at None e = absurd (let f : false ≡ true = e in cc)
-    at (Some s) e = refl
+    at (Some (Stands s)) e = refl
+    at (Some f) e = refl
 
 -- rows with those that know what was left of a list leave nothing of it
 none_after : (rows more both : Rows) (ws us : List Want) → AreAdded rows more both → unknown rows ws ≡ us → AllByRecursion (IsKnown more) us → unknown both ws ≡ []

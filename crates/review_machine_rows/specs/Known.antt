@@ -1,6 +1,7 @@
 -- What a look-up finds in tables, and what rows know.
 use Rattle.std.specs.{Cmp.Lexicographic.slice_cmp, List.All, List.Contains, Option.option_or, Ordering.nat_cmp}
 use Rattle.std.specs.Prelude.{ℕ, zero, suc, ◌<◌, ◌≡◌, ◌⊎◌, AllPairs, List, [], ◌∷◌, Option, Some, None, IsSome, Bool, true, false, is_some, nat_lt, option_map, if◌then◌else◌}
+use Rattle.std.specs.declared.cmp.Ordering.{Ordering}
 use Rattle.review_table.specs.Rows.{row_in, rows_of}
 use Rattle.review_words.specs.Epochs.{last_epoch}
 use Rattle.review_words.specs.declared.shown.{JoinedChange.JoinedChange, State.TheVariants.Merged}
@@ -10,11 +11,13 @@ use Rattle.review_core_rules.specs.Change.{Change}
 use Rattle.review_core_rules.specs.Parts.{Part, TheHeader, PatchOf, PartRow, AHeader, APatch, part_row}
 use Rattle.review_core_rules.specs.{Seen.seen, declared.rows.Header.Header, declared.rows.PatchRow.PatchRow}
 use Rattle.review_machine_rows.specs.Limits.{most_projects, most_bases}
-use Rattle.review_machine_rows.specs.Rows.{Key, AccountKey, MemberKey, FileKey, BaseKey, PartKey, APart, Row, AccountRow, MemberRow, FileRow, BaseRow, Count, Projects, BasesOf, ClosedEpochs, Tables, member_cmp, branch_cmp, base_cmp, member_row}
+use Rattle.review_machine_rows.specs.Rows.{Key, AccountKey, MemberKey, FileKey, BaseKey, PartKey, APart, Row, AccountRow, MemberRow, FileRow, BaseRow, Count, Projects, BasesOf, ClosedEpochs, Tables, member_row}
 use Rattle.review_machine_rows.specs.declared.rows.{Base.Base, BranchKey.BranchKey as Branch, Counted.Counted}
-use Rattle.review_machine_rows.specs.declared.rows.{Rows.Rows, StoredFile.StoredFile, Want.Want}
+use Rattle.review_machine_rows.specs.declared.rows.{Found.Found as Kept, Rows.Rows, StoredFile.StoredFile, Want.Want}
 use Rattle.review_machine_rows.specs.declared.rows.Counted.TheVariants as counted
 use Rattle.review_machine_rows.specs.declared.rows.Want.TheVariants as want
+use Rattle.review_machine_rows.specs.declared.rows.Found.TheVariants as kept
+use Rattle.review_machine_rows.specs.contracts.rows.WantOrd.TheImpl as want_order
 
 -- what a look-up finds, by its kind: a number, an account's name, the account or the change that was looked for, whether something is so, the members of a group, the file of a project with its parent, the bases of a branch, a change, what a commit is to a branch, the changes that joined a branch
 pub data Found : Type 0 where
@@ -187,28 +190,40 @@ IsFound t (want.Standing base) = Finds Stands (StandsAs t.row base)
 IsFound t (want.Joined key) = Finds Joins (HaveJoined t.row key)
 IsFound t want.LeastEpoch = Finds Number (λ n. n ≡ t.count ClosedEpochs)
 
+-- the order of look-ups that is derived: by their kind, then by what is asked
+abbrev pub want_cmp : Want → Want → Ordering
+want_cmp a b = want_order.ghosts.cmp a b
+
+-- what was found, as look-ups speak of it
+abbrev pub meaning : Kept → Found
+meaning (kept.Number n) = Number n
+meaning (kept.Name name) = Name name
+meaning (kept.Holder holder) = Holder holder
+meaning (kept.Sender change) = Holder change
+meaning (kept.IsSo is) = IsSo is
+meaning (kept.Text file) = Text file
+meaning (kept.Commits bases) = Commits bases
+meaning (kept.AChange c) = AChange (option_map (λ r. seen r) c)
+meaning (kept.Stands standing) = Stands standing
+meaning (kept.Joins joined) = Joins joined
+
+-- the members of a group, as a look-up speaks of them
+abbrev pub held : List (ℕ × Option (Unit {0})) → Found
+held t = Members (rows_of t)
+
+-- the group whose members are looked up
+abbrev pub group_of : Want → Option (List ℕ)
+group_of (want.Group group) = Some group
+group_of w = None
+
+-- what rows know of the members of a group, or else of another look-up
+abbrev pub known_by : Rows → Want → Option (List ℕ) → Option Found
+known_by rows w (Some group) = option_map held (row_in (slice_cmp nat_cmp) (rows_of rows.groups) group)
+known_by rows w None = option_map meaning (row_in want_cmp (rows_of rows.found) w)
+
 -- What rows know of a look-up: nothing where it wasn't made, and otherwise what it found.
 abbrev pub known : Rows → Want → Option Found
-known rows want.Requests = option_map Number rows.requests
-known rows (want.Account number) = option_map Name (row_in nat_cmp (rows_of rows.accounts) number)
-known rows (want.AccountNamed name) = option_map Holder (row_in (slice_cmp nat_cmp) (rows_of rows.named) name)
-known rows want.LastAccount = option_map Number rows.last_account
-known rows (want.Member m) = option_map IsSo (row_in member_cmp (rows_of rows.members) m)
-known rows (want.Group group) = option_map (λ t. Members (rows_of t)) (row_in (slice_cmp nat_cmp) (rows_of rows.groups) group)
-known rows (want.File project) = option_map Text (row_in (slice_cmp nat_cmp) (rows_of rows.files) project)
-known rows (want.Project project) = option_map IsSo (row_in (slice_cmp nat_cmp) (rows_of rows.projects) project)
-known rows (want.Room counted.Projects) = option_map IsSo rows.room_for_projects
-known rows (want.Room (counted.BasesOf project)) = option_map IsSo (row_in (slice_cmp nat_cmp) (rows_of rows.room_for_bases) project)
-known rows (want.Base base) = option_map IsSo (row_in base_cmp (rows_of rows.known_bases) base)
-known rows (want.LastPlace key) = option_map Number (row_in branch_cmp (rows_of rows.last_places) key)
-known rows (want.Bases key) = option_map Commits (row_in branch_cmp (rows_of rows.bases) key)
-known rows (want.Change n) = option_map (λ c. AChange (option_map (λ r. seen r) c)) (row_in nat_cmp (rows_of rows.changes) n)
-known rows (want.ChangeOf base) = option_map Holder (row_in base_cmp (rows_of rows.senders) base)
-known rows want.LastChange = option_map Number rows.last_change
-known rows (want.LastJoined key) = option_map Number (row_in branch_cmp (rows_of rows.last_joined) key)
-known rows (want.Standing base) = option_map Stands (row_in base_cmp (rows_of rows.standings) base)
-known rows (want.Joined key) = option_map Joins (row_in branch_cmp (rows_of rows.joined) key)
-known rows want.LeastEpoch = option_map Number rows.least_epoch
+known rows w = known_by rows w (group_of w)
 
 -- what rows know is so in these tables
 abbrev pub Agrees : Tables → Rows → Type 0
@@ -267,10 +282,11 @@ abbrev pub change_in : Option Found → Option Change
 change_in (Some (AChange c)) = c
 change_in found = None
 
--- what a commit is found to be to a branch
+-- what a commit is found to be to a branch; where something else was found, as no look-up does, nothing to it
 abbrev pub standing_of : Option Found → Option Standing
 standing_of (Some (Stands standing)) = Some standing
-standing_of found = None
+standing_of (Some found) = Some Nowhere
+standing_of None = None
 
 -- the changes that are found to have joined a branch
 abbrev pub joined_of : Option Found → List JoinedChange

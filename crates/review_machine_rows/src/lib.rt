@@ -12,7 +12,6 @@
 #![tactic(auto)]
 
 mod known;
-mod learned;
 pub mod links;
 pub mod matter;
 pub mod rows;
@@ -22,8 +21,8 @@ pub mod step;
 pub use links::RowLinks;
 pub use matter::Matter;
 pub use rows::{
-    Base, BranchKey, ChangeEdit, Counted, Delta, Kept, MemberKey, Need, PlaceKey, Put, Recalled,
-    Rows, StoredFile, Want,
+    Base, BranchKey, ChangeEdit, Counted, Delta, Found, Kept, MemberKey, Need, PlaceKey, Put,
+    Recalled, Rows, StoredFile, Want,
 };
 pub use shelf::{Shelf, ShelfFault};
 pub use step::Step;

@@ -1,7 +1,7 @@
 //! A branch as rows know it, for the chains of its changes.
 ghost use Rattle.std.specs.Prelude.{◌≡◌, IfOk};
 
-use crate::rows::{Base, Rows};
+use crate::rows::{Base, Rows, Want};
 use review_chain::{Link, Links, Standing};
 use review_words::{BranchName, ChangeNo, CommitName, ProjectName};
 use std::alloc::{AllocError, Global};
@@ -40,7 +40,7 @@ impl Links for RowLinks<'_> {
 
     fn standing(&self, alloc: Global, commit: &CommitName) -> Result<Option<Standing>, AllocError> {
         let base = base_of(alloc, self.project, self.branch, commit)?;
-        Ok(self.rows.standing(&base))
+        Ok(self.rows.standing(&Want::Standing(base)))
     }
 }
 

@@ -124,7 +124,7 @@ pub struct ChangeEdit {
 }
 
 /// What is counted of a desk, up to a limit.
-#[derive(PartialEq, Eq, Drop)]
+#[derive(PartialEq, Eq, PartialOrd, Ord, Drop)]
 pub enum Counted {
     /// The projects: at most 1,000.
     Projects,
@@ -134,7 +134,7 @@ pub enum Counted {
 
 /// One look-up. Each is by a full key or by the front of one, but for the greatest numbers, for the least open epoch and for whether a count has
 /// reached its limit, of which a shelf may know more than its rows: none needs a walk over a table.
-#[derive(Drop)]
+#[derive(PartialEq, Eq, PartialOrd, Ord, Drop)]
 pub enum Want {
     /// How many requests were ever stored, those that were given up among them.
     Requests,
@@ -176,41 +176,82 @@ pub enum Want {
     LeastEpoch,
 }
 
+impl Counted {
+    /// The same count once more, which shares the project's name. An error where there was no memory for it.
+    fn copied(&self, alloc: Global) -> Result<Counted, AllocError>
+        ensures { IfOk result (λ c. c ≡ self.now) }
+    {
+        match self {
+            Counted::Projects => Ok(Counted::Projects),
+            Counted::BasesOf(project) => Ok(Counted::BasesOf(project.copy(alloc)?)),
+        }
+    }
+}
+
+impl Key for Want {
+    fn copy(&self, alloc: Global) -> Result<Want, AllocError> {
+        match self {
+            Want::Requests => Ok(Want::Requests),
+            Want::Account(number) => Ok(Want::Account(*number)),
+            Want::AccountNamed(name) => Ok(Want::AccountNamed(name.copy(alloc)?)),
+            Want::LastAccount => Ok(Want::LastAccount),
+            Want::Member(member) => Ok(Want::Member(member.copy(alloc)?)),
+            Want::Group(group) => Ok(Want::Group(group.copy(alloc)?)),
+            Want::File(project) => Ok(Want::File(project.copy(alloc)?)),
+            Want::Project(project) => Ok(Want::Project(project.copy(alloc)?)),
+            Want::Room(counted) => Ok(Want::Room(counted.copied(alloc)?)),
+            Want::Base(base) => Ok(Want::Base(base.copy(alloc)?)),
+            Want::LastPlace(branch) => Ok(Want::LastPlace(branch.copy(alloc)?)),
+            Want::Bases(branch) => Ok(Want::Bases(branch.copy(alloc)?)),
+            Want::Change(number) => Ok(Want::Change(*number)),
+            Want::ChangeOf(base) => Ok(Want::ChangeOf(base.copy(alloc)?)),
+            Want::LastChange => Ok(Want::LastChange),
+            Want::LastJoined(branch) => Ok(Want::LastJoined(branch.copy(alloc)?)),
+            Want::Standing(base) => Ok(Want::Standing(base.copy(alloc)?)),
+            Want::Joined(branch) => Ok(Want::Joined(branch.copy(alloc)?)),
+            Want::LeastEpoch => Ok(Want::LeastEpoch),
+        }
+    }
+}
+
 /// What a load asks for.
 #[derive(Drop)]
 pub struct Need {
     pub wants: Vec<Want>,
 }
 
+/// What a look-up finds, but for that of a group, which finds a table of its members.
+#[derive(Drop)]
+pub enum Found {
+    /// A number; 0 where there is none.
+    Number(u64),
+    /// The name of an account, or that there is no such account.
+    Name(Option<AccountName>),
+    /// The account that was looked for, or that none is that.
+    Holder(Option<AccountNo>),
+    /// The change that was looked for, or that none is that.
+    Sender(Option<ChangeNo>),
+    /// Whether it is so.
+    IsSo(bool),
+    /// The file of a project, or that there is no such project.
+    Text(Option<StoredFile>),
+    /// The bases of a branch.
+    Commits(Bases),
+    /// A change with all its rows, or that there is no such change.
+    AChange(Option<ChangeRows>),
+    /// What a commit is to a branch.
+    Stands(Standing),
+    /// The changes that joined a branch, in the order of their places.
+    Joins(Listed<JoinedChange>),
+}
+
 /// What is known of the tables: of each look-up that was made, what it found. Of others nothing is known.
 #[derive(Drop)]
 pub struct Rows {
-    pub requests: Option<u64>,
-    pub accounts: Table<AccountNo, Option<AccountName>>,
-    pub named: Table<AccountName, Option<AccountNo>>,
-    /// The greatest number of an account; 0 where there is none.
-    pub last_account: Option<u32>,
-    pub members: Table<MemberKey, bool>,
+    /// The members of the groups that were looked up, in a table of its own, since what judges files reads them there.
     pub groups: Table<GroupName, Table<AccountNo, ()>>,
-    pub files: Table<ProjectName, Option<StoredFile>>,
-    pub projects: Table<ProjectName, bool>,
-    pub room_for_projects: Option<bool>,
-    pub room_for_bases: Table<ProjectName, bool>,
-    pub known_bases: Table<Base, bool>,
-    /// The last place of each branch; 0 where it has no base.
-    pub last_places: Table<BranchKey, u64>,
-    pub bases: Table<BranchKey, Bases>,
-    pub changes: Table<ChangeNo, Option<ChangeRows>>,
-    pub senders: Table<Base, Option<ChangeNo>>,
-    /// The greatest number of a change; 0 where there is none.
-    pub last_change: Option<u32>,
-    /// The last place that a change joined a branch at; 0 where none did.
-    pub last_joined: Table<BranchKey, u32>,
-    pub standings: Table<Base, Standing>,
-    /// The changes that joined a branch, in the order of their places.
-    pub joined: Table<BranchKey, Listed<JoinedChange>>,
-    /// The least open epoch.
-    pub least_epoch: Option<u32>,
+    /// What all other look-ups found.
+    pub found: Table<Want, Found>,
 }
 
 /// What a request changes: for each account and member that it names a new row, or none; the file of a project and the base at a place

@@ -8,3 +8,4 @@ pub mod Once
 pub mod Told
 pub mod Turned
 pub mod Decided
+pub mod Linked

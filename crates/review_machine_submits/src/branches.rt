@@ -7,8 +7,8 @@ ghost use Rattle.review_machine_rows.specs.Known.{known, commits_of, joined_of};
 ghost use Rattle.review_machine_rows.specs.{Questions.IsQueryAnswerBy, Steps.OfQuery, View.AreEnough};
 ghost use Rattle.review_machine_rows.specs.declared.rows.Want.TheVariants as want;
 
-use review_machine_accounts::{branch_of, is_asker};
-use review_machine_rows::{BranchKey, Rows};
+use review_machine_accounts::{branch_of, is_asker, is_project};
+use review_machine_rows::{BranchKey, Rows, Want};
 use review_words::{
     AccountNo, Answer, Bases, BranchName, JoinedChange, Listed, NotTaken, ProjectName, Refusal,
     Reply,
@@ -32,15 +32,15 @@ pub fn show_branch(
     if !known {
         return Ok(Reply::Refused(Refusal::UnknownCaller));
     }
-    if !rows.has_project(project) {
+    let there = is_project(alloc, rows, project)?;
+    if !there {
         return Ok(Reply::Refused(Refusal::NoProject));
     }
-    let key = branch_of(alloc, project, branch)?;
-    let bases = known_bases(alloc, rows, &key)?;
+    let bases = known_bases(alloc, rows, branch_of(alloc, project, branch)?)?;
     if bases.is_empty() {
         return Ok(Reply::Refused(Refusal::NoBranch));
     }
-    let joined = known_joined(alloc, rows, &key)?;
+    let joined = known_joined(alloc, rows, branch_of(alloc, project, branch)?)?;
     Ok(Reply::Done(Answer::Branch { bases, joined }))
 }
 
@@ -48,12 +48,12 @@ pub fn show_branch(
 fn known_joined(
     alloc: Global,
     rows: &Rows,
-    branch: &BranchKey,
+    branch: BranchKey,
 ) -> Result<Listed<JoinedChange>, AllocError>
-    ensures { IfOk result (λ js. js ≡ joined_of (known rows.now (want.Joined branch.now))) }
+    ensures { IfOk result (λ js. js ≡ joined_of (known rows.now (want.Joined branch))) }
 {
     let mut joined = Vec::new(alloc);
-    if let Some(known) = rows.joined(branch) {
+    if let Some(known) = rows.joined(&Want::Joined(branch)) {
         push_joined(alloc, &mut joined, known.as_slice())?;
     }
     Ok(Listed::from_vec(joined))
@@ -76,10 +76,10 @@ fn push_joined(
 }
 
 // The bases of a branch, as they are known.
-fn known_bases(alloc: Global, rows: &Rows, branch: &BranchKey) -> Result<Bases, AllocError>
-    ensures { IfOk result (λ b. b ≡ commits_of (known rows.now (want.Bases branch.now))) }
+fn known_bases(alloc: Global, rows: &Rows, branch: BranchKey) -> Result<Bases, AllocError>
+    ensures { IfOk result (λ b. b ≡ commits_of (known rows.now (want.Bases branch))) }
 {
-    match rows.bases(branch) {
+    match rows.bases(&Want::Bases(branch)) {
         Some(bases) => bases.copy(alloc),
         None => Ok(Bases::new(alloc)),
     }

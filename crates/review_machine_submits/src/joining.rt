@@ -1,6 +1,6 @@
 //! Changes that join their branch.
 ghost use Rattle.std.specs.List.{AllByRecursion, IsDistinct};
-ghost use Rattle.std.specs.Prelude.{◌≡◌, ◌⊎◌, ◌==◌, IfErr, IfOk, List, ℕ};
+ghost use Rattle.std.specs.Prelude.{◌≡◌, ◌⊎◌, ◌==◌, ◌<◌, ◌^◌, IfErr, IfOk, List, ℕ};
 ghost use Rattle.review_table.specs.Rows.{after_row_edit};
 ghost use Rattle.review_words.specs.declared.reply.NotTaken.TheVariants.{Damaged, Memory};
 ghost use Rattle.review_core_rules.specs.{Change.joined_at, Parts.Part, Parts.part_row, Seen.seen};
@@ -13,7 +13,7 @@ use review_core_rules::ChangeRows;
 use review_machine_accounts::{branch_of, nothing};
 use review_machine_change_rows::edit_of;
 use review_machine_changes::edits::change_file;
-use review_machine_rows::{ChangeEdit, Delta, Rows};
+use review_machine_rows::{ChangeEdit, Delta, Rows, Want};
 use review_words::{ChangeNo, NotTaken};
 use std::alloc::{AllocError, Global};
 
@@ -74,12 +74,13 @@ fn join_edits(
     Ok(edits)
 }
 
-/// The last place that is taken in the branch of a change.
+/// The last place that is taken in the branch of a change; 2^32 - 1 for a greater one, which no branch has.
 fn last_joined(alloc: Global, rows: &Rows, found: &ChangeRows) -> Result<u32, AllocError>
-    ensures { IfOk result (λ last. last ≡ last_in rows.now (seen found.now)) }
+    ensures { IfOk result (λ last. last_in rows.now (seen found.now) < 2 ^ 32 → last ≡ last_in rows.now (seen found.now)) }
 {
     let branch = branch_of(alloc, &found.header.project, &found.header.branch)?;
-    Ok(rows.last_joined(&branch))
+    let last = rows.number(&Want::LastJoined(branch));
+    Ok(u32::try_from(last).unwrap_or(u32::MAX))
 }
 
 /// What makes the changes of a chain join the branch of a change, at the places after the last one that is taken.
@@ -97,7 +98,7 @@ pub fn join_chain(
 {
     let last = last_joined(alloc, rows, found)?;
     let joined = joins(alloc, chain, last)?;
-    let request = rows.requests().saturating_add(1);
+    let request = rows.number(&Want::Requests).saturating_add(1);
     let edits = join_edits(alloc, rows, &joined, request)?;
     let mut delta = nothing(alloc);
     delta.changes = edits;

@@ -1,11 +1,10 @@
--- What look-ups in tables in memory find.
+-- What look-ups in tables in memory don't find.
 use Rattle.std.proofs.Common.{◌≡◌, ℕ, List, Result, Ok, Err, sym, subst}
-use Rattle.std.specs.{Prelude.IfErr, Prelude.OnOk, Result.IsErr, Result.IsErrAnd, declared.alloc.AllocError.AllocError}
+use Rattle.std.specs.{Prelude.IfErr, Result.IsErr, Result.IsErrAnd}
 use Rattle.review_words.specs.History.{bases as bases_in}
 use Rattle.review_machine_rows.proofs.{Looked.based_from, Readings.reading_of}
-use Rattle.review_machine_rows.specs.Known.{Found, IsFound, Learns, at_place, LearnsFound}
-use Rattle.review_machine_rows.specs.{Rows.Tables, Rows.BaseKey, Shelf.IsDamaged, declared.rows.BranchKey.BranchKey}
-use Rattle.review_machine_rows.specs.declared.{rows.Rows.Rows, rows.Want.Want, shelf.ShelfFault.ShelfFault}
+use Rattle.review_machine_rows.specs.{Known.at_place, Rows.Tables, Rows.BaseKey, Shelf.IsDamaged}
+use Rattle.review_machine_rows.specs.declared.{rows.BranchKey.BranchKey, shelf.ShelfFault.ShelfFault}
 use Rattle.review_memory_rows.specs.Bases.{IsUnlisted, AreBases, base_at}
 use Rattle.review_memory_rows.specs.{Loads.fault_of, declared.bases.BasesFault.BasesFault}
 use Rattle.review_memory.specs.{Desk.Desk, Desk.tables_of, Loads.IsUnread}
@@ -27,8 +26,3 @@ bases_unread d key bases.Gap none = unlisted_damaged d key none
 pub passed_on : {X F : Type 0} (t : Tables) (of : F → ShelfFault) (f : F) (r : Result X ShelfFault) → IsErr r × IsErrAnd r (λ e. e ≡ of f) → IsUnread t (of f) → IfErr r (IsUnread t)
 passed_on t of f (Ok x) e unread = tt
 passed_on t of f (Err x) e unread = subst (IsUnread t) (sym e.1) unread
-
--- what was looked up is learnt, or there was no memory for it
-pub looked_so : (t : Tables) (asked w : Want) (f : Found) (old new : Rows) (r : Result (Unit {0}) AllocError) → asked ≡ w → IsFound t w f → OnOk r (Learns asked f old new) → OnOk r (LearnsFound t w old new)
-looked_so t asked w f old new (Ok u) same is learns = (f, is, subst (λ v. Learns v f old new) same learns)
-looked_so t asked w f old new (Err e) same is learns = tt

@@ -1,20 +1,18 @@
 //! What look-ups find in tables in memory.
 ghost use Rattle.std.specs.{Cmp.Lexicographic.slice_cmp, Ordering.nat_cmp};
-ghost use Rattle.std.specs.Prelude.{◌≡◌, ℕ, Some, None, IfOk, IfErr, OnOk, MatchOption, is_some, nat_lt, option_copied};
+ghost use Rattle.std.specs.Prelude.{◌≡◌, ℕ, Some, None, IfOk, IfErr, OnOk, MatchOption};
 ghost use Rattle.review_table.specs.Rows.{row_in, rows_of};
-ghost use Rattle.review_machine_rows.specs.Known.{Agrees, AreAsked, IsLast, HasMembers, StandsAs, LearnsFound};
+ghost use Rattle.review_machine_rows.specs.Known.{Agrees, AreAsked, IsFound, IsLast, HasMembers, StandsAs, LearnsFound, group_of, meaning};
 ghost use Rattle.review_machine_rows.specs.Rows.{AccountKey, member_cmp};
 ghost use Rattle.review_memory.specs.Desk.{tables_of, desk_of, row_of, IsIndexed, IsNumbered};
 ghost use Rattle.review_memory.specs.Loads.{IsUnread};
-ghost use Rattle.review_machine_rows.specs.declared.rows.Want.TheVariants as want;
-ghost use Rattle.review_machine_rows.specs.declared.rows.Counted.TheVariants as counted;
 
 use crate::keys::NameKey;
 use crate::tables::MemoryTables;
 use review_chain::Standing;
-use review_machine_rows::{Base, BranchKey, Counted, MemberKey, Need, Rows, ShelfFault, Want};
+use review_machine_rows::{Base, Counted, Found, MemberKey, Need, Rows, ShelfFault, Want};
 use review_table::{Key, Table};
-use review_words::{AccountName, AccountNo, ChangeNo, GroupName, ProjectName};
+use review_words::{AccountName, AccountNo, GroupName};
 use std::alloc::{AllocError, Global};
 
 /// The most projects of a desk.
@@ -40,245 +38,65 @@ impl MemoryTables {
         Ok(rows)
     }
 
+    // Learns what a look-up finds.
     fn find(&self, alloc: Global, want: &Want, rows: &mut Rows) -> Result<(), ShelfFault>
         requires indexed { IsIndexed (rows_of self.now.accounts) (rows_of self.now.names) }
         requires numbered { IsNumbered (rows_of self.now.members) }
         ensures found { OnOk result (LearnsFound (tables_of (desk_of self.now)) want.now rows.old rows.new) }
         ensures fault { IfErr result (IsUnread (tables_of (desk_of self.now))) }
     {
-        match want {
-            Want::Requests => self.find_requests(rows),
-            Want::Account(number) => self.find_account(alloc, *number, rows)?,
-            Want::AccountNamed(name) => self.find_holder(alloc, name, rows)?,
-            Want::LastAccount => self.find_last_account(rows),
-            Want::Member(member) => self.find_member(alloc, member, rows)?,
-            Want::Group(group) => self.find_group(alloc, group, rows)?,
-            Want::File(project) => self.find_file(alloc, project, rows)?,
-            Want::Project(project) => self.find_project(alloc, project, rows)?,
-            Want::Room(Counted::Projects) => self.find_room_for_projects(rows),
-            Want::Room(Counted::BasesOf(project)) => {
-                self.find_room_for_bases(alloc, project, rows)?
+        match want.group() {
+            Some(group) => {
+                let members = self.members_of(alloc, group)?;
+                rows.learn_group(group.copy(alloc)?, members)?;
             }
-            Want::Base(base) => self.find_base(alloc, base, rows)?,
-            Want::LastPlace(branch) => self.find_last_place(alloc, branch, rows)?,
-            Want::Bases(branch) => return self.find_bases(alloc, branch, rows),
-            Want::Change(number) => return self.find_change(alloc, *number, rows),
-            Want::ChangeOf(base) => self.find_change_of(alloc, base, rows)?,
-            Want::LastChange => self.find_last_change(rows),
-            Want::LeastEpoch => self.find_least_epoch(rows),
-            Want::LastJoined(branch) => self.find_last_joined(alloc, branch, rows)?,
-            Want::Standing(base) => self.find_standing(alloc, base, rows)?,
-            Want::Joined(branch) => self.find_joined(alloc, branch, rows)?,
+            None => {
+                let found = self.look_up(alloc, want)?;
+                rows.learn(want.copy(alloc)?, found)?;
+            }
         }
         Ok(())
     }
 
-    fn find_requests(&self, rows: &mut Rows)
-        ensures { LearnsFound (tables_of (desk_of self.now)) want.Requests rows.old rows.new }
-    {
-        rows.learn_requests(self.requests);
-    }
-
-    fn find_account(
-        &self,
-        alloc: Global,
-        number: AccountNo,
-        rows: &mut Rows,
-    ) -> Result<(), AllocError>
-        ensures { OnOk result (LearnsFound (tables_of (desk_of self.now)) (want.Account number) rows.old rows.new) }
-    {
-        let name = match self.accounts.get(&number) {
-            Some(name) => Some(name.copy(alloc)?),
-            None => None,
-        };
-        rows.learn_account(number, name)
-    }
-
-    fn find_holder(
-        &self,
-        alloc: Global,
-        name: &AccountName,
-        rows: &mut Rows,
-    ) -> Result<(), AllocError>
-        requires { IsIndexed (rows_of self.now.accounts) (rows_of self.now.names) }
-        ensures { OnOk result (LearnsFound (tables_of (desk_of self.now)) (want.AccountNamed name.now) rows.old rows.new) }
-    {
-        let holder = self.named(alloc, name)?;
-        rows.learn_holder(name.copy(alloc)?, holder)
-    }
-
-    fn find_last_account(&self, rows: &mut Rows)
-        ensures { LearnsFound (tables_of (desk_of self.now)) want.LastAccount rows.old rows.new }
-    {
-        rows.learn_last_account(self.last_account());
-    }
-
-    fn find_member(
-        &self,
-        alloc: Global,
-        member: &MemberKey,
-        rows: &mut Rows,
-    ) -> Result<(), AllocError>
-        ensures { OnOk result (LearnsFound (tables_of (desk_of self.now)) (want.Member member.now) rows.old rows.new) }
-    {
-        let is = self.members.get(member).is_some();
-        rows.learn_member(member.copy(alloc)?, is)
-    }
-
-    fn find_group(
-        &self,
-        alloc: Global,
-        group: &GroupName,
-        rows: &mut Rows,
-    ) -> Result<(), AllocError>
-        requires { IsNumbered (rows_of self.now.members) }
-        ensures { OnOk result (LearnsFound (tables_of (desk_of self.now)) (want.Group group.now) rows.old rows.new) }
-    {
-        let members = self.members_of(alloc, group)?;
-        rows.learn_group(group.copy(alloc)?, members)
-    }
-
-    fn find_file(
-        &self,
-        alloc: Global,
-        project: &ProjectName,
-        rows: &mut Rows,
-    ) -> Result<(), AllocError>
-        ensures { OnOk result (LearnsFound (tables_of (desk_of self.now)) (want.File project.now) rows.old rows.new) }
-    {
-        let file = match self.files.get(project) {
-            Some(file) => Some(file.copy(alloc)?),
-            None => None,
-        };
-        rows.learn_file(project.copy(alloc)?, file)
-    }
-
-    fn find_project(
-        &self,
-        alloc: Global,
-        project: &ProjectName,
-        rows: &mut Rows,
-    ) -> Result<(), AllocError>
-        ensures { OnOk result (LearnsFound (tables_of (desk_of self.now)) (want.Project project.now) rows.old rows.new) }
-    {
-        let is = self.files.get(project).is_some();
-        rows.learn_project(project.copy(alloc)?, is)
-    }
-
-    fn find_room_for_projects(&self, rows: &mut Rows)
-        ensures { LearnsFound (tables_of (desk_of self.now)) (want.Room counted.Projects) rows.old rows.new }
-    {
-        rows.learn_room_for_projects(self.projects < MOST_PROJECTS);
-    }
-
-    fn find_room_for_bases(
-        &self,
-        alloc: Global,
-        project: &ProjectName,
-        rows: &mut Rows,
-    ) -> Result<(), AllocError>
-        ensures { OnOk result (LearnsFound (tables_of (desk_of self.now)) (want.Room (counted.BasesOf project.now)) rows.old rows.new) }
-    {
-        let is = self.branches.total(project) < MOST_BASES;
-        rows.learn_room_for_bases(project.copy(alloc)?, is)
-    }
-
-    fn find_base(&self, alloc: Global, base: &Base, rows: &mut Rows) -> Result<(), AllocError>
-        ensures { OnOk result (LearnsFound (tables_of (desk_of self.now)) (want.Base base.now) rows.old rows.new) }
-    {
-        let is = self.branches.has(alloc, base)?;
-        rows.learn_base(base.copy(alloc)?, is)
-    }
-
-    fn find_last_place(
-        &self,
-        alloc: Global,
-        branch: &BranchKey,
-        rows: &mut Rows,
-    ) -> Result<(), AllocError>
-        ensures { OnOk result (LearnsFound (tables_of (desk_of self.now)) (want.LastPlace branch.now) rows.old rows.new) }
-    {
-        let last = self.branches.last_place(branch);
-        rows.learn_last_place(branch.copy(alloc)?, last)
-    }
-
-    fn find_bases(
-        &self,
-        alloc: Global,
-        branch: &BranchKey,
-        rows: &mut Rows,
-    ) -> Result<(), ShelfFault>
-        ensures found { OnOk result (LearnsFound (tables_of (desk_of self.now)) (want.Bases branch.now) rows.old rows.new) }
+    // What a look-up finds, but for that of a group.
+    fn look_up(&self, alloc: Global, want: &Want) -> Result<Found, ShelfFault>
+        requires plain { group_of want.now ≡ None }
+        requires indexed { IsIndexed (rows_of self.now.accounts) (rows_of self.now.names) }
+        ensures found { IfOk result (λ f. IsFound (tables_of (desk_of self.now)) want.now (meaning f)) }
         ensures fault { IfErr result (IsUnread (tables_of (desk_of self.now))) }
     {
-        let bases = self.branches.bases_of(alloc, branch)?;
-        rows.learn_bases(branch.copy(alloc)?, bases)?;
-        Ok(())
-    }
-
-    fn find_change(
-        &self,
-        alloc: Global,
-        number: ChangeNo,
-        rows: &mut Rows,
-    ) -> Result<(), ShelfFault>
-        ensures found { OnOk result (LearnsFound (tables_of (desk_of self.now)) (want.Change number) rows.old rows.new) }
-        ensures fault { IfErr result (IsUnread (tables_of (desk_of self.now))) }
-    {
-        let change = self.changes.load(alloc, number)?;
-        rows.learn_change(number, change)?;
-        Ok(())
-    }
-
-    fn find_change_of(&self, alloc: Global, base: &Base, rows: &mut Rows) -> Result<(), AllocError>
-        ensures { OnOk result (LearnsFound (tables_of (desk_of self.now)) (want.ChangeOf base.now) rows.old rows.new) }
-    {
-        let change = self.changes.sender(alloc, base)?;
-        rows.learn_change_of(base.copy(alloc)?, change)
-    }
-
-    /// Finds the least open epoch.
-    fn find_least_epoch(&self, rows: &mut Rows)
-        ensures { LearnsFound (tables_of (desk_of self.now)) want.LeastEpoch rows.old rows.new }
-    {
-        rows.learn_least_epoch(self.least);
-    }
-
-    fn find_last_change(&self, rows: &mut Rows)
-        ensures { LearnsFound (tables_of (desk_of self.now)) want.LastChange rows.old rows.new }
-    {
-        rows.learn_last_change(self.changes.last());
-    }
-
-    fn find_last_joined(
-        &self,
-        alloc: Global,
-        branch: &BranchKey,
-        rows: &mut Rows,
-    ) -> Result<(), AllocError>
-        ensures { OnOk result (LearnsFound (tables_of (desk_of self.now)) (want.LastJoined branch.now) rows.old rows.new) }
-    {
-        let last = self.changes.last_joined(alloc, branch)?;
-        rows.learn_last_joined(branch.copy(alloc)?, last)
-    }
-
-    fn find_standing(&self, alloc: Global, base: &Base, rows: &mut Rows) -> Result<(), AllocError>
-        ensures { OnOk result (LearnsFound (tables_of (desk_of self.now)) (want.Standing base.now) rows.old rows.new) }
-    {
-        let standing = self.standing_of(alloc, base)?;
-        rows.learn_standing(base.copy(alloc)?, standing)
-    }
-
-    fn find_joined(
-        &self,
-        alloc: Global,
-        branch: &BranchKey,
-        rows: &mut Rows,
-    ) -> Result<(), AllocError>
-        ensures { OnOk result (LearnsFound (tables_of (desk_of self.now)) (want.Joined branch.now) rows.old rows.new) }
-    {
-        let joined = self.changes.joined(alloc, branch)?;
-        rows.learn_joined(branch.copy(alloc)?, joined)
+        match want {
+            Want::Requests => Ok(Found::Number(self.requests)),
+            Want::Account(number) => match self.accounts.get(number) {
+                Some(name) => Ok(Found::Name(Some(name.copy(alloc)?))),
+                None => Ok(Found::Name(None)),
+            },
+            Want::AccountNamed(name) => Ok(Found::Holder(self.named(alloc, name)?)),
+            Want::LastAccount => Ok(Found::Number(u64::from(self.last_account()))),
+            Want::Member(member) => Ok(Found::IsSo(self.members.get(member).is_some())),
+            Want::Group(_) => unreachable!(),
+            Want::File(project) => match self.files.get(project) {
+                Some(file) => Ok(Found::Text(Some(file.copy(alloc)?))),
+                None => Ok(Found::Text(None)),
+            },
+            Want::Project(project) => Ok(Found::IsSo(self.files.get(project).is_some())),
+            Want::Room(Counted::Projects) => Ok(Found::IsSo(self.projects < MOST_PROJECTS)),
+            Want::Room(Counted::BasesOf(project)) => {
+                Ok(Found::IsSo(self.branches.total(project) < MOST_BASES))
+            }
+            Want::Base(base) => Ok(Found::IsSo(self.branches.has(alloc, base)?)),
+            Want::LastPlace(branch) => Ok(Found::Number(self.branches.last_place(branch))),
+            Want::Bases(branch) => Ok(Found::Commits(self.branches.bases_of(alloc, branch)?)),
+            Want::Change(number) => Ok(Found::AChange(self.changes.load(alloc, *number)?)),
+            Want::ChangeOf(base) => Ok(Found::Sender(self.changes.sender(alloc, base)?)),
+            Want::LastChange => Ok(Found::Number(u64::from(self.changes.last()))),
+            Want::LastJoined(branch) => {
+                Ok(Found::Number(u64::from(self.changes.last_joined(alloc, branch)?)))
+            }
+            Want::Standing(base) => Ok(Found::Stands(self.standing_of(alloc, base)?)),
+            Want::Joined(branch) => Ok(Found::Joins(self.changes.joined(alloc, branch)?)),
+            Want::LeastEpoch => Ok(Found::Number(u64::from(self.least))),
+        }
     }
 
     /// What a commit is to a branch.

@@ -1,24 +1,35 @@
 -- Look-ups one after the other.
-use Rattle.std.proofs.Common.{◌≡◌, ◌∙◌, inl, inr, ℕ, ◌+◌, ◌<◌, Bool, true, false, List, take, get_or, length, None, Result, Ok, Err, refl, sym, subst}
+use Rattle.std.proofs.Common.{Some, ap, ◌≡◌, ◌∙◌, inl, inr, ℕ, ◌+◌, ◌<◌, Bool, true, false, List, take, get_or, length, None, Result, Ok, Err, refl, sym, subst, OnOk}
+use Rattle.std.{proofs.lemmas.Option.same_Some, specs.declared.alloc.AllocError.AllocError}
 use Rattle.sqlite.specs.{Held.Held, Held.state, State.State, declared.error.Error.Error}
 use Rattle.sqlite_trees.specs.{Tree.Trees, declared.store.Store.Ghosts}
 use Rattle.review_sql_tables.{proofs.Found.look_on, proofs.Found.look_both, specs.Ran.Looks}
 use Rattle.review_machine_rows.proofs.Looked.{asked_more, looked_agrees}
-use Rattle.review_machine_rows.specs.Known.{AreAsked, Agrees, known}
+use Rattle.review_machine_rows.specs.Known.{group_of, AreAsked, Agrees, known, Found, IsFound, Learns}
 use Rattle.review_machine_rows.specs.declared.rows.{Rows.Rows, Want.Want}
-use Rattle.review_sql_lookups.specs.{Counts.AreBounded, Counts.SeesBounded, Loads.HasLearnt, Loads.Sees}
-use Rattle.review_sql_lookups.specs.{Tables.tables_at, declared.counts.Counts.Counts, declared.sights.Sight.Sight}
-use Rattle.review_sql.specs.Loading.{LooksIf, LooksOnce, WereSeen}
-use Rattle.review_sql_lookups.specs.declared.sights.Sight.TheVariants as sight
+use Rattle.review_sql_lookups.specs.{Counts.AreBounded, Tables.tables_at, declared.counts.Counts.Counts}
+use Rattle.review_sql.specs.Loading.{HasLearnt, LearnsBounded, LearnsSeen, LooksIf, LooksOnce, WereSeen, learnt_by}
+use Rattle.review_sql.specs.declared.loading.Ended.{Ended}
+use Rattle.review_machine_rows.specs.declared.rows.Want.TheVariants as want
+use Rattle.review_sql.specs.declared.loading.Ended.TheVariants as ended
 
 -- what rows know is so, and what is known of counts, where what was known is so
 abbrev pub Have : Rows → Counts → Counts → Trees → Unit {0} → Type 0
 Have rows before more db u = AreBounded before (tables_at db) → Agrees (tables_at db) rows × AreBounded more (tables_at db)
 
--- a look-up that isn't of a count leaves what is known of them
-pub beside : (w : Want) (old new : Rows) (counts : Counts) (a b : State) (r : Result Sight Error) → Looks (Sees w old new) a b r → Looks (SeesBounded w old new counts counts) a b r
-beside w old new counts a b (Ok s) it = record { found = λ clean on ready. let f = it.found clean on ready in (f.0, f.1, λ bounded. (f.2, bounded)); kept = it.kept; survives = it.survives }
-beside w old new counts a b (Err e) it = record { found = λ _ _ _. tt; kept = it.kept; survives = it.survives }
+-- the look-up of a group's members
+pub is_group : (w : Want) (group : List ℕ) → Some group ≡ group_of w → w ≡ want.Group group
+is_group (want.Group g) group is = ap want.Group (sym (same_Some group g is))
+is_group w group is = absurd (cc)
+
+-- rows learnt what was found, or there was no memory for it
+pub learnt_seen : (w : Want) (f : Found) (old new : Rows) (db : Trees) (r : Result (Unit {0}) AllocError) → OnOk r (Learns w f old new) → IsFound (tables_at db) w f → LearnsSeen w old new db (learnt_by r)
+learnt_seen w f old new db (Ok u) learns is = (f, is, learns)
+learnt_seen w f old new db (Err e) learns is = tt
+
+pub has_learnt : (w : Want) (f : Found) (old new : Rows) (r : Result (Unit {0}) AllocError) → OnOk r (Learns w f old new) → learnt_by r ≡ ended.Learnt → HasLearnt w old new
+has_learnt w f old new (Ok u) learns is = (f, learns)
+has_learnt w f old new (Err e) learns is = absurd (cc)
 
 -- one more look-up was asked
 pub learnt_asked : (wants : List Want) (i : ℕ) (w : Want) (old new : Rows) → i < length wants → w ≡ get_or wants i w → AreAsked (take i wants) old → HasLearnt w old new → AreAsked (take (i + 1) wants) new
@@ -58,14 +69,14 @@ have_none g rows counts a nothing = (refl, λ db bounded. (λ w found is. absurd
 
 module _ (w : Want) (old new : Rows) (before mid more : Counts) (db : Trees) (have : Have old before mid db tt) where
   -- what is known then, where the look-up learnt
-  pub have_more : SeesBounded w old new mid more db sight.Learnt → Have new before more db tt
+  pub have_more : LearnsBounded w old new mid more db ended.Learnt → Have new before more db tt
   have_more sees bounded = let was = have bounded in let s = sees was.1 in (looked_agrees (tables_at db) w old new s.0 was.0, s.1)
 
   -- and where it didn't
-  pub seen_unlearnt : (s : Sight) → (s ≡ sight.Learnt → ⊥) → SeesBounded w old new mid more db s → WereSeen new before more db s
-  seen_unlearnt sight.Learnt other sees bounded = absurd (other refl)
-  seen_unlearnt sight.NoMemory other sees bounded = (tt, (sees (have bounded).1).1)
-  seen_unlearnt sight.Damaged other sees bounded = sees (have bounded).1
+  pub seen_unlearnt : (e : Ended) → (e ≡ ended.Learnt → ⊥) → LearnsBounded w old new mid more db e → WereSeen new before more db e
+  seen_unlearnt ended.Learnt other sees bounded = absurd (other refl)
+  seen_unlearnt ended.NoMemory other sees bounded = (tt, (sees (have bounded).1).1)
+  seen_unlearnt ended.Damaged other sees bounded = sees (have bounded).1
 
 -- where no statement was made before, the row of the desk was asked for
 module _ {S X D : Type 0} (g : Ghosts S) (F : Trees → X → Type 0) (G : Trees → D → Type 0) (a b c : Held S) where
@@ -81,6 +92,6 @@ asked_failed g true F G a b e f it = failed F G (state g a) (state g b) e f it
 asked_failed g false F G a b e f it = absurd it
 
 -- all were made
-pub all_seen : {S : Type 0} (g : Ghosts S) (is : Bool) (rows : Rows) (before more : Counts) (a b : Held S) → LooksIf g is (Have rows before more) a b (Ok tt) → LooksIf g is (WereSeen rows before more) a b (Ok sight.Learnt)
-all_seen g true rows before more a b it = look_on (Have rows before more) (WereSeen rows before more) (state g a) (state g b) tt (Ok sight.Learnt) it (λ db h. h)
+pub all_seen : {S : Type 0} (g : Ghosts S) (is : Bool) (rows : Rows) (before more : Counts) (a b : Held S) → LooksIf g is (Have rows before more) a b (Ok tt) → LooksIf g is (WereSeen rows before more) a b (Ok ended.Learnt)
+all_seen g true rows before more a b it = look_on (Have rows before more) (WereSeen rows before more) (state g a) (state g b) tt (Ok ended.Learnt) it (λ db h. h)
 all_seen g false rows before more a b it = (it.0, λ db. it.1 db)

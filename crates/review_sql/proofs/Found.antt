@@ -4,26 +4,26 @@ use Rattle.std.specs.Prelude.{Result, IfOk}
 use Rattle.sqlite.specs.{State.State, declared.error.Error.Error}
 use Rattle.review_sql_tables.specs.Ran.{Serves}
 use Rattle.review_machine_rows.specs.{Known.AreAsked, declared.rows.Rows.Rows, declared.rows.Want.Want}
-use Rattle.review_sql_lookups.specs.Loads.{WereAsked}
-use Rattle.review_sql_lookups.specs.declared.{counts.Counts.Counts, sights.Loaded.Loaded, sights.Sight.Sight}
+use Rattle.review_sql_lookups.specs.{Loads.WereAsked, declared.counts.Counts.Counts, declared.sights.Loaded.Loaded}
 use Rattle.review_sql.specs.Loading.{AreLoadedBounded, WereSeen, loaded_by}
-use Rattle.review_sql_lookups.specs.declared.sights.Sight.TheVariants as sight
+use Rattle.review_sql.specs.declared.loading.Ended.{Ended}
+use Rattle.review_sql.specs.declared.loading.Ended.TheVariants as ended
 
-on_loaded : (rows : Rows) (known more : Counts) (old new : State) (r : Result Sight Error) → Serves (WereSeen rows known more) old new r → Serves (AreLoadedBounded known more) old new (loaded_by rows r)
-on_loaded rows known more old new (Ok sight.Learnt) it = record { found = it.found; undone = it.undone; survives = it.survives }
-on_loaded rows known more old new (Ok sight.NoMemory) it = record { found = it.found; undone = it.undone; survives = it.survives }
-on_loaded rows known more old new (Ok sight.Damaged) it = record { found = it.found; undone = it.undone; survives = it.survives }
+on_loaded : (rows : Rows) (known more : Counts) (old new : State) (r : Result Ended Error) → Serves (WereSeen rows known more) old new r → Serves (AreLoadedBounded known more) old new (loaded_by rows r)
+on_loaded rows known more old new (Ok ended.Learnt) it = record { found = it.found; undone = it.undone; survives = it.survives }
+on_loaded rows known more old new (Ok ended.NoMemory) it = record { found = it.found; undone = it.undone; survives = it.survives }
+on_loaded rows known more old new (Ok ended.Damaged) it = record { found = it.found; undone = it.undone; survives = it.survives }
 on_loaded rows known more old new (Err e) it = record { found = it.found; undone = it.undone; survives = it.survives }
 
-pub served_loaded : (rows : Rows) (known more : Counts) (old new : State) (r : Result Sight Error) (l : Result Loaded Error) → l ≡ loaded_by rows r → Serves (WereSeen rows known more) old new r → Serves (AreLoadedBounded known more) old new l
+pub served_loaded : (rows : Rows) (known more : Counts) (old new : State) (r : Result Ended Error) (l : Result Loaded Error) → l ≡ loaded_by rows r → Serves (WereSeen rows known more) old new r → Serves (AreLoadedBounded known more) old new l
 served_loaded rows known more old new r l is it = subst (Serves (AreLoadedBounded known more) old new) (sym is) (on_loaded rows known more old new r it)
 
-on_asked : (wants : List Want) (rows : Rows) (r : Result Sight Error) → IfOk r (λ s. s ≡ sight.Learnt → AreAsked wants rows) → IfOk (loaded_by rows r) (WereAsked wants)
-on_asked wants rows (Ok sight.Learnt) asked = asked refl
-on_asked wants rows (Ok sight.NoMemory) asked = tt
-on_asked wants rows (Ok sight.Damaged) asked = tt
+on_asked : (wants : List Want) (rows : Rows) (r : Result Ended Error) → IfOk r (λ e. e ≡ ended.Learnt → AreAsked wants rows) → IfOk (loaded_by rows r) (WereAsked wants)
+on_asked wants rows (Ok ended.Learnt) asked = asked refl
+on_asked wants rows (Ok ended.NoMemory) asked = tt
+on_asked wants rows (Ok ended.Damaged) asked = tt
 on_asked wants rows (Err e) asked = tt
 
-pub asked_loaded : (wants : List Want) (rows : Rows) (r : Result Sight Error) (l : Result Loaded Error) → l ≡ loaded_by rows r → IfOk r (λ s. s ≡ sight.Learnt → AreAsked wants rows) →
+pub asked_loaded : (wants : List Want) (rows : Rows) (r : Result Ended Error) (l : Result Loaded Error) → l ≡ loaded_by rows r → IfOk r (λ e. e ≡ ended.Learnt → AreAsked wants rows) →
     IfOk l (WereAsked wants)
 asked_loaded wants rows r l is asked = subst (λ x. IfOk x (WereAsked wants)) (sym is) (on_asked wants rows r asked)

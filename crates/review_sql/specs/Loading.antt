@@ -1,34 +1,56 @@
 -- What look-ups tell that are made one after the other.
 use Rattle.std.specs.Prelude.{◌≡◌, ◌⊎◌, Bool, true, false, Result, Ok, Err}
+use Rattle.std.specs.declared.alloc.AllocError.{AllocError}
 use Rattle.sqlite.specs.{Held.Held, Held.state, declared.error.Error.Error}
 use Rattle.sqlite_trees.specs.{Tree.Trees, declared.store.Store.Ghosts}
 use Rattle.review_sql_tables.specs.Ran.{Looks}
-use Rattle.review_machine_rows.specs.{Known.Agrees, Shelf.IsDamaged, declared.rows.Rows.Rows}
+use Rattle.review_machine_rows.specs.Known.{Agrees, Found, Learns, LearnsFound}
+use Rattle.review_machine_rows.specs.{Shelf.IsDamaged, declared.rows.Rows.Rows, declared.rows.Want.Want}
 use Rattle.review_sql_lookups.specs.{Counts.AreBounded, Loads.AreLoaded, Tables.tables_at}
-use Rattle.review_sql_lookups.specs.declared.{counts.Counts.Counts, sights.Loaded.Loaded, sights.Sight.Sight}
+use Rattle.review_sql_lookups.specs.declared.{counts.Counts.Counts, sights.Loaded.Loaded}
+use Rattle.review_sql.specs.declared.loading.Ended.{Ended}
 use Rattle.review_sql_lookups.specs.declared.sights.Loaded.TheVariants as loaded
-use Rattle.review_sql_lookups.specs.declared.sights.Sight.TheVariants as sight
+use Rattle.review_sql.specs.declared.loading.Ended.TheVariants as ended
+
+-- rows learnt what some look-up found
+abbrev pub HasLearnt : Want → Rows → Rows → Type 0
+HasLearnt w old new = (f : Found) × Learns w f old new
+
+-- how a look-up ended: where rows learnt, what it finds in these tables
+abbrev pub LearnsSeen : Want → Rows → Rows → Trees → Ended → Type 0
+LearnsSeen w old new db ended.Learnt = LearnsFound (tables_at db) w old new
+LearnsSeen w old new db ended.NoMemory = Unit {0}
+LearnsSeen w old new db ended.Damaged = IsDamaged (tables_at db)
+
+-- the same where what was known of counts is so, and that what is known then is so too
+abbrev pub LearnsBounded : Want → Rows → Rows → Counts → Counts → Trees → Ended → Type 0
+LearnsBounded w old new known more db e = AreBounded known (tables_at db) → LearnsSeen w old new db e × AreBounded more (tables_at db)
+
+-- that rows learnt, or that there was no memory for it
+abbrev pub learnt_by : Result (Unit {0}) AllocError → Ended
+learnt_by (Ok u) = ended.Learnt
+learnt_by (Err e) = ended.NoMemory
 
 -- what all found, by how the last one ended, and the rows that learnt it
-abbrev pub all_found : Rows → Sight → Loaded
-all_found rows sight.Learnt = loaded.Rows rows
-all_found rows sight.NoMemory = loaded.NoMemory
-all_found rows sight.Damaged = loaded.Damaged
+abbrev pub all_found : Rows → Ended → Loaded
+all_found rows ended.Learnt = loaded.Rows rows
+all_found rows ended.NoMemory = loaded.NoMemory
+all_found rows ended.Damaged = loaded.Damaged
 
 -- the same, unless the store failed
-abbrev pub loaded_by : Rows → Result Sight Error → Result Loaded Error
-loaded_by rows (Ok s) = Ok (all_found rows s)
-loaded_by rows (Err e) = Err e
+abbrev pub loaded_by : Rows → Result Ended Error → Result Loaded Error
+loaded_by rows (Ok e) = Ok (all_found rows e)
+loaded_by rows (Err error) = Err error
 
 -- What look-ups tell of tables: where all learnt, what the rows know is so in them; where there was no memory, nothing; and where one met damage, they are those of no history.
-abbrev pub AreSeen : Rows → Trees → Sight → Type 0
-AreSeen rows db sight.Learnt = Agrees (tables_at db) rows
-AreSeen rows db sight.NoMemory = Unit {0}
-AreSeen rows db sight.Damaged = IsDamaged (tables_at db)
+abbrev pub AreSeen : Rows → Trees → Ended → Type 0
+AreSeen rows db ended.Learnt = Agrees (tables_at db) rows
+AreSeen rows db ended.NoMemory = Unit {0}
+AreSeen rows db ended.Damaged = IsDamaged (tables_at db)
 
 -- the same where what was known of counts is so, and what is known then is so too
-abbrev pub WereSeen : Rows → Counts → Counts → Trees → Sight → Type 0
-WereSeen rows known more db s = AreBounded known (tables_at db) → AreSeen rows db s × AreBounded more (tables_at db)
+abbrev pub WereSeen : Rows → Counts → Counts → Trees → Ended → Type 0
+WereSeen rows known more db e = AreBounded known (tables_at db) → AreSeen rows db e × AreBounded more (tables_at db)
 
 abbrev pub AreLoadedBounded : Counts → Counts → Trees → Loaded → Type 0
 AreLoadedBounded known more db found = AreBounded known (tables_at db) → AreLoaded db found × AreBounded more (tables_at db)

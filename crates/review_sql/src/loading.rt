@@ -1,55 +1,161 @@
 //! What the look-ups of a need find.
-ghost use Rattle.std.specs.Prelude.{◌≡◌, None, false, IfOk};
+ghost use Rattle.std.specs.Prelude.{◌≡◌, None, false, IfOk, OnOk};
 ghost use Rattle.sqlite.specs.Held.{state};
+ghost use Rattle.sqlite_trees.specs.Tree.{Trees};
+ghost use Rattle.review_table.specs.Rows.{rows_of};
 ghost use Rattle.review_sql_tables.specs.Ran.{Looks, Serves};
-ghost use Rattle.review_machine_rows.specs.Known.{AreAsked, known};
-ghost use Rattle.review_sql_lookups.specs.{Counts.SeesBounded, Loads.HasLearnt, Loads.WereAsked};
-ghost use Rattle.review_sql.specs.Loading.{AreLoadedBounded, LooksIf, LooksOnce, WereSeen, loaded_by};
+ghost use Rattle.review_machine_rows.specs.Known.{AreAsked, HasMembers, Learns, group_of, held, known, meaning};
+ghost use Rattle.review_sql_lookups.specs.{Counts.SeesBounded, Loads.IfTold, Loads.Sees, Loads.WereAsked};
+ghost use Rattle.review_sql_lookups.specs.Tables.{tables_at};
+ghost use Rattle.review_sql.specs.Loading.{AreLoadedBounded, HasLearnt, LearnsBounded, LearnsSeen, LooksIf, LooksOnce, WereSeen, learnt_by, loaded_by};
+ghost use Rattle.review_machine_rows.specs.declared.rows.Want.TheVariants as want;
 
-use review_machine_rows::{Counted, Rows, Want};
+use review_machine_rows::{Counted, Found, Rows, Want};
 use review_sql_change_lookups::{bases, joins, places, reviews, senders};
 use review_sql_lookups::counts::Counts;
 use review_sql_lookups::known::find_known;
+use review_sql_lookups::told::{find_greatest_told, find_told};
 use review_sql_lookups::{Loaded, Sight, branches, people};
+use review_sql_records::accounts::{Accounts, LastAccount};
+use review_sql_records::bases::LastPlace;
 use review_sql_records::desk::Desk;
+use review_sql_records::epochs::Epochs;
+use review_sql_records::members::Members;
+use review_sql_records::projects::{ProjectNames, Projects};
 use review_sql_tables::reads::find as find_row;
+use review_table::{Key, Table};
+use review_words::{AccountNo, GroupName};
 use sqlite::{Alter, Connection, Error, Transaction};
-use std::alloc::Global;
+use std::alloc::{AllocError, Global};
 
+/// How a look-up ended.
+#[derive(Clone, Copy, PartialEq, Eq)]
+pub enum Ended {
+    /// Rows learnt what it found.
+    Learnt,
+    /// There was no memory for it.
+    NoMemory,
+    /// It shows that the tables are those of no history.
+    Damaged,
+}
+
+// What a look-up finds by statements, but for that of a group.
+fn see<S: Alter>(
+    tx: &mut Transaction<'_, S>,
+    alloc: Global,
+    want: &Want,
+    counts: &mut Counts,
+) -> Result<Sight, Error>
+    requires plain { group_of want.now ≡ None }
+    ensures same_reference { tx.new.conn.ghost_name ≡ tx.old.conn.ghost_name }
+    ensures looks { Looks (SeesBounded want.now counts.old counts.new) (state S.Store tx.old.conn.now) (state S.Store tx.new.conn.now) result }
+{
+    match want {
+        Want::Requests => branches::find_requests(tx, alloc, counts),
+        Want::LeastEpoch => find_told::<Epochs, S>(tx, alloc, &()),
+        Want::Account(number) => find_told::<Accounts, S>(tx, alloc, number),
+        Want::AccountNamed(name) => people::find_holder(tx, alloc, name),
+        Want::LastAccount => find_greatest_told::<LastAccount, S>(tx, alloc, &()),
+        Want::Member(member) => find_told::<Members, S>(tx, alloc, member),
+        Want::Group(_) => unreachable!(),
+        Want::File(project) => find_told::<Projects, S>(tx, alloc, project),
+        Want::Project(project) => find_told::<ProjectNames, S>(tx, alloc, project),
+        Want::Room(Counted::Projects) => branches::find_room_for_projects(tx, counts),
+        Want::Room(Counted::BasesOf(project)) => {
+            branches::find_room_for_bases(tx, alloc, project, counts)
+        }
+        Want::Base(base) => bases::find_base(tx, alloc, base),
+        Want::LastPlace(branch) => find_greatest_told::<LastPlace, S>(tx, alloc, branch),
+        Want::Bases(branch) => branches::find_bases(tx, alloc, branch),
+        Want::Change(number) => reviews::find_change(tx, alloc, *number),
+        Want::LastChange => reviews::find_last_change(tx, alloc),
+        Want::ChangeOf(base) => senders::find_change_of(tx, alloc, base),
+        Want::Standing(base) => senders::find_standing(tx, alloc, base),
+        Want::LastJoined(branch) => places::find_last_joined(tx, alloc, branch),
+        Want::Joined(branch) => joins::find_joined(tx, alloc, branch),
+    }
+}
+
+// That rows learnt, or that there was no memory for it.
+fn learnt(learning: Result<(), AllocError>) -> Ended
+    ensures { result ≡ learnt_by learning }
+{
+    match learning {
+        Ok(()) => Ended::Learnt,
+        Err(_) => Ended::NoMemory,
+    }
+}
+
+// Rows learn what was found, but for that of a group.
+fn put_found(alloc: Global, want: &Want, found: Found, rows: &mut Rows) -> Result<(), AllocError>
+    requires plain { group_of want.now ≡ None }
+    ensures { OnOk result (Learns want.now (meaning found) rows.old rows.new) }
+{
+    rows.learn(want.copy(alloc)?, found)
+}
+
+// Rows learn the members of a group.
+fn put_members(
+    alloc: Global,
+    group: &GroupName,
+    members: Table<AccountNo, ()>,
+    rows: &mut Rows,
+) -> Result<(), AllocError>
+    ensures { OnOk result (Learns (want.Group group.now) (held members) rows.old rows.new) }
+{
+    rows.learn_group(group.copy(alloc)?, members)
+}
+
+// Rows learn what was seen, but for that of a group.
+fn learn(alloc: Global, want: &Want, sight: Sight, rows: &mut Rows) -> Ended
+    requires plain { group_of want.now ≡ None }
+    ensures told { (db : Trees) → Sees want.now db sight → LearnsSeen want.now rows.old rows.new db result }
+    ensures learnt { result ≡ Ended.Learnt → HasLearnt want.now rows.old rows.new }
+{
+    match sight {
+        Sight::Found(found) => learnt(put_found(alloc, want, found, rows)),
+        Sight::NoMemory => Ended::NoMemory,
+        Sight::Damaged => Ended::Damaged,
+    }
+}
+
+// The same of a group.
+fn learn_group(
+    alloc: Global,
+    group: &GroupName,
+    found: Option<Table<AccountNo, ()>>,
+    rows: &mut Rows,
+) -> Ended
+    ensures told { (db : Trees) → IfTold db (λ t. HasMembers (tables_at db).row group.now (rows_of t)) found → LearnsSeen (want.Group group.now) rows.old rows.new db result }
+    ensures learnt { result ≡ Ended.Learnt → HasLearnt (want.Group group.now) rows.old rows.new }
+{
+    match found {
+        Some(members) => learnt(put_members(alloc, group, members, rows)),
+        None => Ended::Damaged,
+    }
+}
+
+// Makes one look-up by statements.
 fn find<S: Alter>(
     tx: &mut Transaction<'_, S>,
     alloc: Global,
     want: &Want,
     counts: &mut Counts,
     rows: &mut Rows,
-) -> Result<Sight, Error>
+) -> Result<Ended, Error>
     ensures same_reference { tx.new.conn.ghost_name ≡ tx.old.conn.ghost_name }
-    ensures looks { Looks (SeesBounded want.now rows.old rows.new counts.old counts.new) (state S.Store tx.old.conn.now) (state S.Store tx.new.conn.now) result }
-    ensures learnt { IfOk result (λ s. s ≡ Sight.Learnt → HasLearnt want.now rows.old rows.new) }
+    ensures looks { Looks (LearnsBounded want.now rows.old rows.new counts.old counts.new) (state S.Store tx.old.conn.now) (state S.Store tx.new.conn.now) result }
+    ensures learnt { IfOk result (λ e. e ≡ Ended.Learnt → HasLearnt want.now rows.old rows.new) }
 {
-    match want {
-        Want::Requests => branches::find_requests(tx, alloc, counts, rows),
-        Want::LeastEpoch => branches::find_least_epoch(tx, alloc, rows),
-        Want::Account(number) => people::find_account(tx, alloc, *number, rows),
-        Want::AccountNamed(name) => people::find_holder(tx, alloc, name, rows),
-        Want::LastAccount => people::find_last_account(tx, alloc, rows),
-        Want::Member(member) => people::find_member(tx, alloc, member, rows),
-        Want::Group(group) => people::find_group(tx, alloc, group, rows),
-        Want::File(project) => branches::find_file(tx, alloc, project, rows),
-        Want::Project(project) => branches::find_project(tx, alloc, project, rows),
-        Want::Room(Counted::Projects) => branches::find_room_for_projects(tx, counts, rows),
-        Want::Room(Counted::BasesOf(project)) => {
-            branches::find_room_for_bases(tx, alloc, project, counts, rows)
+    match want.group() {
+        Some(group) => {
+            let found = people::find_group(tx, alloc, group)?;
+            Ok(learn_group(alloc, group, found, rows))
         }
-        Want::Base(base) => bases::find_base(tx, alloc, base, rows),
-        Want::LastPlace(branch) => branches::find_last_place(tx, alloc, branch, rows),
-        Want::Bases(branch) => branches::find_bases(tx, alloc, branch, rows),
-        Want::Change(number) => reviews::find_change(tx, alloc, *number, rows),
-        Want::LastChange => reviews::find_last_change(tx, alloc, rows),
-        Want::ChangeOf(base) => senders::find_change_of(tx, alloc, base, rows),
-        Want::Standing(base) => senders::find_standing(tx, alloc, base, rows),
-        Want::LastJoined(branch) => places::find_last_joined(tx, alloc, branch, rows),
-        Want::Joined(branch) => joins::find_joined(tx, alloc, branch, rows),
+        None => {
+            let sight = see(tx, alloc, want, counts)?;
+            Ok(learn(alloc, want, sight, rows))
+        }
     }
 }
 
@@ -61,13 +167,13 @@ fn find_next<S: Alter>(
     counts: &mut Counts,
     rows: &mut Rows,
     is_asked: &mut bool,
-) -> Result<Sight, Error>
+) -> Result<Ended, Error>
     ensures same_reference { tx.new.conn.ghost_name ≡ tx.old.conn.ghost_name }
-    ensures looks { LooksOnce S.Store is_asked.old is_asked.new (SeesBounded want.now rows.old rows.new counts.old counts.new) tx.old.conn.now tx.new.conn.now result }
-    ensures learnt { IfOk result (λ s. s ≡ Sight.Learnt → HasLearnt want.now rows.old rows.new) }
+    ensures looks { LooksOnce S.Store is_asked.old is_asked.new (LearnsBounded want.now rows.old rows.new counts.old counts.new) tx.old.conn.now tx.new.conn.now result }
+    ensures learnt { IfOk result (λ e. e ≡ Ended.Learnt → HasLearnt want.now rows.old rows.new) }
 {
-    if let Some(sight) = find_known(alloc, want, counts, rows) {
-        return Ok(sight);
+    if let Some(sight) = find_known(want, counts) {
+        return Ok(learn(alloc, want, sight, rows));
     }
     *is_asked = true;
     find(tx, alloc, want, counts, rows)
@@ -81,22 +187,22 @@ fn find_in_turn<S: Alter>(
     counts: &mut Counts,
     rows: &mut Rows,
     is_asked: &mut bool,
-) -> Result<Sight, Error>
+) -> Result<Ended, Error>
     requires nothing { (w : Want) → known rows.old w ≡ None }
     requires unasked { is_asked.old ≡ false }
     ensures same_reference { tx.new.conn.ghost_name ≡ tx.old.conn.ghost_name }
     ensures looks { LooksIf S.Store is_asked.new (WereSeen rows.new counts.old counts.new) tx.old.conn.now tx.new.conn.now result }
-    ensures asked { IfOk result (λ s. s ≡ Sight.Learnt → AreAsked wants.now rows.new) }
+    ensures asked { IfOk result (λ e. e ≡ Ended.Learnt → AreAsked wants.now rows.new) }
 {
     for want in wants {
-        let sight = find_next(tx, alloc, want, counts, rows, is_asked)?;
-        match sight {
-            Sight::Learnt => {}
-            Sight::NoMemory => return Ok(Sight::NoMemory),
-            Sight::Damaged => return Ok(Sight::Damaged),
+        let end = find_next(tx, alloc, want, counts, rows, is_asked)?;
+        match end {
+            Ended::Learnt => {}
+            Ended::NoMemory => return Ok(Ended::NoMemory),
+            Ended::Damaged => return Ok(Ended::Damaged),
         }
     }
-    Ok(Sight::Learnt)
+    Ok(Ended::Learnt)
 }
 
 // The same. Where no statement was needed, the row of the desk is asked for: a store that was shut is found so, whatever is known.
@@ -106,18 +212,18 @@ fn find_each<S: Alter>(
     wants: &[Want],
     counts: &mut Counts,
     rows: &mut Rows,
-) -> Result<Sight, Error>
+) -> Result<Ended, Error>
     requires nothing { (w : Want) → known rows.old w ≡ None }
     ensures same_reference { tx.new.conn.ghost_name ≡ tx.old.conn.ghost_name }
     ensures looks { Looks (WereSeen rows.new counts.old counts.new) (state S.Store tx.old.conn.now) (state S.Store tx.new.conn.now) result }
-    ensures asked { IfOk result (λ s. s ≡ Sight.Learnt → AreAsked wants.now rows.new) }
+    ensures asked { IfOk result (λ e. e ≡ Ended.Learnt → AreAsked wants.now rows.new) }
 {
     let mut is_asked = false;
-    let sight = find_in_turn(tx, alloc, wants, counts, rows, &mut is_asked)?;
+    let end = find_in_turn(tx, alloc, wants, counts, rows, &mut is_asked)?;
     if !is_asked {
         let _desk = find_row::<Desk, S>(tx, alloc, &())?;
     }
-    Ok(sight)
+    Ok(end)
 }
 
 // The same, in a transaction of its own.
@@ -127,28 +233,28 @@ fn load_each<S: Alter>(
     wants: &[Want],
     counts: &mut Counts,
     rows: &mut Rows,
-) -> Result<Sight, Error>
+) -> Result<Ended, Error>
     requires mode { conn.old.in_transaction ≡ false }
     requires nothing { (w : Want) → known rows.old w ≡ None }
     ensures mode { conn.new.in_transaction ≡ false }
     ensures serves { Serves (WereSeen rows.new counts.old counts.new) (state S.Store conn.old) (state S.Store conn.new) result }
-    ensures asked { IfOk result (λ s. s ≡ Sight.Learnt → AreAsked wants.now rows.new) }
+    ensures asked { IfOk result (λ e. e ≡ Ended.Learnt → AreAsked wants.now rows.new) }
 {
     let _settled = conn.is_autocommit();
     let mut tx = conn.transaction();
-    let sight = find_each(&mut tx, alloc, wants, counts, rows)?;
+    let end = find_each(&mut tx, alloc, wants, counts, rows)?;
     tx.commit()?;
-    Ok(sight)
+    Ok(end)
 }
 
 // What look-ups found, by how they ended, and the rows that learnt it.
-fn loaded(seen: Result<Sight, Error>, rows: Rows) -> Result<Loaded, Error>
+fn loaded(seen: Result<Ended, Error>, rows: Rows) -> Result<Loaded, Error>
     ensures { result ≡ loaded_by rows seen }
 {
     match seen {
-        Ok(Sight::Learnt) => Ok(Loaded::Rows(rows)),
-        Ok(Sight::NoMemory) => Ok(Loaded::NoMemory),
-        Ok(Sight::Damaged) => Ok(Loaded::Damaged),
+        Ok(Ended::Learnt) => Ok(Loaded::Rows(rows)),
+        Ok(Ended::NoMemory) => Ok(Loaded::NoMemory),
+        Ok(Ended::Damaged) => Ok(Loaded::Damaged),
         Err(error) => Err(error),
     }
 }

@@ -15,17 +15,18 @@ use Rattle.review_core_rules.specs.declared.rows.{CommentRow.CommentRow, PatchRo
 use Rattle.review_machine_rows.{proofs.Readings.reading_of, specs.Changes.change}
 use Rattle.review_machine_rows.specs.Known.{HasChange, IsLast, header_key, part_of}
 use Rattle.review_machine_rows.specs.{Rows.PartKey, Rows.APart, Rows.vote_row, Shelf.IsDamaged}
-use Rattle.review_machine_rows.specs.declared.rows.{Rows.Rows, Want.Want}
+use Rattle.review_machine_rows.specs.declared.rows.{Found.Found as Kept, Want.Want}
 use Rattle.review_machine_change_rows.specs.{Tables.Show, declared.tables.ChangeTables.ChangeTables}
-use Rattle.review_sql_records.specs.Forms.{where_is}
+use Rattle.review_sql_records.specs.{Forms.where_is, Keyed.is_small}
 use Rattle.review_sql_change_records.specs.Forms.{headers, patches, votes, roles, comments, attention_entries, change_patches, change_votes, change_roles, change_comments, change_attention, change_numbers, integer_in, is_vote}
 use Rattle.review_sql_lookups.proofs.Telling.{last_none, last_some, odd_damage, stored_row}
-use Rattle.review_sql_lookups.specs.Loads.{Tells, last_of}
+use Rattle.review_sql_lookups.specs.Loads.{Tells, Sees, last_of}
 use Rattle.review_sql_lookups.specs.Tables.{part_in, tables_at, told, vote_told}
 use Rattle.review_sql_lookups.specs.declared.sights.Sight.{Sight}
-use Rattle.review_sql_lookups.specs.declared.sights.Sight.TheVariants.{Learnt, NoMemory, Damaged}
-use Rattle.review_sql_change_lookups.specs.Reviews.{AreFoundRows, HasRow, HaveSome, HaveTables, IsWhyNone}
+use Rattle.review_sql_lookups.specs.declared.sights.Sight.TheVariants.{NoMemory, Damaged, Found}
+use Rattle.review_sql_change_lookups.specs.Reviews.{AreFoundRows, HasRow, HaveSome, HaveTables, IsWhyNone, IsFresh, NothingStays, number_after}
 use Rattle.review_sql_change_lookups.specs.declared.reviews.FoundRows.{FoundRows}
+use Rattle.review_machine_rows.specs.declared.rows.Want.TheVariants as want
 use Rattle.review_machine_change_rows.specs.Tables as tables
 
 part_whole : {X : Type 0} (kind : X → PartRow) (o : Option X) → told (λ x. APart (kind x)) (option_map Some o) ≡ option_map APart (option_map kind o)
@@ -188,7 +189,21 @@ pub header_damaged : (n : ℕ) (db : Trees) (f : FoundRows) (s : Sight) → (s �
 header_damaged n db f s odd are = subst (IsWhyNone n db) (sym odd.0) (odd_damage (tables_at db) (PartKey n TheHeader) (ap (told (λ x. APart (AHeader x))) (sym are.sets.header ∙ odd.1)))
 
 -- why the tables of a change are not told
-pub why_told : (n : ℕ) (db : Trees) (s : Sight) (w : Want) (old new : Rows) → IsWhyNone n db s → Tells (tables_at db) w old new s
-why_told n db Learnt w old new why = absurd why
-why_told n db NoMemory w old new why = tt
-why_told n db Damaged w old new why = why
+pub why_told : (n : ℕ) (db : Trees) (s : Sight) (w : Want) → IsWhyNone n db s → Tells (tables_at db) w s
+why_told n db (Found found) w why = absurd why
+why_told n db NoMemory w why = tt
+why_told n db Damaged w why = why
+
+-- the greatest number of a change that no more may follow
+pub none_after : (db : Trees) (found : Option (Option ℕ)) → HasGreatest change_numbers 0 tt db found → number_after (where_is is_small (last_of found)) ≡ None → NothingStays db
+none_after db found great none = (found, great, rw none tt)
+
+-- and one whose next one was looked up
+pub whole_after : (db : Trees) (found : Option (Option ℕ)) (n : ℕ) (looked : Kept) → HasGreatest change_numbers 0 tt db found → number_after (where_is is_small (last_of found)) ≡ Some n
+    → Sees (want.Change n) db (Found looked) → NothingStays db
+whole_after db found n looked great is sees = (found, great, rw is (sees.0, sees.2))
+
+pub fresh : (db : Trees) (s : Sight) → NothingStays db → IsFresh db s
+fresh db (Found found) stays = stays
+fresh db NoMemory stays = tt
+fresh db Damaged stays = tt

@@ -15,7 +15,7 @@ use Rattle.review_machine_change_rows.specs.declared.tables.ChangeTables.{Change
 use Rattle.review_sql_records.specs.Keyed.{is_small, where_is}
 use Rattle.review_sql_change_records.specs.Forms.{change_numbers, headers, patches, votes, roles, comments, attention_entries, change_patches, change_votes, change_roles, change_comments, change_attention}
 use Rattle.review_sql_lookups.specs.{Loads.last_of, Tables.part_in, Tables.tables_at, declared.sights.Sight.Sight}
-use Rattle.review_sql_lookups.specs.declared.sights.Sight.TheVariants.{Learnt, NoMemory, Damaged}
+use Rattle.review_sql_lookups.specs.declared.sights.Sight.TheVariants.{NoMemory, Damaged, Found}
 use Rattle.review_sql_change_lookups.specs.declared.reviews.{FoundRows.FoundRows, FoundSets.FoundSets}
 use Rattle.review_sql_change_lookups.specs.declared.reviews.FoundTalk.{FoundTalk}
 use Rattle.review_machine_change_rows.specs.Tables as tables
@@ -44,7 +44,7 @@ HaveTables n db (Some t) = (part : Part) → part_in db n part ≡ option_map AP
 
 -- why the tables of a change are not told
 abbrev pub IsWhyNone : ℕ → Trees → Sight → Type 0
-IsWhyNone n db Learnt = ⊥
+IsWhyNone n db (Found found) = ⊥
 IsWhyNone n db NoMemory = Unit {0}
 IsWhyNone n db Damaged = IsDamaged (tables_at db)
 
@@ -64,3 +64,8 @@ number_after (Some n) = if is_within most_changes (n + 1) then Some (n + 1) else
 -- what stands of the change after the last one, where one may come, is a whole change or nothing
 abbrev pub NothingStays : Trees → Type 0
 NothingStays db = (found : Option (Option ℕ)) × HasGreatest change_numbers 0 tt db found × IfSome (number_after (where_is is_small (last_of found))) (λ n. (c : Option Change) × HasChange (tables_at db).row n c)
+
+-- where the greatest number of a change was found, no more stands of the change after it
+abbrev pub IsFresh : Trees → Sight → Type 0
+IsFresh db (Found found) = NothingStays db
+IsFresh db s = Unit {0}

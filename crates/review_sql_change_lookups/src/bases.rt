@@ -3,14 +3,13 @@ ghost use Rattle.std.specs.Prelude.{◌≡◌, true, false, Some, None, IfOk};
 ghost use Rattle.sqlite.specs.Held.{state};
 ghost use Rattle.sqlite_trees.specs.Tree.{Trees};
 ghost use Rattle.review_sql_tables.specs.{Greatest.HasOne, Ran.Looks, Search.row_at};
-ghost use Rattle.review_machine_rows.specs.Known.{IsBaseOrNot};
+ghost use Rattle.review_machine_rows.specs.{Known.IsBaseOrNot, declared.rows.Base.Base};
 ghost use Rattle.review_sql_records.specs.Forms.{base_commits, bases};
-ghost use Rattle.review_sql_lookups.specs.{Loads.HasLearnt, Loads.IfTold, Loads.Sees, Tables.tables_at};
+ghost use Rattle.review_sql_lookups.specs.{Loads.IfTold, Loads.Sees, Tables.tables_at};
 ghost use Rattle.review_machine_rows.specs.declared.rows.Want.TheVariants as want;
 
-use review_machine_rows::{Base, PlaceKey, Rows};
+use review_machine_rows::{Base, Found, PlaceKey};
 use review_sql_lookups::Sight;
-use review_sql_lookups::learning::{learn_base, learnt};
 use review_sql_records::bases::{BaseCommits, Bases};
 use review_sql_tables::reads::{find, find_any};
 use review_words::CommitName;
@@ -76,13 +75,11 @@ pub fn is_base<S: Alter>(
     }
 }
 
-#[tactic(auto, using(review_sql_lookups::proofs::Telling::has_learnt))]
-fn tell_base(alloc: Global, base: &Base, is: Option<bool>, rows: &mut Rows) -> Sight
-    ensures told { (db : Trees) → IfTold db (IsBaseOrNot (tables_at db).row base.now) is → Sees (want.Base base.now) rows.old rows.new db result }
-    ensures learnt { result ≡ Sight.Learnt → HasLearnt (want.Base base.now) rows.old rows.new }
+fn tell_base(is: Option<bool>) -> Sight
+    ensures { (base : Base) (db : Trees) → IfTold db (IsBaseOrNot (tables_at db).row base) is → Sees (want.Base base) db result }
 {
     match is {
-        Some(is) => learnt(learn_base(alloc, base, is, rows)),
+        Some(is) => Sight::Found(Found::IsSo(is)),
         None => Sight::Damaged,
     }
 }
@@ -92,12 +89,10 @@ pub fn find_base<S: Alter>(
     tx: &mut Transaction<'_, S>,
     alloc: Global,
     base: &Base,
-    rows: &mut Rows,
 ) -> Result<Sight, Error>
     ensures same_reference { tx.new.conn.ghost_name ≡ tx.old.conn.ghost_name }
-    ensures looks { Looks (Sees (want.Base base.now) rows.old rows.new) (state S.Store tx.old.conn.now) (state S.Store tx.new.conn.now) result }
-    ensures learnt { IfOk result (λ s. s ≡ Sight.Learnt → HasLearnt (want.Base base.now) rows.old rows.new) }
+    ensures looks { Looks (Sees (want.Base base.now)) (state S.Store tx.old.conn.now) (state S.Store tx.new.conn.now) result }
 {
     let is = is_base(tx, alloc, base)?;
-    Ok(tell_base(alloc, base, is, rows))
+    Ok(tell_base(is))
 }

@@ -5,18 +5,17 @@ ghost use Rattle.sqlite_trees.specs.Tree.{Trees};
 ghost use Rattle.review_sql_tables.specs.{Greatest.HasGreatest, Ran.Looks, Search.row_at};
 ghost use Rattle.review_machine_rows.specs.{Known.HaveJoined, Known.IsCurrent, declared.rows.BranchKey.BranchKey};
 ghost use Rattle.review_sql_change_records.specs.Forms.{change_places, changes_at, headers, patch_numbers, patches};
-ghost use Rattle.review_sql_lookups.specs.{Loads.HasLearnt, Loads.IfTold, Loads.Sees, Tables.tables_at};
+ghost use Rattle.review_sql_lookups.specs.{Loads.IfTold, Loads.Sees, Tables.tables_at};
 ghost use Rattle.review_sql_change_lookups.specs.Joins.{IsLastPlace, IsOnlyAt, TellsAt, TellsCurrent};
 ghost use Rattle.review_machine_rows.specs.declared.rows.Want.TheVariants as want;
 
 use crate::places::is_placed;
 use review_core_rules::{Header, PatchRow};
-use review_machine_rows::{BranchKey, PlaceKey, Rows};
+use review_machine_rows::{BranchKey, Found, PlaceKey};
 use review_sql_change_records::branches::ChangeAt;
 use review_sql_change_records::headers::{Headers, LastJoined};
 use review_sql_change_records::patches::{LastPatch, PatchSets};
 use review_sql_lookups::Sight;
-use review_sql_lookups::learning::{learn_joined, learnt};
 use review_sql_tables::greatest::find_greatest;
 use review_sql_tables::reads::find;
 use review_words::{ChangeNo, JoinedChange, Listed, PatchNo};
@@ -147,20 +146,13 @@ fn find_joins<S: Alter>(
     Ok(Some(Listed::from_vec(joined)))
 }
 
-#[tactic(auto, using(review_sql_lookups::proofs::Telling::has_learnt))]
-fn tell_joined(
-    alloc: Global,
-    branch: &BranchKey,
-    found: Option<Listed<JoinedChange>>,
-    rows: &mut Rows,
-) -> Sight
-    ensures told { (db : Trees) → IfTold db (HaveJoined (tables_at db).row branch.now) found → Sees (want.Joined branch.now) rows.old rows.new db result }
-    ensures learnt { result ≡ Sight.Learnt → HasLearnt (want.Joined branch.now) rows.old rows.new }
+fn tell_joined(found: Option<Listed<JoinedChange>>) -> Sight
+    ensures { (branch : BranchKey) (db : Trees) → IfTold db (HaveJoined (tables_at db).row branch) found → Sees (want.Joined branch) db result }
 {
-    let Some(joined) = found else {
-        return Sight::Damaged;
-    };
-    learnt(learn_joined(alloc, branch, joined, rows))
+    match found {
+        Some(joined) => Sight::Found(Found::Joins(joined)),
+        None => Sight::Damaged,
+    }
 }
 
 /// The changes that joined a branch, in the order of their places.
@@ -168,12 +160,10 @@ pub fn find_joined<S: Alter>(
     tx: &mut Transaction<'_, S>,
     alloc: Global,
     branch: &BranchKey,
-    rows: &mut Rows,
 ) -> Result<Sight, Error>
     ensures same_reference { tx.new.conn.ghost_name ≡ tx.old.conn.ghost_name }
-    ensures looks { Looks (Sees (want.Joined branch.now) rows.old rows.new) (state S.Store tx.old.conn.now) (state S.Store tx.new.conn.now) result }
-    ensures learnt { IfOk result (λ s. s ≡ Sight.Learnt → HasLearnt (want.Joined branch.now) rows.old rows.new) }
+    ensures looks { Looks (Sees (want.Joined branch.now)) (state S.Store tx.old.conn.now) (state S.Store tx.new.conn.now) result }
 {
     let found = find_joins(tx, alloc, branch)?;
-    Ok(tell_joined(alloc, branch, found, rows))
+    Ok(tell_joined(found))
 }

@@ -3,16 +3,16 @@ ghost use Rattle.std.specs.Prelude.{◌≡◌, true, false, Some, None, IfOk};
 ghost use Rattle.sqlite.specs.Held.{state};
 ghost use Rattle.sqlite_trees.specs.Tree.{Trees};
 ghost use Rattle.review_sql_tables.specs.{Greatest.HasGreatest, Ran.Looks, Search.row_at};
+ghost use Rattle.review_machine_rows.specs.declared.rows.BranchKey.{BranchKey};
 ghost use Rattle.review_sql_change_records.specs.Forms.{change_places, headers};
-ghost use Rattle.review_sql_lookups.specs.Loads.{HasLearnt, Sees};
+ghost use Rattle.review_sql_lookups.specs.Loads.{Sees};
 ghost use Rattle.review_sql_change_lookups.specs.Joins.{IsHeaderAt};
 ghost use Rattle.review_machine_rows.specs.declared.rows.Want.TheVariants as want;
 
 use review_core_rules::Header;
-use review_machine_rows::{BranchKey, Rows};
+use review_machine_rows::{BranchKey, Found};
 use review_sql_change_records::headers::{Headers, LastJoined};
 use review_sql_lookups::Sight;
-use review_sql_lookups::learning::{learn_last_joined, learnt};
 use review_sql_tables::greatest::find_greatest;
 use review_sql_tables::reads::find;
 use review_words::{BranchName, ChangeNo, ProjectName};
@@ -39,31 +39,25 @@ pub fn is_placed(
     }
 }
 
-#[tactic(auto, using(review_sql_lookups::proofs::Telling::has_learnt))]
 fn tell_last_joined(
-    alloc: Global,
     branch: &BranchKey,
     change: ChangeNo,
     place: u32,
     found: Option<Option<Header>>,
-    rows: &mut Rows,
 ) -> Sight
-    ensures told { (db : Trees) → HasGreatest change_places 8 branch.now db (Some (Some (change, place))) → found ≡ row_at headers db change → Sees (want.LastJoined branch.now) rows.old rows.new db result }
-    ensures learnt { result ≡ Sight.Learnt → HasLearnt (want.LastJoined branch.now) rows.old rows.new }
+    ensures { (db : Trees) → HasGreatest change_places 8 branch.now db (Some (Some (change, place))) → found ≡ row_at headers db change → Sees (want.LastJoined branch.now) db result }
 {
     let _change = change;
     if !is_placed(&branch.project, &branch.branch, u64::from(place), &found) {
         return Sight::Damaged;
     }
-    learnt(learn_last_joined(alloc, branch, place, rows))
+    Sight::Found(Found::Number(u64::from(place)))
 }
 
-#[tactic(auto, using(review_sql_lookups::proofs::Telling::has_learnt))]
-fn tell_none_joined(alloc: Global, branch: &BranchKey, rows: &mut Rows) -> Sight
-    ensures told { (db : Trees) → HasGreatest change_places 8 branch.now db None → Sees (want.LastJoined branch.now) rows.old rows.new db result }
-    ensures learnt { result ≡ Sight.Learnt → HasLearnt (want.LastJoined branch.now) rows.old rows.new }
+fn none_joined() -> Sight
+    ensures { (branch : BranchKey) (db : Trees) → HasGreatest change_places 8 branch db None → Sees (want.LastJoined branch) db result }
 {
-    learnt(learn_last_joined(alloc, branch, 0, rows))
+    Sight::Found(Found::Number(0))
 }
 
 /// The last place that a change joined a branch at. The change with the greatest place is looked up first, and then its header.
@@ -71,19 +65,17 @@ pub fn find_last_joined<S: Alter>(
     tx: &mut Transaction<'_, S>,
     alloc: Global,
     branch: &BranchKey,
-    rows: &mut Rows,
 ) -> Result<Sight, Error>
     ensures same_reference { tx.new.conn.ghost_name ≡ tx.old.conn.ghost_name }
-    ensures looks { Looks (Sees (want.LastJoined branch.now) rows.old rows.new) (state S.Store tx.old.conn.now) (state S.Store tx.new.conn.now) result }
-    ensures learnt { IfOk result (λ s. s ≡ Sight.Learnt → HasLearnt (want.LastJoined branch.now) rows.old rows.new) }
+    ensures looks { Looks (Sees (want.LastJoined branch.now)) (state S.Store tx.old.conn.now) (state S.Store tx.new.conn.now) result }
 {
     let found = find_greatest::<LastJoined, S>(tx, alloc, branch)?;
     match found {
         Some(Some(last)) => {
             let header = find::<Headers, S>(tx, alloc, &last.0)?;
-            Ok(tell_last_joined(alloc, branch, last.0, last.1, header, rows))
+            Ok(tell_last_joined(branch, last.0, last.1, header))
         }
         Some(None) => Ok(Sight::Damaged),
-        None => Ok(tell_none_joined(alloc, branch, rows)),
+        None => Ok(none_joined()),
     }
 }

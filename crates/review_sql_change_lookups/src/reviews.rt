@@ -1,18 +1,18 @@
 //! What is looked up of changes.
-ghost use Rattle.std.specs.Prelude.{◌≡◌, ◌≢◌, ℕ, [], true, false, IfOk, IfErr};
+ghost use Rattle.std.specs.Prelude.{◌≡◌, ℕ, [], Some, true, false, IfOk, IfErr};
 ghost use Rattle.sqlite.specs.Held.{state};
 ghost use Rattle.sqlite_trees.specs.Tree.{Trees};
 ghost use Rattle.review_table.specs.Rows.{rows_of};
 ghost use Rattle.review_sql_tables.specs.{Greatest.HasGreatest, Ran.Looks};
 ghost use Rattle.review_sql_records.specs.Keyed.{is_small, where_is};
 ghost use Rattle.review_sql_change_records.specs.Forms.{change_numbers};
-ghost use Rattle.review_sql_lookups.specs.Loads.{HasLearnt, Sees, last_of};
-ghost use Rattle.review_sql_change_lookups.specs.Reviews.{AreFoundRows, AreFoundSets, AreFoundTalk, HasRow, HaveSome, HaveTables, IsWhyNone, NothingStays, number_after};
+ghost use Rattle.review_sql_lookups.specs.Loads.{Sees, last_of};
+ghost use Rattle.review_sql_change_lookups.specs.Reviews.{AreFoundRows, AreFoundSets, AreFoundTalk, HasRow, HaveSome, HaveTables, IsWhyNone, IsFresh, number_after};
 ghost use Rattle.review_machine_rows.specs.declared.rows.Want.TheVariants as want;
 
 use review_core_rules::{AttentionEntry, Comment, Header, PatchRow, Vote, VoteKey};
 use review_machine_change_rows::{ChangeFault, ChangeTables, change_rows};
-use review_machine_rows::Rows;
+use review_machine_rows::Found;
 use review_sql_change_records::attention::AttentionEntries;
 use review_sql_change_records::comments::Comments;
 use review_sql_change_records::headers::{Headers, LastChange};
@@ -20,7 +20,7 @@ use review_sql_change_records::patches::Patches;
 use review_sql_change_records::roles::Roles;
 use review_sql_change_records::votes::Votes;
 use review_sql_lookups::Sight;
-use review_sql_lookups::learning::{last, learnt, whole};
+use review_sql_lookups::plain::{last, whole};
 use review_sql_tables::fronts::find_parts;
 use review_sql_tables::greatest::find_greatest;
 use review_sql_tables::reads::find;
@@ -142,7 +142,6 @@ fn are_empty(
 fn tables_of(found: FoundRows) -> Result<Option<ChangeTables>, Sight>
     ensures ok { IfOk result (λ t. (n : ℕ) (db : Trees) → AreFoundRows n db found → HaveTables n db t) }
     ensures err { IfErr result (λ s. (n : ℕ) (db : Trees) → AreFoundRows n db found → IsWhyNone n db s) }
-    ensures unlearnt { IfErr result (λ s. s ≢ Sight.Learnt) }
 {
     let FoundRows { sets, talk } = found;
     let FoundSets {
@@ -190,21 +189,16 @@ fn tables_of(found: FoundRows) -> Result<Option<ChangeTables>, Sight>
     }
 }
 
-#[tactic(auto, using(review_sql_lookups::proofs::Telling::has_learnt))]
-fn tell_change(alloc: Global, number: ChangeNo, found: FoundRows, rows: &mut Rows) -> Sight
-    ensures told { (db : Trees) → AreFoundRows number db found → Sees (want.Change number) rows.old rows.new db result }
-    ensures learnt { result ≡ Sight.Learnt → HasLearnt (want.Change number) rows.old rows.new }
+fn tell_change(alloc: Global, found: FoundRows) -> Sight
+    ensures { (number : ℕ) (db : Trees) → AreFoundRows number db found → Sees (want.Change number) db result }
 {
     match tables_of(found) {
-        Ok(Some(tables)) => {
-            let change = change_rows(alloc, tables);
-            match change {
-                Ok(change) => learnt(rows.learn_change(number, Some(change))),
-                Err(ChangeFault::Memory) => Sight::NoMemory,
-                Err(ChangeFault::Gap) => Sight::Damaged,
-            }
-        }
-        Ok(None) => learnt(rows.learn_change(number, None)),
+        Ok(Some(tables)) => match change_rows(alloc, tables) {
+            Ok(change) => Sight::Found(Found::AChange(Some(change))),
+            Err(ChangeFault::Memory) => Sight::NoMemory,
+            Err(ChangeFault::Gap) => Sight::Damaged,
+        },
+        Ok(None) => Sight::Found(Found::AChange(None)),
         Err(sight) => sight,
     }
 }
@@ -214,26 +208,19 @@ pub fn find_change<S: Alter>(
     tx: &mut Transaction<'_, S>,
     alloc: Global,
     number: ChangeNo,
-    rows: &mut Rows,
 ) -> Result<Sight, Error>
     ensures same_reference { tx.new.conn.ghost_name ≡ tx.old.conn.ghost_name }
-    ensures looks { Looks (Sees (want.Change number) rows.old rows.new) (state S.Store tx.old.conn.now) (state S.Store tx.new.conn.now) result }
-    ensures learnt { IfOk result (λ s. s ≡ Sight.Learnt → HasLearnt (want.Change number) rows.old rows.new) }
+    ensures looks { Looks (Sees (want.Change number)) (state S.Store tx.old.conn.now) (state S.Store tx.new.conn.now) result }
 {
     let found = find_rows(tx, alloc, number)?;
-    Ok(tell_change(alloc, number, found, rows))
+    Ok(tell_change(alloc, found))
 }
 
-#[tactic(auto, using(review_sql_lookups::proofs::Telling::has_learnt))]
-fn tell_last_change(found: Option<Option<u64>>, rows: &mut Rows) -> Sight
-    ensures told { (db : Trees) → HasGreatest change_numbers 0 tt db found → Sees want.LastChange rows.old rows.new db result }
-    ensures learnt { result ≡ Sight.Learnt → HasLearnt want.LastChange rows.old rows.new }
+fn tell_last_change(found: Option<Option<u64>>) -> Sight
+    ensures { (db : Trees) → HasGreatest change_numbers 0 tt db found → Sees want.LastChange db result }
 {
     match last(found) {
-        Some(number) => {
-            rows.learn_last_change(number);
-            Sight::Learnt
-        }
+        Some(number) => Sight::Found(Found::Number(u64::from(number))),
         None => Sight::Damaged,
     }
 }
@@ -246,27 +233,15 @@ fn next_change(found: Option<Option<u64>>) -> Option<ChangeNo>
     ChangeNo::from_number(u64::from(number) + 1)
 }
 
-// The greatest number of a change, with rows for what stayed of the change after it.
-fn find_last_beside<S: Alter>(
-    tx: &mut Transaction<'_, S>,
-    alloc: Global,
-    rows: &mut Rows,
-    stayed: &mut Rows,
-) -> Result<Sight, Error>
-    ensures same_reference { tx.new.conn.ghost_name ≡ tx.old.conn.ghost_name }
-    ensures looks { Looks (Sees want.LastChange rows.old rows.new) (state S.Store tx.old.conn.now) (state S.Store tx.new.conn.now) result }
-    ensures learnt { IfOk result (λ s. s ≡ Sight.Learnt → HasLearnt want.LastChange rows.old rows.new) }
-    ensures fresh { Looks (λ db s. s ≡ Sight.Learnt → NothingStays db) (state S.Store tx.old.conn.now) (state S.Store tx.new.conn.now) result }
+// The greatest number of a change, where this was seen of the one after it.
+fn last_beside(looked: &Sight, found: Option<Option<u64>>) -> Sight
+    ensures told { (number : ℕ) (db : Trees) → HasGreatest change_numbers 0 tt db found → Sees (want.Change number) db looked.now → Sees want.LastChange db result }
+    ensures fresh { (number : ℕ) (db : Trees) → HasGreatest change_numbers 0 tt db found → number_after (where_is is_small (last_of found)) ≡ Some number → Sees (want.Change number) db looked.now → IsFresh db result }
 {
-    let found = find_greatest::<LastChange, S>(tx, alloc, &())?;
-    let Some(next) = next_change(found) else {
-        return Ok(tell_last_change(found, rows));
-    };
-    let looked = find_change(tx, alloc, next, stayed)?;
     match looked {
-        Sight::Learnt => Ok(tell_last_change(found, rows)),
-        Sight::NoMemory => Ok(Sight::NoMemory),
-        Sight::Damaged => Ok(Sight::Damaged),
+        Sight::Found(_) => tell_last_change(found),
+        Sight::NoMemory => Sight::NoMemory,
+        Sight::Damaged => Sight::Damaged,
     }
 }
 
@@ -274,13 +249,15 @@ fn find_last_beside<S: Alter>(
 pub fn find_last_change<S: Alter>(
     tx: &mut Transaction<'_, S>,
     alloc: Global,
-    rows: &mut Rows,
 ) -> Result<Sight, Error>
     ensures same_reference { tx.new.conn.ghost_name ≡ tx.old.conn.ghost_name }
-    ensures looks { Looks (Sees want.LastChange rows.old rows.new) (state S.Store tx.old.conn.now) (state S.Store tx.new.conn.now) result }
-    ensures learnt { IfOk result (λ s. s ≡ Sight.Learnt → HasLearnt want.LastChange rows.old rows.new) }
-    ensures fresh { Looks (λ db s. s ≡ Sight.Learnt → NothingStays db) (state S.Store tx.old.conn.now) (state S.Store tx.new.conn.now) result }
+    ensures looks { Looks (Sees want.LastChange) (state S.Store tx.old.conn.now) (state S.Store tx.new.conn.now) result }
+    ensures fresh { Looks IsFresh (state S.Store tx.old.conn.now) (state S.Store tx.new.conn.now) result }
 {
-    let mut stayed = Rows::new(alloc);
-    find_last_beside(tx, alloc, rows, &mut stayed)
+    let found = find_greatest::<LastChange, S>(tx, alloc, &())?;
+    let Some(next) = next_change(found) else {
+        return Ok(tell_last_change(found));
+    };
+    let looked = find_change(tx, alloc, next)?;
+    Ok(last_beside(&looked, found))
 }

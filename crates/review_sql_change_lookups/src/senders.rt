@@ -7,20 +7,19 @@ ghost use Rattle.review_sql_tables.specs.{Greatest.HasGreatest, Ran.Looks, Searc
 ghost use Rattle.review_machine_rows.specs.Known.{IsBaseOrNot, StandsAs};
 ghost use Rattle.review_machine_rows.specs.declared.rows.{Base.Base, BranchKey.BranchKey};
 ghost use Rattle.review_sql_change_records.specs.Forms.{headers, patch_numbers, patches};
-ghost use Rattle.review_sql_lookups.specs.{Loads.HasLearnt, Loads.IfTold, Loads.Sees, Tables.tables_at};
+ghost use Rattle.review_sql_lookups.specs.{Loads.IfTold, Loads.Sees, Tables.tables_at};
 ghost use Rattle.review_sql_change_lookups.specs.Senders.{Examines, HasSent, IsFoundSent, IsLastSet, IsOutside, IsSentWith, TellsIf, is_sent_with};
 ghost use Rattle.review_machine_rows.specs.declared.rows.Want.TheVariants as want;
 
 use crate::bases::is_base;
 use review_chain::Standing;
 use review_core_rules::{Header, PatchRow};
-use review_machine_rows::{Base, BranchKey, Rows};
+use review_machine_rows::{Base, BranchKey, Found};
 use review_sql_change_records::branches::ChangeBranches;
 use review_sql_change_records::headers::Headers;
 use review_sql_change_records::patches::{LastPatch, PatchSets};
 use review_sql_change_records::sent::Sent;
 use review_sql_lookups::Sight;
-use review_sql_lookups::learning::{learn_change_of, learn_standing, learnt};
 use review_sql_tables::greatest::find_greatest;
 use review_sql_tables::reads::{find, find_all};
 use review_words::{BranchName, ChangeNo, PatchNo, ProjectName, State};
@@ -210,19 +209,12 @@ fn find_sent<S: Alter>(
     Ok(Some(None))
 }
 
-#[tactic(auto, using(review_sql_lookups::proofs::Telling::has_learnt))]
-fn tell_sender(
-    alloc: Global,
-    base: &Base,
-    found: Option<Option<(ChangeNo, PatchNo)>>,
-    rows: &mut Rows,
-) -> Sight
-    ensures told { (db : Trees) → IfTold db (IsFoundSent false base.now db) found → Sees (want.ChangeOf base.now) rows.old rows.new db result }
-    ensures learnt { result ≡ Sight.Learnt → HasLearnt (want.ChangeOf base.now) rows.old rows.new }
+fn tell_sender(found: Option<Option<(ChangeNo, PatchNo)>>) -> Sight
+    ensures { (base : Base) (db : Trees) → IfTold db (IsFoundSent false base db) found → Sees (want.ChangeOf base) db result }
 {
     match found {
-        Some(Some(sent)) => learnt(learn_change_of(alloc, base, Some(sent.0), rows)),
-        Some(None) => learnt(learn_change_of(alloc, base, None, rows)),
+        Some(Some(sent)) => Sight::Found(Found::Sender(Some(sent.0))),
+        Some(None) => Sight::Found(Found::Sender(None)),
         None => Sight::Damaged,
     }
 }
@@ -232,22 +224,18 @@ pub fn find_change_of<S: Alter>(
     tx: &mut Transaction<'_, S>,
     alloc: Global,
     base: &Base,
-    rows: &mut Rows,
 ) -> Result<Sight, Error>
     ensures same_reference { tx.new.conn.ghost_name ≡ tx.old.conn.ghost_name }
-    ensures looks { Looks (Sees (want.ChangeOf base.now) rows.old rows.new) (state S.Store tx.old.conn.now) (state S.Store tx.new.conn.now) result }
-    ensures learnt { IfOk result (λ s. s ≡ Sight.Learnt → HasLearnt (want.ChangeOf base.now) rows.old rows.new) }
+    ensures looks { Looks (Sees (want.ChangeOf base.now)) (state S.Store tx.old.conn.now) (state S.Store tx.new.conn.now) result }
 {
     let found = find_sent(tx, alloc, base, false)?;
-    Ok(tell_sender(alloc, base, found, rows))
+    Ok(tell_sender(found))
 }
 
-#[tactic(auto, using(review_sql_lookups::proofs::Telling::has_learnt))]
-fn tell_standing(alloc: Global, base: &Base, standing: Standing, rows: &mut Rows) -> Sight
-    ensures told { (db : Trees) → StandsAs (tables_at db).row base.now standing → Sees (want.Standing base.now) rows.old rows.new db result }
-    ensures learnt { result ≡ Sight.Learnt → HasLearnt (want.Standing base.now) rows.old rows.new }
+fn tell_standing(standing: Standing) -> Sight
+    ensures { (base : Base) (db : Trees) → StandsAs (tables_at db).row base standing → Sees (want.Standing base) db result }
 {
-    learnt(learn_standing(alloc, base, standing, rows))
+    Sight::Found(Found::Stands(standing))
 }
 
 // What a commit outside of a branch is to it.
@@ -268,17 +256,15 @@ fn find_outside<S: Alter>(
     tx: &mut Transaction<'_, S>,
     alloc: Global,
     base: &Base,
-    rows: &mut Rows,
 ) -> Result<Sight, Error>
     ensures same_reference { tx.new.conn.ghost_name ≡ tx.old.conn.ghost_name }
-    ensures looks { Looks (λ db s. IsOutside base.now db → Sees (want.Standing base.now) rows.old rows.new db s) (state S.Store tx.old.conn.now) (state S.Store tx.new.conn.now) result }
-    ensures learnt { IfOk result (λ s. s ≡ Sight.Learnt → HasLearnt (want.Standing base.now) rows.old rows.new) }
+    ensures looks { Looks (λ db s. IsOutside base.now db → Sees (want.Standing base.now) db s) (state S.Store tx.old.conn.now) (state S.Store tx.new.conn.now) result }
 {
     let found = find_sent(tx, alloc, base, false)?;
     let Some(sent) = found else {
         return Ok(Sight::Damaged);
     };
-    Ok(tell_standing(alloc, base, standing_outside(sent), rows))
+    Ok(tell_standing(standing_outside(sent)))
 }
 
 // What a commit that is no base is to a branch: in it as the current commit of a merged change, or outside.
@@ -286,20 +272,18 @@ fn find_merged<S: Alter>(
     tx: &mut Transaction<'_, S>,
     alloc: Global,
     base: &Base,
-    rows: &mut Rows,
 ) -> Result<Sight, Error>
     ensures same_reference { tx.new.conn.ghost_name ≡ tx.old.conn.ghost_name }
-    ensures looks { Looks (λ db s. IsBaseOrNot (tables_at db).row base.now false → Sees (want.Standing base.now) rows.old rows.new db s) (state S.Store tx.old.conn.now) (state S.Store tx.new.conn.now) result }
-    ensures learnt { IfOk result (λ s. s ≡ Sight.Learnt → HasLearnt (want.Standing base.now) rows.old rows.new) }
+    ensures looks { Looks (λ db s. IsBaseOrNot (tables_at db).row base.now false → Sees (want.Standing base.now) db s) (state S.Store tx.old.conn.now) (state S.Store tx.new.conn.now) result }
 {
     let found = find_sent(tx, alloc, base, true)?;
     let Some(merged) = found else {
         return Ok(Sight::Damaged);
     };
     if merged.is_some() {
-        return Ok(tell_standing(alloc, base, Standing::InBranch, rows));
+        return Ok(tell_standing(Standing::InBranch));
     }
-    find_outside(tx, alloc, base, rows)
+    find_outside(tx, alloc, base)
 }
 
 /// What a commit is to a branch: whether it is a base is looked up, where it isn't whether it is the current commit of a merged change, and
@@ -308,18 +292,16 @@ pub fn find_standing<S: Alter>(
     tx: &mut Transaction<'_, S>,
     alloc: Global,
     base: &Base,
-    rows: &mut Rows,
 ) -> Result<Sight, Error>
     ensures same_reference { tx.new.conn.ghost_name ≡ tx.old.conn.ghost_name }
-    ensures looks { Looks (Sees (want.Standing base.now) rows.old rows.new) (state S.Store tx.old.conn.now) (state S.Store tx.new.conn.now) result }
-    ensures learnt { IfOk result (λ s. s ≡ Sight.Learnt → HasLearnt (want.Standing base.now) rows.old rows.new) }
+    ensures looks { Looks (Sees (want.Standing base.now)) (state S.Store tx.old.conn.now) (state S.Store tx.new.conn.now) result }
 {
     let found = is_base(tx, alloc, base)?;
     let Some(is) = found else {
         return Ok(Sight::Damaged);
     };
     if is {
-        return Ok(tell_standing(alloc, base, Standing::InBranch, rows));
+        return Ok(tell_standing(Standing::InBranch));
     }
-    find_merged(tx, alloc, base, rows)
+    find_merged(tx, alloc, base)
 }

@@ -1,9 +1,8 @@
 -- What look-ups tell of tables.
-use Rattle.std.proofs.Common.{◌≡◌, ◌∙◌, ◌⊎◌, ◌<◌, ◌&&◌, ℕ, zero, pos, List, [], ◌∷◌, Option, Some, None, option_map, Result, Ok, Err, OnOk, refl, sym, ap, subst, cond, Bool, true, false, inl, inr, filter, is_gt, is_some, suc, int_lt, arith}
+use Rattle.std.proofs.Common.{◌≡◌, ◌∙◌, ◌⊎◌, ◌<◌, ◌&&◌, ℕ, zero, pos, List, [], ◌∷◌, Option, Some, None, option_map, refl, sym, ap, subst, cond, Bool, true, false, inl, inr, filter, is_gt, is_some, suc, int_lt, arith}
 use Rattle.std.proofs.lemmas.Bool.{lt-ltb, cases_Bool, and_from, and_parts, both_ways, Decides.leb_tells}
 use Rattle.std.proofs.lemmas.{Cmp.nat_list_eq_equiv, Option.same_Some}
-use Rattle.std.specs.Ordering.{nat_cmp, int_cmp, is_eq}
-use Rattle.std.specs.{Str.bytes_eq, Str.is_utf8, declared.alloc.AllocError.AllocError}
+use Rattle.std.specs.{Ordering.nat_cmp, Ordering.int_cmp, Ordering.is_eq, Str.bytes_eq, Str.is_utf8}
 use Rattle.sqlite_keyed.proofs.ListLemmas.{all_weaker, filter_none}
 use Rattle.sqlite_rules.specs.Lists.{Has}
 use Rattle.sqlite_trees.specs.Tree.{Trees}
@@ -19,36 +18,18 @@ use Rattle.review_sql_tables.specs.{Fronts.HaveRows, Greatest.HasGreatest, Great
 use Rattle.review_sql_tables.specs.Search.{only, reads, row_at, rows_at}
 use Rattle.review_core_rules.specs.Change.{of_number}
 use Rattle.review_machine_rows.{proofs.Looked.based_from, proofs.Readings.reading_of, specs.Changes.Reading}
-use Rattle.review_machine_rows.specs.Known.{Found, HasBases, HasMembers, IsFound, IsLast, Learns, at_place}
+use Rattle.review_machine_rows.specs.Known.{HasBases, HasMembers, IsLast, at_place}
 use Rattle.review_machine_rows.specs.Rows.{Key, AccountKey, MemberKey, FileKey, BaseKey, PartKey, OddKey, Row, AccountRow, MemberRow, FileRow, BaseRow, APart, OddRow, Tables, member_row}
-use Rattle.review_machine_rows.specs.{Shelf.IsDamaged, View.fact, declared.rows.Base.Base}
-use Rattle.review_machine_rows.specs.declared.rows.{BranchKey.BranchKey, PlaceKey.PlaceKey, Rows.Rows, Want.Want}
+use Rattle.review_machine_rows.specs.{Shelf.IsDamaged, View.fact}
+use Rattle.review_machine_rows.specs.declared.rows.{Base.Base, BranchKey.BranchKey, PlaceKey.PlaceKey, Want.Want}
 use Rattle.review_machine_change_rows.specs.inner.Words.{AreInOrder}
 use Rattle.review_sql_records.specs.Forms.{accounts, account_names, account_numbers, member_parts, bases, base_commits, base_parts, base_places}
 use Rattle.review_sql_records.specs.Laws.{number_is, passed}
-use Rattle.review_sql_lookups.specs.Loads.{HasLearnt, IsOrdered, Tells, last_of, learnt_by}
-use Rattle.review_sql_lookups.specs.Tables.{tables_at, told}
-use Rattle.review_sql_lookups.specs.declared.sights.Sight.{Sight, TheVariants.Damaged, TheVariants.Learnt}
+use Rattle.review_sql_lookups.specs.{Loads.IsOrdered, Loads.Tells, Loads.last_of, Tables.tables_at, Tables.told}
+use Rattle.review_sql_lookups.specs.declared.sights.Sight.{Sight, TheVariants.Damaged}
 
 pub own_bytes : (s t : List ℕ) → s ≡ t → bytes_eq s t ≡ true
 own_bytes s t same = subst (λ x. bytes_eq s x ≡ true) same (nat_list_eq_equiv.refl s)
-
-pub tells : (t : Tables) (w : Want) (f : Found) (old new : Rows) (r : Result (Unit {0}) AllocError) → IsFound t w f → OnOk r (Learns w f old new) → Tells t w old new (learnt_by r)
-tells t w f old new (Ok u) is learns = (f, is, learns)
-tells t w f old new (Err e) is learns = tt
-
--- what shows damage
-pub damage_told : (t : Tables) (w : Want) (old new : Rows) (s : Sight) → s ≡ Damaged → IsDamaged t → Tells t w old new s
-damage_told t w old new s is damaged = subst (Tells t w old new) (sym is) damaged
-
--- the same, of what was answered
-pub tells_as : (t : Tables) (w : Want) (f : Found) (old new : Rows) (r : Result (Unit {0}) AllocError) (s : Sight) → s ≡ learnt_by r → IsFound t w f → OnOk r (Learns w f old new) → Tells t w old new s
-tells_as t w f old new r s same is learns = subst (Tells t w old new) (sym same) (tells t w f old new r is learns)
-
--- what was learnt, where it was
-pub has_learnt : (w : Want) (f : Found) (old new : Rows) (r : Result (Unit {0}) AllocError) (s : Sight) → s ≡ learnt_by r → OnOk r (Learns w f old new) → s ≡ Learnt → HasLearnt w old new
-has_learnt w f old new (Ok u) s same learns is = (f, learns)
-has_learnt w f old new (Err e) s same learns is = absurd (let it = sym same ∙ is in cc)
 
 pub told_whole : {X : Type 0} (kind : X → Row) (o : Option X) → told kind (option_map Some o) ≡ option_map kind o
 told_whole kind None = refl
@@ -77,8 +58,8 @@ pub odd_damage : (t : Tables) (k : Key) → t.row k ≡ Some OddRow → IsDamage
 odd_damage t k odd h history view = let read = reading_of h history in no_odd read.0 h k (sym ((view read.0 read.1).row_is k) ∙ odd)
 
 -- an odd row that was found
-pub odd_told : {X : Type 0} (kind : X → Row) (db : Trees) (k : Key) (found : Option (Option X)) (w : Want) (old new : Rows) (s : Sight) → (tables_at db).row k ≡ told kind found → (s ≡ Damaged) × (found ≡ Some None) → Tells (tables_at db) w old new s
-odd_told kind db k found w old new s at odd = subst (Tells (tables_at db) w old new) (sym odd.0) (odd_damage (tables_at db) k (at ∙ ap (told kind) odd.1))
+pub odd_told : {X : Type 0} (kind : X → Row) (db : Trees) (k : Key) (found : Option (Option X)) (w : Want) (s : Sight) → (tables_at db).row k ≡ told kind found → (s ≡ Damaged) × (found ≡ Some None) → Tells (tables_at db) w s
+odd_told kind db k found w s at odd = subst (Tells (tables_at db) w) (sym odd.0) (odd_damage (tables_at db) k (at ∙ ap (told kind) odd.1))
 
 -- ---- lists of rows
 

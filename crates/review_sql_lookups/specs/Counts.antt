@@ -3,8 +3,8 @@ use Rattle.std.specs.{BTreeMap.is_at, Cmp.Lexicographic.slice_cmp, Ordering.nat_
 use Rattle.std.specs.Prelude.{ℕ, ◌≡◌, ◌+◌, ◌<◌, ◌≤◌, false, List, Some, IfSome}
 use Rattle.sqlite_trees.specs.Tree.{Trees}
 use Rattle.review_table.specs.Rows.{row_in, rows_of}
-use Rattle.review_machine_rows.specs.{Limits.most_bases, Limits.most_projects, Rows.BasesOf, Rows.Projects, Rows.Tables}
-use Rattle.review_machine_rows.specs.declared.rows.{Rows.Rows, Want.Want}
+use Rattle.review_machine_rows.specs.Limits.{most_bases, most_projects}
+use Rattle.review_machine_rows.specs.{Rows.BasesOf, Rows.Projects, Rows.Tables, declared.rows.Want.Want}
 use Rattle.review_sql_lookups.specs.{Loads.Sees, Tables.tables_at}
 use Rattle.review_sql_lookups.specs.declared.counts.Bound.{Bound, TheVariants.AtMost, TheVariants.Full}
 use Rattle.review_sql_lookups.specs.declared.{counts.Counts.Counts, sights.Sight.Sight}
@@ -30,5 +30,5 @@ pub record Grows (project : List ℕ) (old new : Tables) : Type 0 where
   pub others : (p : List ℕ) → is_at (slice_cmp nat_cmp project) p ≡ false → new.count (BasesOf p) ≡ old.count (BasesOf p)
 
 -- how a look-up ended, where what was known is so, and that what is known then is so too
-abbrev pub SeesBounded : Want → Rows → Rows → Counts → Counts → Trees → Sight → Type 0
-SeesBounded w old new known more db s = AreBounded known (tables_at db) → Sees w old new db s × AreBounded more (tables_at db)
+abbrev pub SeesBounded : Want → Counts → Counts → Trees → Sight → Type 0
+SeesBounded w known more db s = AreBounded known (tables_at db) → Sees w db s × AreBounded more (tables_at db)

@@ -1,24 +1,23 @@
 -- What look-ups in the tables of a desk give.
 use Rattle.std.specs.Ordering.{nat_cmp}
-use Rattle.std.specs.Prelude.{ℕ, ◌≡◌, List, Option, Some, None, Result, Ok, Err}
-use Rattle.std.specs.declared.alloc.AllocError.{AllocError}
+use Rattle.std.specs.Prelude.{ℕ, ◌≡◌, List, Option, Some, None}
 use Rattle.sqlite_trees.specs.Tree.{Trees}
 use Rattle.review_table.specs.Rows.{row_in}
-use Rattle.review_machine_rows.specs.Known.{at_place, AreAsked, Agrees, Found, Learns, LearnsFound}
-use Rattle.review_machine_rows.specs.{Rows.Tables, Shelf.IsDamaged, declared.rows.Rows.Rows, declared.rows.Want.Want}
+use Rattle.review_machine_rows.specs.Known.{at_place, AreAsked, Agrees, IsFound, meaning}
+use Rattle.review_machine_rows.specs.{Rows.Tables, Shelf.IsDamaged, declared.rows.Want.Want}
 use Rattle.review_sql_lookups.specs.{Tables.tables_at, declared.sights.Loaded.Loaded, declared.sights.Sight.Sight}
 use Rattle.review_sql_lookups.specs.declared.sights.Sight.TheVariants as sight
 use Rattle.review_sql_lookups.specs.declared.sights.Loaded.TheVariants as loaded
 
 -- how a look-up ended, of these tables
-abbrev pub Tells : Tables → Want → Rows → Rows → Sight → Type 0
-Tells t w old new sight.Learnt = LearnsFound t w old new
-Tells t w old new sight.NoMemory = Unit {0}
-Tells t w old new sight.Damaged = IsDamaged t
+abbrev pub Tells : Tables → Want → Sight → Type 0
+Tells t w (sight.Found found) = IsFound t w (meaning found)
+Tells t w sight.NoMemory = Unit {0}
+Tells t w sight.Damaged = IsDamaged t
 
 -- how a look-up ended
-abbrev pub Sees : Want → Rows → Rows → Trees → Sight → Type 0
-Sees w old new db s = Tells (tables_at db) w old new s
+abbrev pub Sees : Want → Trees → Sight → Type 0
+Sees w db s = Tells (tables_at db) w s
 
 -- what rows know is so in the tables
 abbrev pub AreLoaded : Trees → Loaded → Type 0
@@ -31,19 +30,10 @@ abbrev pub IfTold : {X : Type 0} → Trees → (X → Type 0) → Option X → T
 IfTold db IsSo None = IsDamaged (tables_at db)
 IfTold db IsSo (Some x) = IsSo x
 
--- rows learnt what some look-up found
-abbrev pub HasLearnt : Want → Rows → Rows → Type 0
-HasLearnt w old new = (f : Found) × Learns w f old new
-
 -- the rows know of these look-ups, and of no others
 abbrev pub WereAsked : List Want → Loaded → Type 0
 WereAsked wants (loaded.Rows rows) = AreAsked wants rows
 WereAsked wants found = Unit {0}
-
--- that rows learnt, or that there was no memory for it
-abbrev pub learnt_by : Result (Unit {0}) AllocError → Sight
-learnt_by (Ok u) = sight.Learnt
-learnt_by (Err e) = sight.NoMemory
 
 -- the greatest number, or 0 where there is none
 abbrev pub last_of : Option (Option ℕ) → Option ℕ

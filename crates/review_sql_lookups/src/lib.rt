@@ -12,8 +12,9 @@
 pub mod branches;
 pub mod counts;
 pub mod known;
-pub mod learning;
 pub mod people;
+pub mod plain;
 pub mod sights;
+pub mod told;
 
 pub use sights::{Loaded, Sight};

@@ -1,12 +1,12 @@
 //! How look-ups end.
 
-use review_machine_rows::Rows;
+use review_machine_rows::{Found, Rows};
 
 /// How a look-up ended.
-#[derive(Clone, Copy, PartialEq, Eq)]
+#[derive(Drop)]
 pub enum Sight {
-    /// Rows learnt what it found.
-    Learnt,
+    /// What it found.
+    Found(Found),
     /// There was no memory for it.
     NoMemory,
     /// It shows that the tables are those of no history: a row doesn't read as one of its table, or doesn't fit the others.

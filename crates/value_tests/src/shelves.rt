@@ -2,9 +2,9 @@
 //! has which name, and whether the first request is stored.
 
 use crate::fault::Fault;
-use review_machine_rows::{Delta, Kept, Need, Recalled, Shelf, ShelfFault, Want};
+use review_machine_rows::{Delta, Found, Kept, Need, Recalled, Shelf, ShelfFault, Want};
 use review_memory::{FaultyShelf, MemoryShelf, ShuttingShelf};
-use review_table::RowEdit;
+use review_table::{Key, RowEdit};
 use review_words::{AccountName, AccountNo, Epoch, Name, RequestId};
 use std::alloc::Global;
 use std::test::Fail;
@@ -85,30 +85,25 @@ fn commit<S: Shelf>(alloc: Global, shelf: &mut S, name: &str) -> Result<&'static
 }
 
 /// The account that a look-up found, in words.
-fn holder_word(holder: Option<AccountNo>) -> &'static str {
-    match holder {
-        Some(number) if number.get() == 2 => "account 2",
-        Some(_) => "another",
-        None => "nobody",
+fn holder_word(found: Option<&Found>) -> &'static str {
+    match found {
+        Some(Found::Holder(Some(number))) if number.get() == 2 => "account 2",
+        Some(Found::Holder(Some(_))) => "another",
+        _ => "nobody",
     }
 }
 
 /// What is needed to know the account of a name.
-fn need_of(alloc: Global, name: &AccountName) -> Result<Need, Fault> {
-    let name = name.copy(alloc)?;
-    let wants = vec![in alloc; Want::AccountNamed(name)]?;
+fn need_of(alloc: Global, want: &Want) -> Result<Need, Fault> {
+    let want = want.copy(alloc)?;
+    let wants = vec![in alloc; want]?;
     Ok(Need { wants })
 }
 
-/// What a look-up says of a name.
-fn loaded_word<S: Shelf>(
-    alloc: Global,
-    shelf: &mut S,
-    need: &Need,
-    name: &AccountName,
-) -> &'static str {
+/// What a look-up says of the account of a name.
+fn loaded_word<S: Shelf>(alloc: Global, shelf: &mut S, need: &Need, want: &Want) -> &'static str {
     match shelf.load(alloc, need) {
-        Ok(rows) => holder_word(rows.holder(name)),
+        Ok(rows) => holder_word(rows.found.get(want)),
         Err(fault) => fault_word(fault),
     }
 }
@@ -119,9 +114,9 @@ pub fn account_of<S: Shelf>(
     shelf: &mut S,
     name: &str,
 ) -> Result<&'static str, Fault> {
-    let name = account_name(alloc, name)?;
-    let need = need_of(alloc, &name)?;
-    Ok(loaded_word(alloc, shelf, &need, &name))
+    let want = Want::AccountNamed(account_name(alloc, name)?);
+    let need = need_of(alloc, &want)?;
+    Ok(loaded_word(alloc, shelf, &need, &want))
 }
 
 /// What is known of a request of account 1, of an epoch.

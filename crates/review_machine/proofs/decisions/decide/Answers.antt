@@ -16,14 +16,14 @@ for_account : (result : Result (Delta × Reply) NotTaken) (caller epoch : ℕ) (
 for_account (Ok r) caller epoch command effective rows known decided = λ reading h room history l. decided reading h room history (known reading h l) l
 for_account (Err e) caller epoch command effective rows known decided = tt
 
-pub returns-then-not-is_account-clause-decided : goal.returns-then-not-is_account-clause-decided
-returns-then-not-is_account-clause-decided c = λ reading h room history l.
+pub returns-then-not-is_there-clause-decided : goal.returns-then-not-is_there-clause-decided
+returns-then-not-is_there-clause-decided c = λ reading h room history l.
     let a = c.args in
     refused_pair_in h a.caller a.epoch a.command.now c.refused.result UnknownCaller c.refused.ensures.empty c.refused.ensures.reply
-    (unknown_refused reading h a.caller a.command.now (sym (caller_is h a.caller a.command.now a.rows.now l) ∙ (sym c.is_account.ensures ∙ c.if-not-is_account.true)))
+    (unknown_refused reading h a.caller a.command.now (sym (caller_is h a.caller a.command.now a.rows.now l) ∙ (sym c.is_there.ensures ∙ c.if-not-is_there.true)))
 
 pub returns-clause-decided : goal.returns-clause-decided
 returns-clause-decided c =
     let a = c.args in
     for_account c.decide_for.result a.caller a.epoch a.command.now (option_copied a.effective) a.rows.now
-    (λ reading h l. sym (caller_is h a.caller a.command.now a.rows.now l) ∙ (sym c.is_account.ensures ∙ c.if-not-is_account.false)) c.decide_for.ensures.decided
+    (λ reading h l. sym (caller_is h a.caller a.command.now a.rows.now l) ∙ (sym c.is_there.ensures ∙ c.if-not-is_there.false)) c.decide_for.ensures.decided

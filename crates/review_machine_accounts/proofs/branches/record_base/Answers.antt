@@ -1,4 +1,4 @@
-use Rattle.std.proofs.Common.{◌≡◌, ◌+◌, ◌∙◌, length, Some, true, false, refl, sym, arith}
+use Rattle.std.proofs.Common.{◌≡◌, ◌+◌, ◌∙◌, length, Some, true, false, refl, sym, ap, arith}
 use Rattle.std.{proofs.lemmas.Bool.ltb-true, specs.Prelude.nat_lt}
 use Rattle.review_words.specs.History.{is_project, bases, base_count}
 use Rattle.review_words.specs.declared.command.Command.TheVariants.{RecordBase}
@@ -20,14 +20,14 @@ returns-then-not-admin-clause-decided c = λ reading effective h there_is l.
     (base_refused reading h a.caller a.project.now a.branch.now a.commit.now true false (is_project h a.project.now) (is_known reading h a.project.now a.branch.now a.commit.now) (nat_lt (base_count h a.project.now) 100000)
     there_is admin refl refl refl)
 
-pub returns-then-not-has_project-clause-decided : goal.returns-then-not-has_project-clause-decided
-returns-then-not-has_project-clause-decided c = λ reading effective h there_is l.
+pub returns-then-not-there-clause-decided : goal.returns-then-not-there-clause-decided
+returns-then-not-there-clause-decided c = λ reading effective h there_is l.
     let a = c.args in
     let command = RecordBase a.project.now a.branch.now a.commit.now in
     let all = asked_beside h a.caller command a.rows.now l in
     let admin = sym (admin_is h a.caller command a.rows.now l) ∙ (sym c.in_ok-admin.ensures ∙ c.if-not-admin.false) in
-    let absent = sym (project_told reading h a.rows.now a.project.now l.agree all.0) ∙ (sym c.has_project.ensures ∙ c.if-not-has_project.true) in
-    refused_pair h a.caller command c.refused-then-not-has_project.result NoProject c.refused-then-not-has_project.ensures.empty c.refused-then-not-has_project.ensures.reply
+    let absent = sym (project_told reading h a.rows.now a.project.now l.agree all.0) ∙ (sym c.in_ok-there.ensures ∙ c.if-not-there.true) in
+    refused_pair h a.caller command c.refused-then-not-there.result NoProject c.refused-then-not-there.ensures.empty c.refused-then-not-there.ensures.reply
     (base_refused reading h a.caller a.project.now a.branch.now a.commit.now true true false (is_known reading h a.project.now a.branch.now a.commit.now) (nat_lt (base_count h a.project.now) 100000)
     there_is admin absent refl refl)
 
@@ -37,21 +37,21 @@ returns-then-known-clause-decided c = λ reading effective h there_is l.
     let command = RecordBase a.project.now a.branch.now a.commit.now in
     let all = asked_beside h a.caller command a.rows.now l in
     let admin = sym (admin_is h a.caller command a.rows.now l) ∙ (sym c.in_ok-admin.ensures ∙ c.if-not-admin.false) in
-    let there = sym (project_told reading h a.rows.now a.project.now l.agree all.0) ∙ (sym c.has_project.ensures ∙ c.if-not-has_project.false) in
+    let there = sym (project_told reading h a.rows.now a.project.now l.agree all.0) ∙ (sym c.in_ok-there.ensures ∙ c.if-not-there.false) in
     let there_before = sym (known_told reading h a.rows.now a.project.now a.branch.now a.commit.now l.agree all.1.0 all.1.1.0) ∙ (sym c.in_ok-known.ensures ∙ c.if-known.true) in
     refused_pair h a.caller command c.refused-then-known.result CommitKnown c.refused-then-known.ensures.empty c.refused-then-known.ensures.reply
     (base_refused reading h a.caller a.project.now a.branch.now a.commit.now true true true true (nat_lt (base_count h a.project.now) 100000) there_is admin there there_before refl)
 
-pub returns-then-not-has_room_for_bases-clause-decided : goal.returns-then-not-has_room_for_bases-clause-decided
-returns-then-not-has_room_for_bases-clause-decided c = λ reading effective h there_is l.
+pub returns-then-not-room-clause-decided : goal.returns-then-not-room-clause-decided
+returns-then-not-room-clause-decided c = λ reading effective h there_is l.
     let a = c.args in
     let command = RecordBase a.project.now a.branch.now a.commit.now in
     let all = asked_beside h a.caller command a.rows.now l in
     let admin = sym (admin_is h a.caller command a.rows.now l) ∙ (sym c.in_ok-admin.ensures ∙ c.if-not-admin.false) in
-    let there = sym (project_told reading h a.rows.now a.project.now l.agree all.0) ∙ (sym c.has_project.ensures ∙ c.if-not-has_project.false) in
+    let there = sym (project_told reading h a.rows.now a.project.now l.agree all.0) ∙ (sym c.in_ok-there.ensures ∙ c.if-not-there.false) in
     let free = sym (known_told reading h a.rows.now a.project.now a.branch.now a.commit.now l.agree all.1.0 all.1.1.0) ∙ (sym c.in_ok-known.ensures ∙ c.if-known.false) in
-    let full = sym (room_told reading h a.rows.now (BasesOf a.project.now) l.agree all.1.1.1.0) ∙ (sym c.has_room_for_bases.ensures ∙ c.if-not-has_room_for_bases.true) in
-    refused_pair h a.caller command c.refused-then-not-has_room_for_bases.result Limit c.refused-then-not-has_room_for_bases.ensures.empty c.refused-then-not-has_room_for_bases.ensures.reply
+    let full = sym (room_told reading h a.rows.now (BasesOf a.project.now) l.agree all.1.1.1.0) ∙ (sym c.in_ok-room.ensures ∙ c.if-not-room.true) in
+    refused_pair h a.caller command c.refused-then-not-room.result Limit c.refused-then-not-room.ensures.empty c.refused-then-not-room.ensures.reply
     (base_refused reading h a.caller a.project.now a.branch.now a.commit.now true true true false false there_is admin there free full)
 
 pub returns-clause-decided : goal.returns-clause-decided
@@ -60,11 +60,11 @@ returns-clause-decided c = λ reading effective h there_is l.
     let command = RecordBase a.project.now a.branch.now a.commit.now in
     let all = asked_beside h a.caller command a.rows.now l in
     let admin = sym (admin_is h a.caller command a.rows.now l) ∙ (sym c.in_ok-admin.ensures ∙ c.if-not-admin.false) in
-    let there = sym (project_told reading h a.rows.now a.project.now l.agree all.0) ∙ (sym c.has_project.ensures ∙ c.if-not-has_project.false) in
+    let there = sym (project_told reading h a.rows.now a.project.now l.agree all.0) ∙ (sym c.in_ok-there.ensures ∙ c.if-not-there.false) in
     let free = sym (known_told reading h a.rows.now a.project.now a.branch.now a.commit.now l.agree all.1.0 all.1.1.0) ∙ (sym c.in_ok-known.ensures ∙ c.if-known.false) in
-    let room = sym (room_told reading h a.rows.now (BasesOf a.project.now) l.agree all.1.1.1.0) ∙ (sym c.has_room_for_bases.ensures ∙ c.if-not-has_room_for_bases.false) in
-    let last : c.last_place.result ≡ length (bases h a.project.now a.branch.now) =
-    c.last_place.ensures ∙ ((λ i. number_of (known a.rows.now (want.LastPlace (record { project = (c.in_ok-base.ensures i).project; branch = (c.in_ok-base.ensures i).branch }))))
+    let room = sym (room_told reading h a.rows.now (BasesOf a.project.now) l.agree all.1.1.1.0) ∙ (sym c.in_ok-room.ensures ∙ c.if-not-room.false) in
+    let last : c.number-last.result ≡ length (bases h a.project.now a.branch.now) =
+    c.number-last.ensures ∙ (ap (λ k. number_of (known a.rows.now (want.LastPlace k))) c.in_ok-branch_of.ensures
     ∙ place_told reading h a.rows.now (record { project = a.project.now; branch = a.branch.now }) l.agree all.1.1.1.1.0) in
     let below = ltb-true (base_count h a.project.now) 100000 room in
     let within = branch_within h a.project.now a.branch.now in

@@ -22,14 +22,14 @@ returns-then-get-clause-decided c = λ reading effective h known l.
     close_refused h a.caller a.epoch a.least c.refused-then-get.result EpochAhead c.refused-then-get.ensures.empty c.refused-then-get.ensures.reply
     (close_answer reading h a.caller a.epoch a.least (Refused EpochAhead) true true false (nat_lt (least_open h) a.least) known admin ahead refl refl)
 
-pub returns-then-get-least_epoch-clause-decided : goal.returns-then-get-least_epoch-clause-decided
-returns-then-get-least_epoch-clause-decided c = λ reading effective h known l.
+pub returns-then-from-number-clause-decided : goal.returns-then-from-number-clause-decided
+returns-then-from-number-clause-decided c = λ reading effective h known l.
     let a = c.args in
     let admin = sym (admin_is h a.caller (CloseEpoch a.least) a.rows.now l) ∙ (sym c.in_ok-admin.ensures ∙ c.if-not-admin.false) in
     let within : nat_le a.least a.epoch ≡ true = let t = c.if-get.false in let x = c.get.ensures.value in let y = c.get-2.ensures.value in grind (arith, nat_tests, t, x, y) in
-    let told = c.least_epoch.ensures ∙ least_told reading h a.rows.now l.agree (asked_beside h a.caller (CloseEpoch a.least) a.rows.now l).0 in
-    let same : nat_lt (least_open h) a.least ≡ false = let t = c.if-get-least_epoch.true in let x = c.get-3.ensures.value in grind (arith, nat_tests, t, x, told) in
-    close_refused h a.caller a.epoch a.least c.refused-then-get-least_epoch.result SameState c.refused-then-get-least_epoch.ensures.empty c.refused-then-get-least_epoch.ensures.reply
+    let told = c.number.ensures ∙ least_told reading h a.rows.now l.agree (asked_beside h a.caller (CloseEpoch a.least) a.rows.now l).0 in
+    let same : nat_lt (least_open h) a.least ≡ false = let t = c.if-from-number.true in let x = c.get-3.ensures.value in let y = c.from.ensures in grind (arith, nat_tests, t, x, y, told) in
+    close_refused h a.caller a.epoch a.least c.refused-then-from-number.result SameState c.refused-then-from-number.ensures.empty c.refused-then-from-number.ensures.reply
     (close_answer reading h a.caller a.epoch a.least (Refused SameState) true true true false known admin within same refl)
 
 pub returns-clause-decided : goal.returns-clause-decided
@@ -37,7 +37,7 @@ returns-clause-decided c = λ reading effective h known l.
     let a = c.args in
     let admin = sym (admin_is h a.caller (CloseEpoch a.least) a.rows.now l) ∙ (sym c.in_ok-admin.ensures ∙ c.if-not-admin.false) in
     let within : nat_le a.least a.epoch ≡ true = let t = c.if-get.false in let x = c.get.ensures.value in let y = c.get-2.ensures.value in grind (arith, nat_tests, t, x, y) in
-    let told = c.least_epoch.ensures ∙ least_told reading h a.rows.now l.agree (asked_beside h a.caller (CloseEpoch a.least) a.rows.now l).0 in
-    let more : nat_lt (least_open h) a.least ≡ true = let t = c.if-get-least_epoch.false in let x = c.get-3.ensures.value in grind (arith, nat_tests, t, x, told) in
+    let told = c.number.ensures ∙ least_told reading h a.rows.now l.agree (asked_beside h a.caller (CloseEpoch a.least) a.rows.now l).0 in
+    let more : nat_lt (least_open h) a.least ≡ true = let t = c.if-from-number.false in let x = c.get-3.ensures.value in let y = c.from.ensures in grind (arith, nat_tests, t, x, y, told) in
     let empty = c.nothing-delta.ensures in
     close_decided h a.caller a.epoch a.least _ known admin within more empty.accounts empty.members empty.file empty.base empty.changes refl

@@ -12,7 +12,7 @@ pub returns-clause-made : goal.returns-clause-made
 returns-clause-made c =
     let a = c.args in
     let count : c.len.result ≡ length a.found.now.comments.items = search rules in
-    let request : c.saturating_add-request.result ≡ next_request a.rows.now = c.saturating_add-request.ensures ∙ ap (λ n. min (n + 1) 18446744073709551615) c.requests.ensures in
+    let request : c.saturating_add-request.result ≡ next_request a.rows.now = c.saturating_add-request.ensures ∙ ap (λ n. min (n + 1) 18446744073709551615) c.number.ensures in
     record {
       made = subst (λ n. MakesChange a.change (seen a.found.now) (after_plain (ReviewOf a.review.now) a.caller n (seen a.found.now)) c.in_ok-delta.delta) request c.in_ok-delta.ensures.made;
       reply_is = λ i. Done (Reviewed ((c.in_ok-numbers.ensures ∙ (λ j. next_numbers (count j) (c.said_count.ensures j))) i));

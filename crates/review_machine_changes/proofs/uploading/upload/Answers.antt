@@ -4,8 +4,9 @@ use Rattle.review_words.specs.declared.command.ChangeCommand.TheVariants.{Upload
 use Rattle.review_words.specs.declared.command.Command.TheVariants.{OnChange}
 use Rattle.review_words.specs.declared.reply.{NotTaken.TheVariants.Damaged, Refusal.TheVariants.NoChange}
 use Rattle.review_core_rules.specs.Seen.{seen}
-use Rattle.review_machine_rows.specs.{Answer.first_refusal, Decisions.IsUndecided, Steps.OfCommand, View.AreEnough}
-use Rattle.review_machine_accounts.proofs.Decided.{asked_beside, refused_pair}
+use Rattle.review_machine_rows.specs.{Answer.first_refusal, Decisions.IsUndecided, Rows.HasNoEffect, Steps.OfCommand}
+use Rattle.review_machine_rows.specs.View.{AreEnough}
+use Rattle.review_machine_accounts.proofs.Decided.{asked_beside, empty_changes, refused_pair}
 use Rattle.review_machine_changes.proofs.Told.{change_told}
 use Rattle.review_machine_changes.proofs.Undecided.{change_is, err_with, none_there, unsound_undecided, upload_undecided}
 use Rattle.review_machine_changes.proofs.Uploaded.{copied_told, upload_fits, upload_told}
@@ -45,6 +46,10 @@ returns-in-Fails-clause-decided c = λ reading h room account l.
     refused_pair h a.caller command c.refused-in-Fails.result c.in-Fails.refusal c.refused-in-Fails.ensures.empty c.refused-in-Fails.ensures.reply
     (upload_told c.one_effective_file.ensures reading h a.caller a.change a.patch.now f a.rows.now (seen c.in-Some.found.now) account there enough
     ∙ subst (IsChecked (first_refusal (upload_list f a.rows.now a.caller a.patch.now (seen c.in-Some.found.now))) (seen c.in-Some.found.now)) c.in-Fails.is c.in_ok-checked.ensures.checked)
+
+pub returns-in-Fails-clause-refused : goal.returns-in-Fails-clause-refused
+returns-in-Fails-clause-refused c =
+    let r = c.refused-in-Fails in subst (λ reply. HasNoEffect reply r.result.0) (sym r.ensures.reply) (empty_changes r.result.0 r.ensures.empty)
 
 pub uploaded-requires-clause-fits : goal.uploaded-requires-clause-fits
 uploaded-requires-clause-fits c =

@@ -31,7 +31,7 @@ returns-clause-made c =
     let p = a.patch.now in
     let x = seen a.found.now in
     let s = setting_in a.project.now a.rows.now in
-    let request : c.saturating_add-request.result ≡ next_request a.rows.now = c.saturating_add-request.ensures ∙ ap (λ n. min (n + 1) 18446744073709551615) c.requests.ensures in
+    let request : c.saturating_add-request.result ≡ next_request a.rows.now = c.saturating_add-request.ensures ∙ ap (λ n. min (n + 1) 18446744073709551615) c.number.ensures in
     let is : seen c.in_ok-new.new.rows ≡ after s (UploadOf p) a.caller c.saturating_add-request.result x =
     c.in_ok-new.ensures.change ∙ ap (λ y. after s (UploadOf a.patch.now) a.caller c.saturating_add-request.result y) c.requires.same in
     let count : c.len.result ≡ length a.found.now.patches.items = search rules in

@@ -13,4 +13,4 @@ returns-in_ok-_desk-clause-looks g c =
     let first = c.args.tx.now.conn.now in
     let mid = c.find_in_turn.new.tx.conn.now in
     let unasked : c.find_in_turn.new.is_asked ≡ false = search rules in
-    seen_open g.S.Store F G first mid c.find.new.tx.conn.now c.in_ok-sight.sight c.in_ok-_desk._desk (subst (λ is. LooksIf g.S.Store is F first mid (Ok c.in_ok-sight.sight)) unasked c.in_ok-sight.ensures.looks) c.in_ok-_desk.ensures.looks
+    seen_open g.S.Store F G first mid c.find.new.tx.conn.now c.in_ok-end.end c.in_ok-_desk._desk (subst (λ is. LooksIf g.S.Store is F first mid (Ok c.in_ok-end.end)) unasked c.in_ok-end.ensures.looks) c.in_ok-_desk.ensures.looks

@@ -1,10 +1,9 @@
 use Rattle.std.proofs.Common.{◌≡◌, ◌∙◌, Ok, Err, subst, sym, rules, arith}
 use Rattle.std.proofs.lemmas.List.{take_all}
 use Rattle.review_machine_rows.specs.Known.{AreAsked}
-use Rattle.review_sql_lookups.specs.Counts.{SeesBounded}
 use Rattle.review_sql.proofs.Finding.{Have, all_seen, have_more, learnt_asked, one_failed, one_more, seen_unlearnt}
-use Rattle.review_sql.specs.Loading.{LooksIf, LooksOnce, WereSeen}
-use Rattle.review_sql_lookups.specs.declared.sights.Sight.TheVariants as sight
+use Rattle.review_sql.specs.Loading.{LearnsBounded, LooksIf, LooksOnce, WereSeen}
+use Rattle.review_sql.specs.declared.loading.Ended.TheVariants as ended
 use Rattle.review_sql.proofs.loading.find_in_turn.Goals as goal
 
 pub loop-want-preserved : goal.loop-want-preserved
@@ -20,17 +19,17 @@ loop-want-preserved g c =
     let first = c.args.tx.now.conn.now in
     let last = c.loop-want.tx.conn.now in
     let next = c.find_next.new.tx.conn.now in
-    let learnt : c.in_ok-sight.sight ≡ sight.Learnt = search rules in
+    let learnt : c.in_ok-end.end ≡ ended.Learnt = search rules in
     record {
       reference = c.find_next.ensures.same_reference ∙ c.loop-want.invariant.reference;
-      asked = learnt_asked wants index want old new c.loop-want-test.true c.want-item.is c.loop-want.invariant.asked (c.in_ok-sight.ensures.learnt learnt);
-      looks = one_more g.S.Store (Have old before mid) (SeesBounded want old new mid more) (Have new before more) first last next c.loop-want.is_asked c.find_next.new.is_asked sight.Learnt tt
+      asked = learnt_asked wants index want old new c.loop-want-test.true c.want-item.is c.loop-want.invariant.asked (c.in_ok-end.ensures.learnt learnt);
+      looks = one_more g.S.Store (Have old before mid) (LearnsBounded want old new mid more) (Have new before more) first last next c.loop-want.is_asked c.find_next.new.is_asked ended.Learnt tt
           (λ db have sees. have_more want old new before mid more db have sees) c.loop-want.invariant.looks
-          (subst (λ s. LooksOnce g.S.Store c.loop-want.is_asked c.find_next.new.is_asked (SeesBounded want old new mid more) last next (Ok s)) learnt c.in_ok-sight.ensures.looks);
+          (subst (λ s. LooksOnce g.S.Store c.loop-want.is_asked c.find_next.new.is_asked (LearnsBounded want old new mid more) last next (Ok s)) learnt c.in_ok-end.ensures.looks);
     }
 
-pub returns-in_err-sight-clause-looks : goal.returns-in_err-sight-clause-looks
-returns-in_err-sight-clause-looks g c =
+pub returns-in_err-end-clause-looks : goal.returns-in_err-end-clause-looks
+returns-in_err-end-clause-looks g c =
     let want = c.want-item.result in
     let old = c.loop-want.rows in
     let new = c.find_next.new.rows in
@@ -40,10 +39,10 @@ returns-in_err-sight-clause-looks g c =
     let first = c.args.tx.now.conn.now in
     let last = c.loop-want.tx.conn.now in
     let next = c.find_next.new.tx.conn.now in
-    let is : c.from_residual.result ≡ Err c.in_err-sight.field-0.0 = search rules in
+    let is : c.from_residual.result ≡ Err c.in_err-end.field-0.0 = search rules in
     subst (λ r. LooksIf g.S.Store c.find_next.new.is_asked (WereSeen new before more) first next r) (sym is)
-    (one_failed g.S.Store (Have old before mid) (SeesBounded want old new mid more) (WereSeen new before more) first last next c.loop-want.is_asked c.find_next.new.is_asked _ c.in_err-sight.field-0.0
-    c.loop-want.invariant.looks c.in_err-sight.ensures.looks)
+    (one_failed g.S.Store (Have old before mid) (LearnsBounded want old new mid more) (WereSeen new before more) first last next c.loop-want.is_asked c.find_next.new.is_asked _ c.in_err-end.field-0.0
+    c.loop-want.invariant.looks c.in_err-end.ensures.looks)
 
 pub returns-in-NoMemory-clause-looks : goal.returns-in-NoMemory-clause-looks
 returns-in-NoMemory-clause-looks g c =
@@ -56,10 +55,10 @@ returns-in-NoMemory-clause-looks g c =
     let first = c.args.tx.now.conn.now in
     let last = c.loop-want.tx.conn.now in
     let next = c.find_next.new.tx.conn.now in
-    let met : c.in_ok-sight.sight ≡ sight.NoMemory = search rules in
-    one_more g.S.Store (Have old before mid) (SeesBounded want old new mid more) (WereSeen new before more) first last next c.loop-want.is_asked c.find_next.new.is_asked sight.NoMemory sight.NoMemory
-    (λ db have sees. seen_unlearnt want old new before mid more db have sight.NoMemory (λ e. cc) sees) c.loop-want.invariant.looks
-    (subst (λ s. LooksOnce g.S.Store c.loop-want.is_asked c.find_next.new.is_asked (SeesBounded want old new mid more) last next (Ok s)) met c.in_ok-sight.ensures.looks)
+    let met : c.in_ok-end.end ≡ ended.NoMemory = search rules in
+    one_more g.S.Store (Have old before mid) (LearnsBounded want old new mid more) (WereSeen new before more) first last next c.loop-want.is_asked c.find_next.new.is_asked ended.NoMemory ended.NoMemory
+    (λ db have sees. seen_unlearnt want old new before mid more db have ended.NoMemory (λ e. cc) sees) c.loop-want.invariant.looks
+    (subst (λ s. LooksOnce g.S.Store c.loop-want.is_asked c.find_next.new.is_asked (LearnsBounded want old new mid more) last next (Ok s)) met c.in_ok-end.ensures.looks)
 
 pub returns-in-Damaged-clause-looks : goal.returns-in-Damaged-clause-looks
 returns-in-Damaged-clause-looks g c =
@@ -72,10 +71,10 @@ returns-in-Damaged-clause-looks g c =
     let first = c.args.tx.now.conn.now in
     let last = c.loop-want.tx.conn.now in
     let next = c.find_next.new.tx.conn.now in
-    let met : c.in_ok-sight.sight ≡ sight.Damaged = search rules in
-    one_more g.S.Store (Have old before mid) (SeesBounded want old new mid more) (WereSeen new before more) first last next c.loop-want.is_asked c.find_next.new.is_asked sight.Damaged sight.Damaged
-    (λ db have sees. seen_unlearnt want old new before mid more db have sight.Damaged (λ e. cc) sees) c.loop-want.invariant.looks
-    (subst (λ s. LooksOnce g.S.Store c.loop-want.is_asked c.find_next.new.is_asked (SeesBounded want old new mid more) last next (Ok s)) met c.in_ok-sight.ensures.looks)
+    let met : c.in_ok-end.end ≡ ended.Damaged = search rules in
+    one_more g.S.Store (Have old before mid) (LearnsBounded want old new mid more) (WereSeen new before more) first last next c.loop-want.is_asked c.find_next.new.is_asked ended.Damaged ended.Damaged
+    (λ db have sees. seen_unlearnt want old new before mid more db have ended.Damaged (λ e. cc) sees) c.loop-want.invariant.looks
+    (subst (λ s. LooksOnce g.S.Store c.loop-want.is_asked c.find_next.new.is_asked (LearnsBounded want old new mid more) last next (Ok s)) met c.in_ok-end.ensures.looks)
 
 pub returns-clause-looks : goal.returns-clause-looks
 returns-clause-looks g c = all_seen g.S.Store c.loop-want.is_asked c.loop-want.rows c.args.counts.now c.loop-want.counts c.args.tx.now.conn.now c.loop-want.tx.conn.now c.loop-want.invariant.looks

@@ -11,4 +11,4 @@ returns-clause-looks g c =
     let F : Trees → Option Bool → Type 0 = λ db is. IfTold db (IsBaseOrNot (tables_at db).row c.args.base.now) is in
     let a = state g.S.Store c.args.tx.now.conn.now in
     let m = state g.S.Store c.is_base.new.tx.conn.now in
-    look_on F _ a m c.in_ok-is.is' (Ok c.tell_base.result) c.in_ok-is.ensures.looks (λ db h. c.tell_base.ensures.told db h)
+    look_on F _ a m c.in_ok-is.is' (Ok c.tell_base.result) c.in_ok-is.ensures.looks (λ db h. c.tell_base.ensures c.args.base.now db h)

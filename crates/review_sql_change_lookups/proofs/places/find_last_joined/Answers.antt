@@ -19,7 +19,7 @@ returns-in_ok-header-in-Some-Some-clause-looks g c =
     let s2 = state g.S.Store c.find.new.tx.conn.now in
     let is : c.in_ok-found.found ≡ Some (Some last) = search rules in
     let both = look_both G H s0 s1 s2 c.in_ok-found.found (Ok c.in_ok-header-in-Some-Some.header) c.in_ok-found.ensures.looks c.in_ok-header-in-Some-Some.ensures.looks in
-    look_on _ _ s0 s2 c.in_ok-header-in-Some-Some.header (Ok c.tell_last_joined.result) both (λ db h. c.tell_last_joined.ensures.told db (subst (G db) is h.0) h.1)
+    look_on _ _ s0 s2 c.in_ok-header-in-Some-Some.header (Ok c.tell_last_joined.result) both (λ db h. c.tell_last_joined.ensures db (subst (G db) is h.0) h.1)
 
 pub returns-in-Some-None-clause-looks : goal.returns-in-Some-None-clause-looks
 returns-in-Some-None-clause-looks g c =
@@ -37,4 +37,4 @@ returns-in-None-clause-looks g c =
     let s0 = state g.S.Store c.args.tx.now.conn.now in
     let s1 = state g.S.Store c.find_greatest.new.tx.conn.now in
     let is : c.in_ok-found.found ≡ None = search rules in
-    look_on G _ s0 s1 c.in_ok-found.found (Ok c.tell_none_joined.result) c.in_ok-found.ensures.looks (λ db h. c.tell_none_joined.ensures.told db (subst (G db) is h))
+    look_on G _ s0 s1 c.in_ok-found.found (Ok c.none_joined.result) c.in_ok-found.ensures.looks (λ db h. c.none_joined.ensures key db (subst (G db) is h))

@@ -1,21 +1,17 @@
 use Rattle.std.proofs.Common.{◌≡◌, true, false, refl, sym, subst, rules}
-use Rattle.review_machine_rows.specs.Known.{Number}
-use Rattle.review_sql_lookups.{proofs.Telling.tells_as, specs.Tables.tables_at}
 use Rattle.review_sql_change_lookups.proofs.{Joining.last_joined, Placed.last_elsewhere}
 use Rattle.review_sql_change_lookups.specs.Joins.{IsHeaderAt}
-use Rattle.review_machine_rows.specs.declared.rows.Want.TheVariants as want
 use Rattle.review_sql_change_lookups.proofs.places.tell_last_joined.Goals as goal
 
-pub returns-clause-told : goal.returns-clause-told
-returns-clause-told c = λ db great stands.
+pub returns : goal.returns
+returns c = λ db great stands.
     let key = c.args.branch.now in
     let is : c.is_placed.result ≡ true = search rules in
     let head = subst (IsHeaderAt c.args.found key.project key.branch) c.from.ensures (c.is_placed.ensures.is is) in
-    tells_as (tables_at db) (want.LastJoined key) (Number c.args.place) c.args.rows.now c.learn_last_joined.new.rows c.learn_last_joined.result c.learnt.result c.learnt.ensures
-    (c.args.place, refl, last_joined db key c.args.change c.args.place c.args.found great stands head) c.learn_last_joined.ensures
+    rw (c.from-2.ensures) (c.args.place, refl, last_joined db key c.args.change c.args.place c.args.found great stands head)
 
-pub returns-then-not-is_placed-clause-told : goal.returns-then-not-is_placed-clause-told
-returns-then-not-is_placed-clause-told c = λ db great stands.
+pub returns-then-not-is_placed : goal.returns-then-not-is_placed
+returns-then-not-is_placed c = λ db great stands.
     let key = c.args.branch.now in
     let other : c.is_placed.result ≡ false = search rules in
     last_elsewhere db key c.args.change c.args.place c.args.found great stands (λ head. c.is_placed.ensures.other other (subst (IsHeaderAt c.args.found key.project key.branch) (sym c.from.ensures) head))

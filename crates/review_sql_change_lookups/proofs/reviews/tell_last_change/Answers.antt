@@ -1,17 +1,16 @@
 use Rattle.std.proofs.Common.{refl, rules, Some, None, ◌≡◌}
-use Rattle.review_machine_rows.specs.Known.{Number}
 use Rattle.review_sql_records.specs.{Forms.where_is, Keyed.is_small, Laws.passed}
 use Rattle.review_sql_lookups.{proofs.Odd.last_change_damaged, specs.Loads.last_of}
 use Rattle.review_sql_change_lookups.proofs.Reviewing.{last_change}
 use Rattle.review_sql_change_lookups.proofs.reviews.tell_last_change.Goals as goal
 
-pub returns-in-Some-clause-told : goal.returns-in-Some-clause-told
-returns-in-Some-clause-told c = λ db great.
+pub returns-in-Some : goal.returns-in-Some
+returns-in-Some c = λ db great.
     let number = c.in-Some.number in
     let is : where_is is_small (last_of c.args.found) ≡ Some number = search rules in
-    (Number number, (number, refl, last_change db c.args.found number great (passed is_small _ number is)), c.learn_last_change.ensures)
+    rw (c.from.ensures) (number, refl, last_change db c.args.found number great (passed is_small _ number is))
 
-pub returns-in-None-clause-told : goal.returns-in-None-clause-told
-returns-in-None-clause-told c = λ db great.
+pub returns-in-None : goal.returns-in-None
+returns-in-None c = λ db great.
     let none : where_is is_small (last_of c.args.found) ≡ None = search rules in
     last_change_damaged db c.args.found great none

@@ -8,4 +8,4 @@ pub returns-clause-looks : goal.returns-clause-looks
 returns-clause-looks g c =
     let a = state g.S.Store c.args.tx.now.conn.now in
     let m = state g.S.Store c.find_sent.new.tx.conn.now in
-    look_on (KnowsSent false c.args.base.now) _ a m c.in_ok-found.found (Ok c.tell_sender.result) c.in_ok-found.ensures.looks (λ db h. c.tell_sender.ensures.told db h)
+    look_on (KnowsSent false c.args.base.now) _ a m c.in_ok-found.found (Ok c.tell_sender.result) c.in_ok-found.ensures.looks (λ db h. c.tell_sender.ensures c.args.base.now db h)

@@ -11,7 +11,7 @@ returns-then-is_some-clause-looks g c =
     let m = state g.S.Store c.find_sent.new.tx.conn.now in
     let is : c.in_ok-found.found ≡ Some c.in-Some.merged = search rules in
     look_on (KnowsSent true base) _ a m c.in_ok-found.found (Ok c.tell_standing.result) c.in_ok-found.ensures.looks
-    (λ db h not_base. c.tell_standing.ensures.told db (stands_merged_so base db c.in-Some.merged (search rules) (subst (KnowsSent true base db) is h)))
+    (λ db h not_base. c.tell_standing.ensures base db (stands_merged_so base db c.in-Some.merged (search rules) (subst (KnowsSent true base db) is h)))
 
 pub returns-clause-looks : goal.returns-clause-looks
 returns-clause-looks g c =

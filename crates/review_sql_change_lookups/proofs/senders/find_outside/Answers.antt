@@ -11,4 +11,4 @@ returns-clause-looks g c =
     let m = state g.S.Store c.find_sent.new.tx.conn.now in
     let is : c.in_ok-found.found ≡ Some c.in-Some.sent = search rules in
     look_on (KnowsSent false base) _ a m c.in_ok-found.found (Ok c.tell_standing.result) c.in_ok-found.ensures.looks
-    (λ db h outside. c.tell_standing.ensures.told db (c.standing_outside.ensures base db outside (subst (KnowsSent false base db) is h)))
+    (λ db h outside. c.tell_standing.ensures base db (c.standing_outside.ensures base db outside (subst (KnowsSent false base db) is h)))

@@ -14,7 +14,7 @@ returns-then-is-clause-looks g c =
     let a = state g.S.Store c.args.tx.now.conn.now in
     let m = state g.S.Store c.is_base.new.tx.conn.now in
     let is : c.in_ok-found.found ≡ Some true = search rules in
-    look_on F _ a m c.in_ok-found.found (Ok c.tell_standing.result) c.in_ok-found.ensures.looks (λ db h. c.tell_standing.ensures.told db (inl (subst (F db) is h)))
+    look_on F _ a m c.in_ok-found.found (Ok c.tell_standing.result) c.in_ok-found.ensures.looks (λ db h. c.tell_standing.ensures base db (inl (subst (F db) is h)))
 
 pub returns-clause-looks : goal.returns-clause-looks
 returns-clause-looks g c =

@@ -12,4 +12,4 @@ returns-clause-looks g c =
     let F : Trees → Option (List (ℕ × Option (List ℕ))) → Type 0 = λ db found. AreParts nat_cmp branch_bases base_parts c.args.branch.now db (option_map (λ t. rows_of t) found) in
     let a = state g.S.Store c.args.tx.now.conn.now in
     let m = state g.S.Store c.find_parts.new.tx.conn.now in
-    look_on F _ a m c.in_ok-found.found (Ok c.tell_bases.result) c.in_ok-found.ensures.looks (λ db h. c.tell_bases.ensures.told db h)
+    look_on F _ a m c.in_ok-found.found (Ok c.tell_bases.result) c.in_ok-found.ensures.looks (λ db h. c.tell_bases.ensures c.args.branch.now db h)

@@ -1,12 +1,12 @@
-use Rattle.std.proofs.{Common.◌≡◌, Common.◌∙◌, Common.sym, Common.arith, lemmas.Option.same_Some}
+use Rattle.std.proofs.{Common.◌≡◌, Common.◌∙◌, Common.refl, Common.sym, Common.arith, lemmas.Option.same_Some}
 use Rattle.review_sql_tables.specs.Greatest.{as_counted}
 use Rattle.review_machine_rows.specs.{Limits.most_bases, Rows.BasesOf}
 use Rattle.review_sql_lookups.proofs.Bounded.{counted_below}
 use Rattle.review_sql_lookups.specs.Tables.{tables_at}
 use Rattle.review_sql_lookups.proofs.branches.tell_base_count.Goals as goal
 
-pub returns-clause-told : goal.returns-clause-told
-returns-clause-told c db is bounded =
+pub returns : goal.returns
+returns c db is bounded =
     let n = (tables_at db).count (BasesOf c.args.project.now) in
     let counted : as_counted n ≡ c.in-Some.count = same_Some _ _ (sym is ∙ c.in-Some.is) in
-    (c.tell_room_for_bases.ensures.told db (counted_below most_bases n c.in-Some.count (omega arith) counted), c.learn_bases.ensures (tables_at db) bounded counted)
+    ((_, refl, counted_below most_bases n c.in-Some.count (omega arith) counted), c.learn_bases.ensures (tables_at db) bounded counted)

@@ -17,7 +17,7 @@ returns-in_ok-named-in-Some-Some-clause-looks g c =
     let s2 = state g.S.Store c.find.new.tx.conn.now in
     let is : c.in_ok-found.found ≡ Some (Some number) = search rules in
     let both = look_both N A s0 s1 s2 c.in_ok-found.found (Ok c.in_ok-named-in-Some-Some.named) c.in_ok-found.ensures.looks c.in_ok-named-in-Some-Some.ensures.looks in
-    look_on _ _ s0 s2 c.in_ok-named-in-Some-Some.named (Ok c.tell_holder.result) both (λ db h. c.tell_holder.ensures.told db (subst (N db) is h.0) h.1)
+    look_on _ _ s0 s2 c.in_ok-named-in-Some-Some.named (Ok c.tell_holder.result) both (λ db h. c.tell_holder.ensures db (subst (N db) is h.0) h.1)
 
 pub returns-in-Some-None-clause-looks : goal.returns-in-Some-None-clause-looks
 returns-in-Some-None-clause-looks g c =
@@ -35,4 +35,4 @@ returns-in-None-clause-looks g c =
     let s0 = state g.S.Store c.args.tx.now.conn.now in
     let s1 = state g.S.Store c.find_any.new.tx.conn.now in
     let is : c.in_ok-found.found ≡ None = search rules in
-    look_on N _ s0 s1 c.in_ok-found.found (Ok c.tell_no_holder.result) c.in_ok-found.ensures.looks (λ db h. c.tell_no_holder.ensures.told db (subst (N db) is h))
+    look_on N _ s0 s1 c.in_ok-found.found (Ok c.no_holder.result) c.in_ok-found.ensures.looks (λ db h. c.no_holder.ensures name db (subst (N db) is h))

@@ -1,5 +1,0 @@
-use Rattle.review_machine_rows.proofs.Learning.{learns_last_place}
-use Rattle.review_machine_rows.proofs.rows.Rows.learn_last_place.Goals as goal
-
-pub returns : goal.returns
-returns c = learns_last_place c.args.self.now c.put.new.self c.args.branch c.args.last c.in_ok-put.ensures.ok

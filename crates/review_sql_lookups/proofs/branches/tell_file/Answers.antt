@@ -1,9 +1,0 @@
-use Rattle.std.proofs.Common.{ap, sym}
-use Rattle.review_machine_rows.specs.Rows.{FileKey, FileRow}
-use Rattle.review_sql_lookups.proofs.Telling.{odd_told}
-use Rattle.review_sql_lookups.specs.Tables.{told}
-use Rattle.review_machine_rows.specs.declared.rows.Want.TheVariants as want
-use Rattle.review_sql_lookups.proofs.branches.tell_file.Goals as goal
-
-pub returns-in-Err-clause-told : goal.returns-in-Err-clause-told
-returns-in-Err-clause-told c = λ db is. odd_told FileRow db (FileKey c.args.project.now) c.args.found (want.File c.args.project.now) c.args.rows.now c.args.rows.now c.in-Err.sight (ap (told FileRow) (sym is)) c.in-Err.ensures.err
