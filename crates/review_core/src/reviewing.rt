@@ -88,7 +88,7 @@ pub fn with_review<'r>(
         author: caller,
         request,
     };
-    draft.comments = new_comments(alloc, &rows.comments, &origin, review)?;
+    let new = new_comments(alloc, &rows.comments, &origin, review)?;
     let stored = posts(alloc, &rows.comments)?;
     let given = review.comments.as_slice();
     call_reviewed(
@@ -99,8 +99,9 @@ pub fn with_review<'r>(
         state,
         &stored,
         given,
-        &draft.comments,
+        &new,
         request,
     )?;
+    draft.comments = new;
     Ok(draft)
 }

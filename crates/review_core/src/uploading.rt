@@ -7,11 +7,11 @@ ghost use Rattle.review_core_rules.specs.Change.{after, carried, copying, curren
 ghost use Rattle.review_core_rules.specs.{Drafts.drafted, Seen.seen, Seen.vote_in, Votes.voted};
 ghost use Rattle.review_core_tables.specs.Copies.{AreMany, GroupTable, group_list, with_groups};
 
-use crate::roles::{current_patch, who_for};
+use crate::roles::current_patch;
 use review_core_rules::{ChangeRows, Draft, PatchRow, drafted};
 use review_core_standing::last_uploader;
 use review_core_tables::{
-    GroupTables, Parted, WhenLost, call_eligible, drop_called, is_eligible, part_votes, put_all,
+    GroupTables, Parted, WhenLost, Who, call_eligible, drop_called, is_eligible, part_votes, put_all,
 };
 use review_expr_judging::{ValueRange, VoteFacts};
 use review_file::ProjectFile;
@@ -125,7 +125,12 @@ pub fn with_patch_set<'r>(
     let mut draft = drafted(alloc, rows, request)?;
     put_all(&mut draft.votes, copied)?;
     draft.patches.push(sent_by(patch, caller))?;
-    let who = who_for(&rows.header, &draft.patches, caller);
+    let who = Who {
+        owner: rows.header.owner,
+        uploader: caller,
+        caller,
+        wip: rows.header.wip,
+    };
     let is_gone = !is_eligible(who.owner, who.uploader, &rows.roles, former);
     drop_called(&mut draft.attention, former, is_gone)?;
     let rule = WhenLost {

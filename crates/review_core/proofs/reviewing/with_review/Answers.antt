@@ -12,8 +12,8 @@ returns-clause-made c =
     let caller = c.args.caller in
     let same = c.in_ok-draft.ensures.same in
     let n : c.reviewed_patch-patch.result ≡ reviewed r (seen rows) = c.reviewed_patch-patch.ensures ∙ ap (λ ps. unwrap_or r.patch (length ps)) c.deref-2.ensures.value in
-    let new : c.in_ok-new_comments.new_comments.items ≡ new_comments r caller c.args.request (seen rows) =
-    c.in_ok-new_comments.ensures ∙ (λ i. map (stored_as (c.deref-3.ensures.value i) (n i) caller c.args.request) (said r)) in
+    let new : c.in_ok-new.new.items ≡ new_comments r caller c.args.request (seen rows) =
+    c.in_ok-new.ensures ∙ (λ i. map (stored_as (c.deref-3.ensures.value i) (n i) caller c.args.request) (said r)) in
     let stored : c.in_ok-stored.stored.items ≡ posts rows.comments.items = c.in_ok-stored.ensures ∙ ap posts c.deref-4.ensures.value in
     let whole : Who = record { owner = rows.header.owner; uploader = last_uploader rows.header.owner rows.patches.items; caller = caller; wip = rows.header.wip } in
     let who : c.who_for-who.result ≡ whole = c.who_for-who.ensures ∙ (λ i. record whole { uploader = last_uploader rows.header.owner (c.deref.ensures.value i) }) in
