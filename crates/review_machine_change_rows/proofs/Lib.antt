@@ -1,4 +1,3 @@
-mod Becoming
 mod Numbered
 mod Edited
 pub mod Ordered

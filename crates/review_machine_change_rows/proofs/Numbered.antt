@@ -1,12 +1,10 @@
--- Lists of numbered rows that go on.
-use Rattle.std.proofs.Common.{◌≡◌, ℕ, zero, suc, ◌+◌, ◌==◌, ◌<◌, ◌≤◌, List, [], ◌∷◌, ◌++◌, length, length-append, drop, Some, None, true, false, cond, refl, sym, ap, ◌∙◌, subst, ⊎_elim, arith, eqb-true}
+-- Rows that are put under the next numbers.
+use Rattle.std.proofs.Common.{◌≡◌, ℕ, zero, suc, ◌+◌, ◌==◌, ◌<◌, ◌≤◌, List, [], ◌∷◌, ◌++◌, length, length-append, Some, None, true, false, cond, refl, sym, ap, ◌∙◌, ⊎_elim, arith, eqb-true}
 use Rattle.std.proofs.lemmas.Bool.{cases_Bool, Decides.nat_tests}
 use Rattle.std.specs.{Cmp.unsigned_tied, Ordering.nat_cmp, Prelude.slice_get}
-use Rattle.review_names.specs.Forms.{is_within}
-use Rattle.review_table.specs.{Rows.after_row_edit, Rows.row_edit_of, Rows.changed, declared.table.RowEdit.RowEdit}
-use Rattle.review_core_rules.{proofs.Within.within_from, specs.Change.of_number}
-use Rattle.review_machine_rows.specs.Decisions.{NamesOnce}
-use Rattle.review_machine_change_rows.specs.{Edits.GoesOn, inner.Words.puts_after}
+use Rattle.review_table.specs.{Rows.NamesOnce, Rows.after_row_edit, Rows.row_edit_of, Rows.changed, declared.table.RowEdit.RowEdit}
+use Rattle.review_core_rules.specs.Change.{of_number}
+use Rattle.review_machine_change_rows.specs.inner.Words.{puts_after}
 
 next_number : {X : Type 0} (xs : List X) (k : ℕ) → of_number xs (k + 1) ≡ slice_get xs k
 next_number xs k = let e : k + 1 ≡ suc k = omega arith in ap (of_number xs) e
@@ -56,31 +54,6 @@ puts_number old (x ∷ xs) n =
     ∙ (puts_number (old ++ x ∷ []) xs n ∙ ap (λ l. of_number l n) (assoc old xs x))))
     (cases_Bool (length old + 1 == n))
 
--- what is left after the old rows
-dropped : {X : Type 0} (old more : List X) → drop (length old) (old ++ more) ≡ more
-dropped [] more = refl
-dropped (x ∷ old) more = dropped old more
-
-pub goes_on : {X : Type 0} (most : ℕ) (old new : List X) (n : ℕ) → GoesOn most old new → changed nat_cmp (puts_after (length old) (drop (length old) new)) n (of_number old n) ≡ of_number new n
-goes_on most old new n g =
-    ap (λ l. changed nat_cmp (puts_after (length old) l) n (of_number old n)) (ap (drop (length old)) g.is ∙ dropped old g.more)
-    ∙ (puts_number old g.more n ∙ ap (λ l. of_number l n) (sym g.is))
-
-drop_past : {X : Type 0} (xs : List X) (k : ℕ) → length xs ≤ k → drop k xs ≡ []
-drop_past [] zero le = refl
-drop_past [] (suc k) le = refl
-drop_past (x ∷ xs) zero le = absurd (omega arith)
-drop_past (x ∷ xs) (suc k) le = drop_past xs k (omega arith)
-
--- once all rows at the end are put, there are no others
-all_listed : {X : Type 0} (old new : List X) (put : List (RowEdit ℕ X)) (index : ℕ) → length new ≤ index →
-    put ++ puts_after index (drop index new) ≡ puts_after (length old) (drop (length old) new) → put ≡ puts_after (length old) (drop (length old) new)
-all_listed old new put index past is = sym (nothing_more put) ∙ (ap (λ l. put ++ puts_after index l) (sym (drop_past new index past)) ∙ is)
-
-pub all_put : {X : Type 0} (most : ℕ) (old new : List X) (put : List (RowEdit ℕ X)) (index n : ℕ) → GoesOn most old new → length new ≤ index →
-    put ++ puts_after index (drop index new) ≡ puts_after (length old) (drop (length old) new) → changed nat_cmp put n (of_number old n) ≡ of_number new n
-all_put most old new put index n g past is = ap (λ cs. changed nat_cmp cs n (of_number old n)) (all_listed old new put index past is) ∙ goes_on most old new n g
-
 -- a number has no row among those under later numbers
 none_before : {X : Type 0} (n m : ℕ) (xs : List X) → m ≤ n → row_edit_of nat_cmp (puts_after n xs) m ≡ None
 none_before n m [] le = refl
@@ -88,15 +61,34 @@ none_before n m (x ∷ xs) le =
     let apart : (n + 1 == m) ≡ false = grind (arith, nat_tests) in
     ap (λ b. cond b (Some (Some x)) (row_edit_of nat_cmp (puts_after (n + 1) xs) m)) (unsigned_tied (n + 1) m ∙ apart) ∙ none_before (n + 1) m xs (omega arith)
 
-numbers_once : {X : Type 0} (n : ℕ) (xs : List X) → NamesOnce nat_cmp (puts_after n xs)
+-- and each number is named once
+pub numbers_once : {X : Type 0} (n : ℕ) (xs : List X) → NamesOnce nat_cmp (puts_after n xs)
 numbers_once n [] = tt
 numbers_once n (x ∷ xs) = (none_before (n + 1) (n + 1) xs (omega arith), numbers_once (n + 1) xs)
 
--- and each number is named once
-pub once_put : {X : Type 0} (old new : List X) (put : List (RowEdit ℕ X)) (index : ℕ) → length new ≤ index →
-    put ++ puts_after index (drop index new) ≡ puts_after (length old) (drop (length old) new) → NamesOnce nat_cmp put
-once_put old new put index past is = subst (NamesOnce nat_cmp) (sym (all_listed old new put index past is)) (numbers_once (length old) (drop (length old) new))
+-- one more row is put
+pub one_put : {X : Type 0} (before : ℕ) (put : List (RowEdit ℕ X)) (x : X) (rest xs : List X) → put ++ puts_after (before + length put) (x ∷ rest) ≡ puts_after before xs →
+    (put ++ record { key = before + length put + 1; row = Some x } ∷ []) ++ puts_after (before + length (put ++ record { key = before + length put + 1; row = Some x } ∷ [])) rest ≡ puts_after before xs
+one_put before put x rest xs is =
+    let one : RowEdit ℕ X = record { key = before + length put + 1; row = Some x } in
+    let long : length (put ++ one ∷ []) ≡ length put + 1 = length-append put (one ∷ []) in
+    let next : before + length (put ++ one ∷ []) ≡ before + length put + 1 = omega (arith, long) in
+    ap (λ n. (put ++ one ∷ []) ++ puts_after n rest) next ∙ assoc put (puts_after (before + length put + 1) rest) one ∙ is
 
--- a row at the end has a number
-pub has_number : {X : Type 0} (most index : ℕ) (old new : List X) → GoesOn most old new → index < length new → is_within most (index + 1) ≡ true
-has_number most index old new g below = let le = g.within in within_from most (index + 1) (omega arith) (omega arith)
+-- all rows are put
+pub all_put : {X : Type 0} (before : ℕ) (put : List (RowEdit ℕ X)) (rest xs : List X) → rest ≡ [] → put ++ puts_after (before + length put) rest ≡ puts_after before xs → put ≡ puts_after before xs
+all_put before put rest xs empty is = sym (nothing_more put) ∙ (ap (λ l. put ++ puts_after (before + length put) l) (sym empty) ∙ is)
+
+as_many : {X : Type 0} (n : ℕ) (xs : List X) → length (puts_after n xs) ≡ length xs
+as_many n [] = refl
+as_many n (x ∷ xs) = ap suc (as_many (n + 1) xs)
+
+-- there is a number for the next row
+pub has_number : {X : Type 0} (most before : ℕ) (put : List (RowEdit ℕ X)) (x : X) (rest xs : List X) → before + length xs ≤ most → put ++ puts_after (before + length put) (x ∷ rest) ≡ puts_after before xs →
+    before + length put + 1 ≤ most
+has_number most before put x rest xs within is =
+    let both : length (put ++ puts_after (before + length put) (x ∷ rest)) ≡ length put + length (puts_after (before + length put) (x ∷ rest)) = length-append put (puts_after (before + length put) (x ∷ rest)) in
+    let more = as_many (before + length put) (x ∷ rest) in
+    let all = as_many before xs in
+    let same = ap length is in
+    omega (arith, within, both, more, all, same)

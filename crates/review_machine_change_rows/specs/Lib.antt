@@ -1,4 +1,2 @@
-pub mod Edits
-pub mod Same
 pub mod Tables
 pub mod inner

@@ -1,37 +1,25 @@
 -- What a command makes of a change, as an edit.
-use Rattle.std.proofs.Common.{◌≡◌, ℕ, ◌≤◌, List, [], ◌++◌, length, true, refl, sym, ap, ◌∙◌, subst, arith}
-use Rattle.std.proofs.lemmas.{Bool.Decides.nat_tests, List.append-nil}
-use Rattle.std.specs.{Ordering.nat_cmp, Prelude.nat_le}
-use Rattle.review_names.specs.Forms.{most_comments, most_patches}
-use Rattle.review_core_rules.{proofs.Within.within_parts, specs.Change.Change, specs.Seen.seen, specs.Sound.IsSound}
-use Rattle.review_core_rules.specs.declared.rows.{ChangeRows.ChangeRows, CommentRow.CommentRow, PatchRow.PatchRow}
-use Rattle.review_machine_rows.specs.Decisions.{NamesChangesOnce, NamesEachOnce, NamesOnce, NamesRowsOnce}
+use Rattle.std.proofs.Common.{◌≡◌, ℕ, Result, IfOk, refl, sym, subst}
+use Rattle.std.proofs.lemmas.Result.{IfOk-weaker}
+use Rattle.std.specs.{Ordering.nat_cmp, declared.alloc.AllocError.AllocError}
+use Rattle.review_table.specs.Rows.{NamesOnce}
+use Rattle.review_core_rules.specs.{Change.Change, Drafts.Makes, Drafts.drafted, Seen.seen, Sound.IsSound}
+use Rattle.review_core_rules.specs.declared.{draft.Draft.Draft, rows.ChangeRows.ChangeRows}
+use Rattle.review_machine_rows.specs.Decisions.{NamesChangesOnce, NamesEachOnce, NamesRowsOnce}
 use Rattle.review_machine_rows.specs.{Rows.member_cmp, declared.rows.ChangeEdit.ChangeEdit, declared.rows.Delta.Delta}
-use Rattle.review_machine_change_rows.specs.Edits.{GoesOn}
-use Rattle.review_machine_changes.specs.Facts.{EditsChange}
+use Rattle.review_machine_changes.specs.Facts.{EditsChange, MakesChange}
 
--- the patch sets of a sound change go on from others where they begin with them
-pub patches_go : (old new : ChangeRows) (to : Change) (more : List PatchRow) → IsSound (seen new) → seen new ≡ to → to.patches ≡ old.patches.items ++ more → GoesOn most_patches old.patches.items new.patches.items
-patches_go old new to more sound is begins = record {
-  more = more;
-  is = ap (λ (c : Change). c.patches) is ∙ begins;
-  within = (within_parts most_patches (length new.patches.items) sound.patches).1;
-}
+-- what a draft makes is sound
+pub draft_sound : (rows : ChangeRows) (new : Change) (d : Draft) → Makes rows new d → IsSound (drafted d)
+draft_sound rows new d m = subst IsSound (sym m.made) m.sound
 
--- and so do the comments
-pub comments_go : (old new : ChangeRows) (to : Change) (more : List CommentRow) → IsSound (seen new) → seen new ≡ to → to.comments ≡ old.comments.items ++ more → GoesOn most_comments old.comments.items new.comments.items
-comments_go old new to more sound is begins = record {
-  more = more;
-  is = ap (λ (c : Change). c.comments) is ∙ begins;
-  within = below (length new.comments.items) sound.comments;
-}
-  where
-    below : (n : ℕ) → nat_le n most_comments ≡ true → n ≤ most_comments
-    below n is = grind (arith, nat_tests)
+-- the delta of a draft makes of the rows that it is over what it is said to make
+pub made_of : (n : ℕ) (rows : ChangeRows) (new : Change) (d : Draft) (delta : Delta) → Makes rows new d → MakesChange n (seen d.rows.now) (drafted d) delta → MakesChange n (seen rows) new delta
+made_of n rows new d delta m made =
+    subst (λ (x : ChangeRows). MakesChange n (seen x) new delta) m.over (subst (λ (y : Change). MakesChange n (seen d.rows.now) y delta) m.made made)
 
--- a list goes on with nothing
-pub unchanged : {X : Type 0} (xs : List X) → xs ≡ xs ++ []
-unchanged xs = sym (append-nil xs)
+pub makes : (n : ℕ) (rows : ChangeRows) (new : Change) (d : Draft) (r : Result Delta AllocError) → Makes rows new d → IfOk r (MakesChange n (seen d.rows.now) (drafted d)) → IfOk r (MakesChange n (seen rows) new)
+makes n rows new d r m made = IfOk-weaker r (MakesChange n (seen d.rows.now) (drafted d)) (MakesChange n (seen rows) new) (λ delta. made_of n rows new d delta m) made
 
 -- a delta of one edit names each key once, where the edit does
 pub one_edit_once : (e : ChangeEdit) (delta : Delta) → EditsChange e delta → NamesRowsOnce e → NamesEachOnce delta

@@ -153,29 +153,3 @@ plain_decided reading h caller n request rows c delta reply plain passes told nu
     (request_decided reading h caller n request Nothing c delta told
     (subst (λ x. MakesChange n c x delta) (ap (λ q. after_plain request caller q c) number ∙ sym (plain_after (setting_of reading h c.project) request caller (length h + 1) c plain)) m.made)
     (outcome_answer reading h caller (OnChange n request) (Done Nothing) passes (plain_outcome reading h caller n request plain)))
-
--- such a request adds no patch set
-pub plain_patches : (request : ChangeCommand) (caller number : ℕ) (c : Change) → is_plain request ≡ true → (after_plain request caller number c).patches ≡ c.patches
-plain_patches (Upload p) caller number c plain = absurd (cc)
-plain_patches (Review r) caller number c plain = absurd (cc)
-plain_patches (AddReviewer account role) caller number c plain = refl
-plain_patches (RemoveReviewer account) caller number c plain = refl
-plain_patches SetWip caller number c plain = refl
-plain_patches SetReady caller number c plain = refl
-plain_patches Abandon caller number c plain = refl
-plain_patches Restore caller number c plain = refl
-plain_patches (AddAttention account reason) caller number c plain = refl
-plain_patches (RemoveAttention account reason) caller number c plain = refl
-
--- and no comment
-pub plain_comments : (request : ChangeCommand) (caller number : ℕ) (c : Change) → is_plain request ≡ true → (after_plain request caller number c).comments ≡ c.comments
-plain_comments (Upload p) caller number c plain = absurd (cc)
-plain_comments (Review r) caller number c plain = absurd (cc)
-plain_comments (AddReviewer account role) caller number c plain = refl
-plain_comments (RemoveReviewer account) caller number c plain = refl
-plain_comments SetWip caller number c plain = refl
-plain_comments SetReady caller number c plain = refl
-plain_comments Abandon caller number c plain = refl
-plain_comments Restore caller number c plain = refl
-plain_comments (AddAttention account reason) caller number c plain = refl
-plain_comments (RemoveAttention account reason) caller number c plain = refl

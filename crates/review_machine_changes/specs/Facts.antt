@@ -56,5 +56,5 @@ setting_in file rows = record { file = file; groups = group_list rows.groups }
 
 -- the checks of a request come to this, where the first that fails refuses so and its change is this one
 abbrev pub IsChecked : Option Refusal → Change → Checked → Type 0
-IsChecked why c (Passes file) = (why ≡ None) × (seen file.rows ≡ c)
+IsChecked why c (Passes file) = (why ≡ None) × (seen file.rows.now ≡ c)
 IsChecked why c (Fails refusal) = why ≡ Some refusal

@@ -2,7 +2,8 @@
 use Rattle.std.proofs.Common.{◌≡◌, ℕ, ◌==◌, List, [], ◌∷◌, Some, None, false, cond, refl, sym, ap, ◌∙◌, subst, map, arith}
 use Rattle.std.proofs.lemmas.Bool.Decides.{nat_tests}
 use Rattle.std.specs.{List.AllByRecursion, List.IsDistinct, Ordering.nat_cmp, Prelude.find}
-use Rattle.review_machine_rows.specs.Decisions.{NamesChangesOnce, NamesEachOnce, NamesOnce, NamesRowsOnce}
+use Rattle.review_table.specs.Rows.{NamesOnce}
+use Rattle.review_machine_rows.specs.Decisions.{NamesChangesOnce, NamesEachOnce, NamesRowsOnce}
 use Rattle.review_machine_rows.specs.Rows.{member_cmp}
 use Rattle.review_machine_rows.specs.declared.rows.{ChangeEdit.ChangeEdit, Delta.Delta, Rows.Rows}
 use Rattle.review_machine_submits.specs.Submits.{AreJoinEdits, EditsChanges}

@@ -1,5 +1,5 @@
-use Rattle.std.proofs.{Common.◌∙◌, Common.ap, lemmas.Result.IfOk-weaker}
-use Rattle.review_core_rules.specs.{Parts.part_row, Seen.seen}
+use Rattle.std.proofs.lemmas.Result.{IfOk-weaker}
+use Rattle.review_core_rules.specs.{Drafts.drafted, Seen.seen}
 use Rattle.review_machine_rows.specs.Decisions.{NamesEachOnce, NamesRowsOnce}
 use Rattle.review_machine_changes.specs.Facts.{EditsChange, MakesChange}
 use Rattle.review_machine_changes.proofs.edits.turned.Goals as goal
@@ -7,13 +7,8 @@ use Rattle.review_machine_changes.proofs.edits.turned.Goals as goal
 pub returns-clause-made : goal.returns-clause-made
 returns-clause-made c =
     let a = c.args in
-    IfOk-weaker c.edited.result (EditsChange c.in_ok-edit.edit) (MakesChange a.change (seen a.found.now) (seen a.new.rows))
-    (λ delta edits. record {
-      edit = c.in_ok-edit.edit;
-      edits = edits;
-      named = c.in_ok-edit.ensures.change;
-      becomes = λ part. c.in_ok-edit.ensures.becomes part ∙ ap (λ r. part_row (seen r) part) c.rows.ensures.same;
-    })
+    IfOk-weaker c.edited.result (EditsChange c.in_ok-edit.edit) (MakesChange a.change (seen a.draft.rows.now) (drafted a.draft))
+    (λ delta edits. record { edit = c.in_ok-edit.edit; edits = edits; named = c.in_ok-edit.ensures.change; becomes = c.in_ok-edit.ensures.becomes })
     c.edited.ensures.edits
 
 pub returns-clause-once : goal.returns-clause-once
