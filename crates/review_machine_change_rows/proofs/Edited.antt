@@ -64,7 +64,7 @@ pub record Begins (e : ChangeEdit) (new : ChangeRows) : Type 0 where
   pub comments : e.comments.items ≡ []
   pub attention : e.attention.items ≡ []
 
-none_at : {X : Type 0} (n : ℕ) → of_number {X} [] n ≡ None
+none_at : {X : Type 0} (n : ℕ) → of_number {X = X} [] n ≡ None
 none_at zero = refl
 none_at (suc n) = refl
 

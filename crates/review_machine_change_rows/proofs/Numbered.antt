@@ -69,7 +69,7 @@ numbers_once n (x ∷ xs) = (none_before (n + 1) (n + 1) xs (omega arith), numbe
 -- one more row is put
 pub one_put : {X : Type 0} (before : ℕ) (put : List (RowEdit ℕ X)) (x : X) (rest xs : List X) → put ++ puts_after (before + length put) (x ∷ rest) ≡ puts_after before xs →
     (put ++ record { key = before + length put + 1; row = Some x } ∷ []) ++ puts_after (before + length (put ++ record { key = before + length put + 1; row = Some x } ∷ [])) rest ≡ puts_after before xs
-one_put before put x rest xs is =
+one_put {X = X} before put x rest xs is =
     let one : RowEdit ℕ X = record { key = before + length put + 1; row = Some x } in
     let long : length (put ++ one ∷ []) ≡ length put + 1 = length-append put (one ∷ []) in
     let next : before + length (put ++ one ∷ []) ≡ before + length put + 1 = omega (arith, long) in

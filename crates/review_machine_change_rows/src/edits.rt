@@ -16,7 +16,7 @@ use std::alloc::{AllocError, Global};
 pub fn edit_of(alloc: Global, change: ChangeNo, draft: Draft) -> Result<ChangeEdit, AllocError>
     requires sound { IsSound (drafted draft) }
     ensures change { IfOk result (λ e. e.change ≡ change) }
-    ensures becomes { IfOk result (λ e. (part : Part) → after_row_edit (part_change e part) (part_row (seen draft.rows.now) part) ≡ part_row (drafted draft) part) }
+    ensures becomes { IfOk result (λ e. (part : Part) → after_row_edit (part_change e part) (part_row (seen draft.entry.rows.now) part) ≡ part_row (drafted draft.entry) part) }
     ensures once { IfOk result NamesRowsOnce }
 {
     let Draft {
