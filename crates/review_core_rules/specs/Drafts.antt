@@ -1,7 +1,8 @@
 -- A change in the making.
 use Rattle.std.specs.Prelude.{◌≡◌, ◌++◌, []}
-use Rattle.review_core_rules.specs.{Change.Change, EditedRows.for_account, EditedRows.vote_for, Sound.IsSound}
-use Rattle.review_core_rules.specs.declared.{draft.Draft.Draft, rows.ChangeRows.ChangeRows}
+use Rattle.review_table.specs.{Edited.row_with, Rows.row_in, Rows.rows_of}
+use Rattle.review_core_rules.specs.{Change.Change, EditedRows.for_account, EditedRows.vote_for, Seen.vote_cmp, Sound.IsSound}
+use Rattle.review_core_rules.specs.declared.{draft.Draft.Draft, rows.ChangeRows.ChangeRows, rows.VoteKey.VoteKey}
 
 -- the change that is made
 abbrev pub drafted : Draft → Change
@@ -20,6 +21,12 @@ drafted d = record {
   comments = d.rows.now.comments.items ++ d.comments.items;
   attention = for_account d.attention;
 }
+
+-- a draft over these rows that edits none of them
+pub record IsUnedited (rows : ChangeRows) (d : Draft) : Type 0 where
+  pub patches : d.patches.items ≡ []
+  pub votes : (q : VoteKey) → row_with vote_cmp d.votes q ≡ row_in vote_cmp (rows_of rows.votes) q
+  pub comments : d.comments.items ≡ []
 
 -- a draft over these rows makes this change, which is sound
 pub record Makes (rows : ChangeRows) (change : Change) (d : Draft) : Type 0 where

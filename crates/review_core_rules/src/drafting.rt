@@ -1,6 +1,6 @@
 //! A change in the making, begun.
 ghost use Rattle.std.specs.Prelude.{◌≡◌, IfOk};
-ghost use Rattle.review_core_rules.specs.{Drafts.drafted, Seen.seen};
+ghost use Rattle.review_core_rules.specs.{Drafts.IsUnedited, Drafts.drafted, Seen.seen};
 
 use crate::draft::Draft;
 use crate::rows::{ChangeRows, Header};
@@ -14,6 +14,7 @@ pub fn drafted<'r>(
     request: u64,
 ) -> Result<Draft<'r>, AllocError>
     ensures rows { IfOk result (λ d. d.rows ≡ rows.entry) }
+    ensures unedited { IfOk result (IsUnedited rows.now) }
     ensures same { IfOk result (λ d. drafted d ≡ record (seen rows.now) { updated = request }) }
 {
     let header = &rows.header;

@@ -164,12 +164,12 @@ put_past f n next q e (r ∷ rows) before =
     same false o = refl
 
 -- the votes after those of a patch set are copied to the next one, on which there were none
-pub votes_carried : (f : Copies) (n next : ℕ) (votes after : Votes) → IsStrictlySortedBy vote_cmp (keys_of (rows_of votes)) → ((l : List ℕ) (a : ℕ) → vote_in votes next l a ≡ pos 0) →
-    ((q : VoteKey) → row_in vote_cmp (rows_of after) q ≡ put_in vote_cmp (copied_rows f n next (rows_of votes)) q (row_in vote_cmp (rows_of votes) q)) →
-    (m : ℕ) (l : List ℕ) (a : ℕ) → vote_in after m l a ≡ (if next == m then (if f l a (vote_in votes n l a) then vote_in votes n l a else pos 0) else vote_in votes m l a)
+pub votes_carried : (f : Copies) (n next : ℕ) (votes : Votes) (after : VoteKey → Option ℤ) → IsStrictlySortedBy vote_cmp (keys_of (rows_of votes)) → ((l : List ℕ) (a : ℕ) → vote_in votes next l a ≡ pos 0) →
+    ((q : VoteKey) → after q ≡ put_in vote_cmp (copied_rows f n next (rows_of votes)) q (row_in vote_cmp (rows_of votes) q)) →
+    (m : ℕ) (l : List ℕ) (a : ℕ) → value_of (after (vote_key m l a)) ≡ (if next == m then (if f l a (vote_in votes n l a) then vote_in votes n l a else pos 0) else vote_in votes m l a)
 votes_carried f n next votes after sorted none is m l a = go (next == m) refl
   where
-    go : (b : Bool) → (next == m) ≡ b → vote_in after m l a ≡ (if b then (if f l a (vote_in votes n l a) then vote_in votes n l a else pos 0) else vote_in votes m l a)
+    go : (b : Bool) → (next == m) ≡ b → value_of (after (vote_key m l a)) ≡ (if b then (if f l a (vote_in votes n l a) then vote_in votes n l a else pos 0) else vote_in votes m l a)
     go true e =
         let same = eqb-true next m e in
         ap value_of (is (vote_key m l a))

@@ -22,7 +22,7 @@ returns-clause-made c =
     λ i. record (same i) {
       vote = λ m l a. (c.in_ok-give.ensures.votes m l a ∙ (λ j. if (n j == m) && (caller == a) then given_or (c.as_slice-labels.ensures.given j) l ((same j).vote m l a) else (same j).vote m l a)) i;
       role = λ u. role u i;
-      comments = ap (λ xs. rows.comments.items ++ xs) new i;
+      comments = (c.in_ok-draft.ensures.rows i).now.comments.items ++ new i;
       attention = λ u. (c.in_ok-call_reviewed.ensures.called u ∙ (λ j.
           kept_or (if ((who j).caller == u) && (not (is_open rows.header.state) || not (who j).wip) then None else (same j).attention u)
           (if (((who j).owner == u) || (((who j).uploader == u) || is_some (role u j))) && (not ((who j).caller == u) && not (who j).wip)

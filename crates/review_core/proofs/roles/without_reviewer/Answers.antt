@@ -1,5 +1,5 @@
 use Rattle.std.proofs.Common.{◌≡◌, ◌==◌, ◌&&◌, ◌||◌, not, ◌∙◌, ap, length, pos, None}
-use Rattle.std.specs.Prelude.{if◌then◌else◌}
+use Rattle.std.specs.{Cmp.unsigned_tied, Prelude.if◌then◌else◌}
 use Rattle.review_words.specs.declared.command.ChangeCommand.TheVariants.{RemoveReviewer}
 use Rattle.review_core_rules.specs.Change.{last_uploader, eligible, settled, no_copying}
 use Rattle.review_core_rules.specs.Seen.{seen, vote_in, of_account}
@@ -20,7 +20,7 @@ returns-clause-made c =
     c.is_other-is_gone.ensures ∙ (λ i. not (((who i).owner == u0) || ((who i).uploader == u0))) in
     λ i. record (same i) {
       vote = λ m l a. (c.in_ok-drop_votes.ensures.votes m l a ∙ (λ j. if (n j == m) && (u0 == a) then pos 0 else (same j).vote m l a)) i;
-      role = λ u. (c.in_ok-set.ensures.rows u ∙ (λ j. if u0 == u then None else (same j).role u)) i;
+      role = λ u. (c.in_ok-set.ensures.rows u ∙ (λ j. if unsigned_tied u0 u j then None else (same j).role u)) i;
       attention = λ u. (c.in_ok-drop_called.ensures.called u ∙ ((λ j. if (u0 == u) && gone j then None else (same j).attention u)
           ∙ kept_nothing (eligible (settled no_copying (RemoveReviewer u0) caller c.args.request (seen rows)) u && (not (caller == u) && not rows.header.wip))
           (if (u0 == u) && not ((owner == u0) || (last_uploader owner rows.patches.items == u0)) then None else of_account rows.attention u) c.args.request)) i;
