@@ -1,5 +1,5 @@
 -- Rows that are put under the next numbers.
-use Rattle.std.proofs.Common.{◌≡◌, ℕ, zero, suc, ◌+◌, ◌==◌, ◌<◌, ◌≤◌, List, [], ◌∷◌, ◌++◌, length, length-append, Some, None, true, false, cond, refl, sym, ap, ◌∙◌, ⊎_elim, arith, eqb-true}
+use Rattle.std.proofs.Common.{◌≡◌, ℕ, zero, suc, ◌+◌, ◌==◌, ◌≤◌, List, [], ◌∷◌, ◌++◌, length, length-append, Some, None, true, false, cond, refl, sym, ap, ◌∙◌, ⊎_elim, arith, eqb-true}
 use Rattle.std.proofs.lemmas.Bool.{cases_Bool, Decides.nat_tests}
 use Rattle.std.specs.{Cmp.unsigned_tied, Ordering.nat_cmp, Prelude.slice_get}
 use Rattle.review_table.specs.{Rows.NamesOnce, Rows.after_row_edit, Rows.row_edit_of, Rows.changed, declared.table.RowEdit.RowEdit}

@@ -28,8 +28,8 @@ pub fn change_file<'r>(alloc: Global, found: &'r ChangeRows) -> Result<ChangeFil
 
 /// The change as it is, of which it is said here that it is sound.
 fn told_sound<'r>(file: ChangeFile<'r>) -> ChangeFile<'r>
-    ensures same { result.rows ≡ file.rows }
-    ensures sound { IsSound (seen file.rows.now) }
+    ensures same { result.rows ≡ file.entry.rows }
+    ensures sound { IsSound (seen file.entry.rows.now) }
 {
     let _rows = file.rows();
     file
@@ -46,7 +46,7 @@ pub enum Checked<'r> {
 
 /// What checks come to, by the refusal of the first that fails.
 pub fn checked_by<'r>(file: ChangeFile<'r>, refusal: Option<Refusal>) -> Checked<'r>
-    ensures { IsChecked refusal (seen file.rows.now) result }
+    ensures { IsChecked refusal (seen file.entry.rows.now) result }
 {
     match refusal {
         Some(refusal) => Checked::Fails(refusal),
@@ -67,7 +67,7 @@ pub fn edited(alloc: Global, edit: ChangeEdit) -> Result<Delta, AllocError>
 /// The delta that turns a change into what was made of it.
 pub fn turned(alloc: Global, change: ChangeNo, draft: Draft) -> Result<Delta, AllocError>
     requires { IsSound (drafted draft) }
-    ensures made { IfOk result (MakesChange change (seen draft.rows.now) (drafted draft)) }
+    ensures made { IfOk result (MakesChange change (seen draft.entry.rows.now) (drafted draft.entry)) }
     ensures once { IfOk result NamesEachOnce }
 {
     let edit = edit_of(alloc, change, draft)?;

@@ -21,18 +21,16 @@ use std::alloc::{AllocError, Global};
 fn edit_by(
     alloc: Global,
     change: ChangeNo,
-    found: &ChangeRows,
-    file: ChangeFile,
+    file: &ChangeFile,
     place: u32,
     request: u64,
 ) -> Result<ChangeEdit, AllocError>
-    requires { seen file.rows ≡ seen found.now }
     ensures change { IfOk result (λ e. e.change ≡ change) }
-    ensures becomes { IfOk result (λ e. (part : Part) → after_row_edit (part_change e part) (part_row (seen found.now) part) ≡ part_row (joined_at place request (seen found.now)) part) }
+    ensures becomes { IfOk result (λ e. (part : Part) → after_row_edit (part_change e part) (part_row (seen file.now.rows.now) part) ≡ part_row (joined_at place request (seen file.now.rows.now)) part) }
     ensures once { IfOk result NamesRowsOnce }
 {
-    let new = file.merged(alloc, place, request);
-    edit_of(alloc, change, found, new.rows())
+    let draft = file.merged(alloc, place, request)?;
+    edit_of(alloc, change, draft)
 }
 
 /// The edit that makes a change join its branch at a place. Damaged only where the change isn't sound.
@@ -52,7 +50,7 @@ fn join_edit(
         unreachable!()
     };
     let file = change_file(alloc, found)?;
-    Ok(edit_by(alloc, change, found, file, place, request)?)
+    Ok(edit_by(alloc, change, &file, place, request)?)
 }
 
 /// The edits that make changes join their branch at their places.

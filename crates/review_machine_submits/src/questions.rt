@@ -18,7 +18,6 @@ use review_core_tables::GroupTables;
 use review_file::ProjectFile;
 use review_file_rules::{groups_suffice, one_effective_file};
 use review_machine_accounts::is_asker;
-use review_machine_change_rows::copied_change;
 use review_machine_laws::changes_are_sound;
 use review_machine_rows::Rows;
 use review_words::{AccountNo, Answer, ChangeNo, ChangeQuery, NotTaken, Query, Refusal, Reply};
@@ -47,12 +46,11 @@ pub fn show(
 }
 
 /// The change of rows that were loaded. Damaged only where they don't fit together.
-fn fitting(alloc: Global, found: &ChangeRows) -> Result<ChangeFile, NotTaken>
-    ensures file { IfOk result (λ f. seen f.rows ≡ seen found.now) }
+fn fitting<'r>(alloc: Global, found: &'r ChangeRows) -> Result<ChangeFile<'r>, NotTaken>
+    ensures file { IfOk result (λ f. seen f.rows.now ≡ seen found.now) }
     ensures cause { IfErr result (λ e. (e ≡ Memory) ⊎ ((e ≡ Damaged) × (IsSound (seen found.now) → ⊥))) }
 {
-    let copy = copied_change(alloc, found)?;
-    match ChangeFile::from_rows(alloc, copy) {
+    match ChangeFile::from_rows(alloc, found) {
         Ok(file) => Ok(file),
         Err(RowsFault::Broken) => Err(NotTaken::Damaged),
         Err(RowsFault::Memory) => Err(NotTaken::Memory),
@@ -111,7 +109,7 @@ fn answer_by(
     file: &ChangeFile,
     query: ChangeQuery,
 ) -> Result<Answer, NotTaken>
-    ensures told { IfOk result (IsToldBy (option_copied effective.entry) groups.now change query (seen file.now.rows)) }
+    ensures told { IfOk result (IsToldBy (option_copied effective.entry) groups.now change query (seen file.now.rows.now)) }
     ensures cause { IfErr result (λ e. (e ≡ Memory) ⊎ ((e ≡ Damaged) × LacksFile (option_copied effective.entry) query)) }
 {
     let rows = file.rows();

@@ -1,4 +1,4 @@
-use Rattle.std.proofs.Common.{◌≡◌, ◌≤◌, ◌+◌, ◌∙◌, ◌++◌, Some, None, cond, length, true, ap, subst, sym, arith}
+use Rattle.std.proofs.Common.{◌≡◌, ◌+◌, ◌∙◌, ◌++◌, Some, None, cond, length, true, ap, sym, arith}
 use Rattle.review_names.specs.Forms.{is_within, most_comments}
 use Rattle.review_core_rules.proofs.Within.{within_from}
 use Rattle.review_machine_change_rows.proofs.Numbered.{has_number}
