@@ -20,7 +20,7 @@ pub fn attend<'r>(
     ensures rows { IfOk result (λ new. new.rows ≡ rows.entry) }
     ensures made { IfOk result (λ new. drafted new ≡ after_plain (AddAttention account reason.now) caller request (seen rows.now)) }
 {
-    let mut draft = drafted(alloc, rows, request)?;
+    let mut draft = drafted(alloc, rows, rows.header.state, request)?;
     tell(alloc, &mut draft.attention, account, reason, request)?;
     Ok(draft)
 }
@@ -37,7 +37,7 @@ pub fn unattend<'r>(
     ensures rows { IfOk result (λ new. new.rows ≡ rows.entry) }
     ensures made { IfOk result (λ new. drafted new ≡ after_plain (RemoveAttention account reason.now) caller request (seen rows.now)) }
 {
-    let mut draft = drafted(alloc, rows, request)?;
+    let mut draft = drafted(alloc, rows, rows.header.state, request)?;
     drop_called(&mut draft.attention, account, true)?;
     Ok(draft)
 }

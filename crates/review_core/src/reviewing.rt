@@ -1,5 +1,6 @@
 //! A review: its votes, the role of its writer, its comments, and who is called.
-ghost use Rattle.std.specs.Prelude.{◌≡◌, ◌==◌, ◌&&◌, ◌||◌, not, ℕ, true, None, is_some, length, unwrap_or, IfOk, OnOk, if◌then◌else◌};
+ghost use Rattle.std.specs.List.{list_any};
+ghost use Rattle.std.specs.Prelude.{◌≡◌, ◌==◌, ◌&&◌, ◌||◌, not, ℕ, true, None, length, unwrap_or, IfOk, OnOk, if◌then◌else◌};
 ghost use Rattle.review_names.specs.Forms.{is_within, most_patches};
 ghost use Rattle.review_words.specs.declared.command.ChangeCommand.TheVariants.{Review as ReviewOf};
 ghost use Rattle.review_core_rules.specs.Change.{after_plain, current, is_open, kept_or, why_commented, why_replied};
@@ -9,7 +10,7 @@ use crate::roles::{current_patch, who_for};
 use crate::states::is_open;
 use review_core_rules::{AttentionEntry, ChangeRows, Comment, Draft, PatchRow, Post, drafted};
 use review_core_tables::{
-    Origin, WhenReviewed, Who, call_eligible, drop_called, give, new_comments, posts, review_roles,
+    Origin, WhenReviewed, Who, call_all, callable, drop_called, give, new_comments, posts, review_roles,
 };
 use review_table::Edited;
 use review_words::{AccountNo, NewComment, PatchNo, Review, Role, State};
@@ -22,12 +23,13 @@ fn leaves(state: State, wip: bool) -> bool
     !is_open(state) || !wip
 }
 
-/// Takes who writes the review out of the attention set, where he is to go, and calls those whom the review calls: on an open change the owner, the
-/// uploader and who wrote in the threads that the given comments answer, on a closed one the owner, where one of the new comments is unresolved.
+/// Takes who writes the review out of the attention set, where he is to go, and calls those of these accounts whom the review calls: on an open
+/// change the owner, the uploader and who wrote in the threads that the given comments answer, on a closed one the owner, where one of the new
+/// comments is unresolved.
 fn call_reviewed(
     alloc: Global,
     attention: &mut Edited<'_, AccountNo, AttentionEntry>,
-    roles: &Edited<'_, AccountNo, Role>,
+    accounts: &[AccountNo],
     who: &Who,
     state: State,
     stored: &[Post],
@@ -36,7 +38,7 @@ fn call_reviewed(
     request: u64,
 ) -> Result<(), AllocError>
     ensures table { attention.new.rows ≡ attention.old.rows }
-    ensures called { OnOk result ((u : ℕ) → for_account attention.new u ≡ kept_or (if (who.now.caller == u) && (not (is_open state) || not who.now.wip) then None else for_account attention.old u) (if ((who.now.owner == u) || ((who.now.uploader == u) || is_some (for_account roles.now u))) && (not (who.now.caller == u) && not who.now.wip) then (if is_open state then why_replied stored.now given.now who.now.caller who.now.owner who.now.uploader u else why_commented new.now who.now.caller who.now.owner u) else None) request) }
+    ensures called { OnOk result ((u : ℕ) → for_account attention.new u ≡ kept_or (if (who.now.caller == u) && (not (is_open state) || not who.now.wip) then None else for_account attention.old u) (if list_any (λ x. x == u) accounts.now then (if is_open state then why_replied stored.now given.now who.now.caller who.now.owner who.now.uploader u else why_commented new.now who.now.caller who.now.owner u) else None) request) }
 {
     let rule = WhenReviewed {
         is_open: is_open(state),
@@ -49,8 +51,7 @@ fn call_reviewed(
     };
     let is_gone = leaves(state, who.wip);
     drop_called(attention, who.caller, is_gone)?;
-    call_eligible(alloc, attention, roles, who, &rule, request)?;
-    Ok(())
+    call_all(alloc, attention, accounts, &rule, request)
 }
 
 /// The patch set that is reviewed.
@@ -76,8 +77,7 @@ pub fn with_review<'r>(
     ensures rows { IfOk result (λ new. new.rows ≡ rows.entry) }
     ensures made { IfOk result (λ new. drafted new ≡ after_plain (ReviewOf review.now) caller request (seen rows.now)) }
 {
-    let mut draft = drafted(alloc, rows, request)?;
-    let state = rows.header.state;
+    let mut draft = drafted(alloc, rows, rows.header.state, request)?;
     let who = who_for(&rows.header, &rows.patches, caller);
     let patch = reviewed_patch(&rows.patches, review);
     let labels = review.labels.as_slice();
@@ -91,12 +91,13 @@ pub fn with_review<'r>(
     let new = new_comments(alloc, &rows.comments, &origin, review)?;
     let stored = posts(alloc, &rows.comments)?;
     let given = review.comments.as_slice();
+    let accounts = callable(alloc, &draft.roles, &who)?;
     call_reviewed(
         alloc,
         &mut draft.attention,
-        &draft.roles,
+        &accounts,
         &who,
-        state,
+        rows.header.state,
         &stored,
         given,
         &new,

@@ -9,7 +9,7 @@ ghost use Rattle.review_core_tables.specs.declared.attention.Who.{Who};
 use crate::states::is_open;
 use review_core_rules::{ChangeRows, Draft, Header, PatchRow, drafted};
 use review_core_standing::last_uploader;
-use review_core_tables::{WhenAdded, Who, call_eligible, drop_called, drop_votes, is_reviewer};
+use review_core_tables::{WhenAdded, Who, call_all, callable, drop_called, drop_votes, is_reviewer};
 use review_words::{AccountNo, PatchNo, Role, State};
 use std::alloc::{AllocError, Global};
 
@@ -54,21 +54,15 @@ pub fn with_reviewer<'r>(
     ensures rows { IfOk result (λ new. new.rows ≡ rows.entry) }
     ensures made { IfOk result (λ new. drafted new ≡ after_plain (AddReviewer account role) caller request (seen rows.now)) }
 {
-    let mut draft = drafted(alloc, rows, request)?;
+    let mut draft = drafted(alloc, rows, rows.header.state, request)?;
     draft.roles.set(account, Some(role))?;
     let who = who_for(&rows.header, &rows.patches, caller);
     let rule = WhenAdded {
         account,
         is_called: calls_reviewer(role, rows.header.state),
     };
-    call_eligible(
-        alloc,
-        &mut draft.attention,
-        &draft.roles,
-        &who,
-        &rule,
-        request,
-    )?;
+    let accounts = callable(alloc, &draft.roles, &who)?;
+    call_all(alloc, &mut draft.attention, &accounts, &rule, request)?;
     Ok(draft)
 }
 
@@ -90,7 +84,7 @@ pub fn without_reviewer<'r>(
     ensures rows { IfOk result (λ new. new.rows ≡ rows.entry) }
     ensures made { IfOk result (λ new. drafted new ≡ after_plain (RemoveReviewer account) caller request (seen rows.now)) }
 {
-    let mut draft = drafted(alloc, rows, request)?;
+    let mut draft = drafted(alloc, rows, rows.header.state, request)?;
     let who = who_for(&rows.header, &rows.patches, caller);
     let patch = current_patch(&rows.patches);
     draft.roles.set(account, None)?;

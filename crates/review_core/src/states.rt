@@ -6,7 +6,7 @@ ghost use Rattle.review_core_rules.specs.{Drafts.drafted, Seen.seen};
 
 use crate::roles::who_for;
 use review_core_rules::{ChangeRows, Draft, drafted};
-use review_core_tables::{WhenReady, call_eligible};
+use review_core_tables::{WhenReady, call_all, callable};
 use review_words::{AccountNo, State};
 use std::alloc::{AllocError, Global};
 
@@ -30,7 +30,7 @@ pub fn wip<'r>(
     ensures rows { IfOk result (λ new. new.rows ≡ rows.entry) }
     ensures made { IfOk result (λ new. drafted new ≡ after_plain SetWip caller request (seen rows.now)) }
 {
-    let mut draft = drafted(alloc, rows, request)?;
+    let mut draft = drafted(alloc, rows, rows.header.state, request)?;
     draft.header.wip = true;
     draft.attention.clear(alloc)?;
     Ok(draft)
@@ -46,8 +46,7 @@ pub fn abandon<'r>(
     ensures rows { IfOk result (λ new. new.rows ≡ rows.entry) }
     ensures made { IfOk result (λ new. drafted new ≡ after_plain Abandon caller request (seen rows.now)) }
 {
-    let mut draft = drafted(alloc, rows, request)?;
-    draft.header.state = State::Abandoned;
+    let mut draft = drafted(alloc, rows, State::Abandoned, request)?;
     draft.attention.clear(alloc)?;
     Ok(draft)
 }
@@ -62,9 +61,7 @@ pub fn restore<'r>(
     ensures rows { IfOk result (λ new. new.rows ≡ rows.entry) }
     ensures made { IfOk result (λ new. drafted new ≡ after_plain Restore caller request (seen rows.now)) }
 {
-    let mut draft = drafted(alloc, rows, request)?;
-    draft.header.state = State::New;
-    Ok(draft)
+    drafted(alloc, rows, State::New, request)
 }
 
 /// Joined to its branch at a place: nobody is called any more.
@@ -77,8 +74,7 @@ pub fn merged<'r>(
     ensures rows { IfOk result (λ new. new.rows ≡ rows.entry) }
     ensures made { IfOk result (λ new. drafted new ≡ joined_at place request (seen rows.now)) }
 {
-    let mut draft = drafted(alloc, rows, request)?;
-    draft.header.state = State::Merged;
+    let mut draft = drafted(alloc, rows, State::Merged, request)?;
     draft.header.place = place;
     draft.attention.clear(alloc)?;
     Ok(draft)
@@ -94,17 +90,11 @@ pub fn ready<'r>(
     ensures rows { IfOk result (λ new. new.rows ≡ rows.entry) }
     ensures made { IfOk result (λ new. drafted new ≡ after_plain SetReady caller request (seen rows.now)) }
 {
-    let mut draft = drafted(alloc, rows, request)?;
+    let mut draft = drafted(alloc, rows, rows.header.state, request)?;
     draft.header.wip = false;
     let who = who_for(&draft.header, &rows.patches, caller);
     let rule = WhenReady { roles: &rows.roles };
-    call_eligible(
-        alloc,
-        &mut draft.attention,
-        &draft.roles,
-        &who,
-        &rule,
-        request,
-    )?;
+    let accounts = callable(alloc, &draft.roles, &who)?;
+    call_all(alloc, &mut draft.attention, &accounts, &rule, request)?;
     Ok(draft)
 }

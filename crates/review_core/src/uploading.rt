@@ -11,7 +11,7 @@ use crate::roles::current_patch;
 use review_core_rules::{ChangeRows, Draft, PatchRow, drafted};
 use review_core_standing::last_uploader;
 use review_core_tables::{
-    GroupTables, Parted, WhenLost, Who, call_eligible, drop_called, is_eligible, part_votes, put_all,
+    GroupTables, Parted, WhenLost, Who, call_all, callable, drop_called, is_eligible, part_votes, put_all,
 };
 use review_expr_judging::{ValueRange, VoteFacts};
 use review_file::ProjectFile;
@@ -122,7 +122,7 @@ pub fn with_patch_set<'r>(
         copied: copied.len(),
         outdated: lost.len(),
     };
-    let mut draft = drafted(alloc, rows, request)?;
+    let mut draft = drafted(alloc, rows, rows.header.state, request)?;
     put_all(&mut draft.votes, copied)?;
     draft.patches.push(sent_by(patch, caller))?;
     let who = Who {
@@ -137,13 +137,7 @@ pub fn with_patch_set<'r>(
         labels: file.labels(),
         lost: &lost,
     };
-    call_eligible(
-        alloc,
-        &mut draft.attention,
-        &draft.roles,
-        &who,
-        &rule,
-        request,
-    )?;
+    let accounts = callable(alloc, &draft.roles, &who)?;
+    call_all(alloc, &mut draft.attention, &accounts, &rule, request)?;
     Ok((draft, counts))
 }

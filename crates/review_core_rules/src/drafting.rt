@@ -5,17 +5,19 @@ ghost use Rattle.review_core_rules.specs.{Drafts.IsUnedited, Drafts.drafted, See
 use crate::draft::Draft;
 use crate::rows::{ChangeRows, Header};
 use review_table::Edited;
+use review_words::State;
 use std::alloc::{AllocError, Global};
 
-/// A change as it is, but that this request is the last that named it. An error where there was no memory for it.
+/// A change as it is, but in this state, and that this request is the last that named it. An error where there was no memory for it.
 pub fn drafted<'r>(
     alloc: Global,
     rows: &'r ChangeRows,
+    state: State,
     request: u64,
 ) -> Result<Draft<'r>, AllocError>
     ensures rows { IfOk result (λ d. d.rows ≡ rows.entry) }
     ensures unedited { IfOk result (IsUnedited rows.now) }
-    ensures same { IfOk result (λ d. drafted d ≡ record (seen rows.now) { updated = request }) }
+    ensures same { IfOk result (λ d. drafted d ≡ record (seen rows.now) { state = state; updated = request }) }
 {
     let header = &rows.header;
     let header = Header {
@@ -23,7 +25,7 @@ pub fn drafted<'r>(
         branch: header.branch.copy(alloc)?,
         subject: header.subject.copy(alloc)?,
         owner: header.owner,
-        state: header.state,
+        state,
         wip: header.wip,
         place: header.place,
         updated: request,

@@ -6,7 +6,6 @@ use Rattle.std.specs.Prelude.{◌==◌, if◌then◌else◌, is_some}
 use Rattle.review_table.specs.Rows.{row_in}
 use Rattle.review_core_rules.specs.{Change.kept_or, declared.rows.AttentionEntry.AttentionEntry, declared.rows.Why.Why}
 use Rattle.review_core_tables.proofs.{InTurn.Tells, InTurn.at_sym, VoteKeys.any_kept}
-use Rattle.review_core_tables.specs.inner.Words.{called_among}
 
 pub accounts_tell : Tells nat_cmp
 accounts_tell = record {
@@ -47,25 +46,9 @@ kept_none None n = refl
 kept_none (Some c) n = refl
 
 -- calling some accounts, where who is among them is known
-kept_where : (b : Bool) (o : Option AttentionEntry) (why : Option Why) (n : ℕ) → (if b then kept_or o why n else o) ≡ kept_or o (if b then why else None) n
+pub kept_where : (b : Bool) (o : Option AttentionEntry) (why : Option Why) (n : ℕ) → (if b then kept_or o why n else o) ≡ kept_or o (if b then why else None) n
 kept_where true o why n = refl
 kept_where false o why n = sym (kept_none o n)
-
-pub called_eligible : (accounts : List ℕ) (e : Bool) (caller u : ℕ) (o : Option AttentionEntry) (why : Option Why) (n : ℕ) → list_any (λ x. x == u) accounts ≡ e →
-    called_among (filter (λ x. not (x == caller)) accounts) why n u o ≡ kept_or o (if e && (not (caller == u) && true) then why else None) n
-called_eligible accounts e caller u o why n is =
-    ap (λ b. if b then kept_or o why n else o) (any_but caller u accounts ∙ ap (λ b. b && not (caller == u)) is)
-    ∙ (kept_where (e && not (caller == u)) o why n ∙ ap (λ b. kept_or o (if b then why else None) n) (and_true e (not (caller == u))))
-  where
-    and_true : (a b : Bool) → (a && b) ≡ (a && (b && true))
-    and_true true true = refl
-    and_true true false = refl
-    and_true false b = refl
-
-pub called_not : (e : Bool) (b : Bool) (o : Option AttentionEntry) (why : Option Why) (n : ℕ) → o ≡ kept_or o (if e && (b && false) then why else None) n
-called_not true true o why n = sym (kept_none o n)
-called_not true false o why n = sym (kept_none o n)
-called_not false b o why n = sym (kept_none o n)
 
 pub kept_nothing : (b : Bool) (o : Option AttentionEntry) (n : ℕ) → o ≡ kept_or o (if b then None else None) n
 kept_nothing true o n = sym (kept_none o n)

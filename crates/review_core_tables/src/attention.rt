@@ -41,7 +41,7 @@ fn call_one<R: Rule>(
 }
 
 /// Calls those of some accounts that a rule calls and that aren't in.
-fn call_all<R: Rule>(
+pub fn call_all<R: Rule>(
     alloc: Global,
     attention: &mut Edited<'_, AccountNo, AttentionEntry>,
     accounts: &[AccountNo],
@@ -49,7 +49,7 @@ fn call_all<R: Rule>(
     request: u64,
 ) -> Result<(), AllocError>
     ensures table { attention.new.rows ≡ attention.old.rows }
-    ensures called { OnOk result ((u : ℕ) → for_account attention.new u ≡ (if list_any (λ x. x == u) accounts.now then kept_or (for_account attention.old u) (R.calls rule.now u) request else for_account attention.old u)) }
+    ensures called { OnOk result ((u : ℕ) → for_account attention.new u ≡ kept_or (for_account attention.old u) (if list_any (λ x. x == u) accounts.now then R.calls rule.now u else None) request) }
 {
     for account in accounts {
         call_one(alloc, attention, *account, rule, request)?;
@@ -99,25 +99,20 @@ fn drop_caller(accounts: &mut Vec<AccountNo>, caller: AccountNo)
     accounts.retain(|account| *account != caller);
 }
 
-/// Calls those whom a rule calls and that aren't in: of the eligible, but for the caller and while the change isn't in work in progress.
-pub fn call_eligible<R: Rule>(
+/// Whom rules may call: the eligible, but for the caller, and nobody while the change is in work in progress.
+pub fn callable(
     alloc: Global,
-    attention: &mut Edited<'_, AccountNo, AttentionEntry>,
     roles: &Edited<'_, AccountNo, Role>,
     who: &Who,
-    rule: &R,
-    request: u64,
-) -> Result<(), AllocError>
-    ensures table { attention.new.rows ≡ attention.old.rows }
-    ensures called { OnOk result ((u : ℕ) → for_account attention.new u ≡ kept_or (for_account attention.old u) (if ((who.now.owner == u) || ((who.now.uploader == u) || is_some (for_account roles.now u))) && (not (who.now.caller == u) && not who.now.wip) then R.calls rule.now u else None) request) }
+) -> Result<Vec<AccountNo>, AllocError>
+    ensures { IfOk result (λ v. (u : ℕ) → list_any (λ x. x == u) v.items ≡ (((who.now.owner == u) || ((who.now.uploader == u) || is_some (for_account roles.now u))) && (not (who.now.caller == u) && not who.now.wip))) }
 {
     if who.wip {
-        return Ok(());
+        return Ok(Vec::new(alloc));
     }
     let mut accounts = eligible_accounts(alloc, who.owner, who.uploader, roles)?;
     drop_caller(&mut accounts, who.caller);
-    call_all(alloc, attention, &accounts, rule, request)?;
-    Ok(())
+    Ok(accounts)
 }
 
 /// Takes an account out, where it is to go.

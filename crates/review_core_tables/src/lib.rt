@@ -18,7 +18,7 @@ pub mod rules;
 pub mod threads;
 pub mod votes;
 
-pub use attention::{Rule, Who, call_eligible, drop_called, tell};
+pub use attention::{Rule, Who, call_all, callable, drop_called, tell};
 pub use comments::{Origin, answered, new_comments, of_number};
 pub use copying::{GroupTables, Parted, is_in, part_votes};
 pub use reasons::reason_of;

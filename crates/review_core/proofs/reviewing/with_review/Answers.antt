@@ -1,5 +1,5 @@
 use Rattle.std.proofs.Common.{◌≡◌, ℕ, ◌==◌, ◌&&◌, ◌||◌, ◌++◌, not, ◌∙◌, ap, length, map, None}
-use Rattle.std.specs.Prelude.{if◌then◌else◌, unwrap_or, is_some}
+use Rattle.std.specs.{List.list_any, Prelude.if◌then◌else◌, Prelude.unwrap_or, Prelude.is_some}
 use Rattle.review_core_rules.specs.Change.{last_uploader, reviewed, given_or, stored_as, said, new_comments, posts, kept_or, why_replied, why_commented, writer_role, is_open}
 use Rattle.review_core_rules.specs.{EditedRows.for_account, Seen.seen, Seen.of_account}
 use Rattle.review_core_tables.specs.declared.attention.Who.{Who}
@@ -25,10 +25,10 @@ returns-clause-made c =
       comments = (c.in_ok-draft.ensures.rows i).now.comments.items ++ new i;
       attention = λ u. (c.in_ok-call_reviewed.ensures.called u ∙ (λ j.
           kept_or (if ((who j).caller == u) && (not (is_open rows.header.state) || not (who j).wip) then None else (same j).attention u)
-          (if (((who j).owner == u) || (((who j).uploader == u) || is_some (role u j))) && (not ((who j).caller == u) && not (who j).wip)
+          (if (ap (λ xs. list_any (λ x. x == u) xs) c.deref-5.ensures.value ∙ (c.in_ok-accounts.ensures u ∙ (λ k. (((who k).owner == u) || (((who k).uploader == u) || is_some (role u k))) && (not ((who k).caller == u) && not (who k).wip)))) j
           then (if is_open rows.header.state
-          then why_replied ((c.deref-5.ensures.value ∙ stored) j) (c.as_slice-given.ensures.comments j) (who j).caller (who j).owner (who j).uploader u
-          else why_commented ((c.deref-6.ensures.value ∙ new) j) (who j).caller (who j).owner u)
+          then why_replied ((c.deref-6.ensures.value ∙ stored) j) (c.as_slice-given.ensures.comments j) (who j).caller (who j).owner (who j).uploader u
+          else why_commented ((c.deref-7.ensures.value ∙ new) j) (who j).caller (who j).owner u)
           else None)
           c.args.request)) i;
     }

@@ -1,5 +1,5 @@
 use Rattle.std.proofs.Common.{◌≡◌, ℕ, ◌==◌, ◌&&◌, ◌||◌, ◌∙◌, ap, not, None, Some}
-use Rattle.std.specs.{Cmp.unsigned_tied, Prelude.if◌then◌else◌, Prelude.is_some}
+use Rattle.std.specs.{Cmp.unsigned_tied, List.list_any, Prelude.if◌then◌else◌, Prelude.is_some}
 use Rattle.review_core_rules.specs.Change.{is_open, is_reviewer, kept_or, last_uploader}
 use Rattle.review_core_rules.specs.{EditedRows.for_account, Seen.of_account, declared.rows.Why.TheVariants.Added}
 use Rattle.review_core_tables.specs.declared.attention.Who.{Who}
@@ -16,9 +16,9 @@ returns-clause-made c =
     λ u. c.in_ok-set.ensures.rows u ∙ (λ j. if unsigned_tied u0 u j then Some c.args.role else (same j).role u) in
     λ i. record (same i) {
       role = λ u. role u i;
-      attention = λ u. (c.in_ok-call_eligible.ensures.called u ∙ (λ j.
+      attention = λ u. (c.in_ok-call_all.ensures.called u ∙ (λ j.
           kept_or ((same j).attention u)
-          (if (((who j).owner == u) || (((who j).uploader == u) || is_some (role u j))) && (not ((who j).caller == u) && not (who j).wip)
+          (if (ap (λ xs. list_any (λ x. x == u) xs) c.deref-2.ensures.value ∙ (c.in_ok-accounts.ensures u ∙ (λ k. (((who k).owner == u) || (((who k).uploader == u) || is_some (role u k))) && (not ((who k).caller == u) && not (who k).wip)))) j
           then (if (u0 == u) && c.calls_reviewer.ensures j then Some Added else None)
           else None)
           c.args.request)) i;

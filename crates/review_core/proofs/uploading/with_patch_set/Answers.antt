@@ -1,6 +1,6 @@
 use Rattle.std.proofs.Common.{◌≡◌, ℕ, List, refl, ◌==◌, ◌&&◌, ◌||◌, ◌+◌, ◌++◌, ◌∷◌, [], not, ◌∙◌, ap, sym, length, pos, None, map}
 use Rattle.std.specs.Cmp.Lexicographic.{pointwise}
-use Rattle.std.specs.Prelude.{if◌then◌else◌, is_some, find, option_map}
+use Rattle.std.specs.{List.list_any, Prelude.if◌then◌else◌, Prelude.is_some, Prelude.find, Prelude.option_map}
 use Rattle.review_table.specs.{Edited.row_with, Rows.rows_of}
 use Rattle.review_expr_judging.specs.declared.facts.VoteFacts.{VoteFacts}
 use Rattle.review_core_rules.specs.Change.{last_uploader, last_paths, kept_or}
@@ -54,11 +54,11 @@ returns c =
         vote = λ k l u. (votes_carried F c.current_patch-now.result c.next_patch-next.result rows.votes (row_with vote_cmp c.put_all.new.votes) sorted (λ l2 u2. ap (λ x. vote_in rows.votes x l2 u2) next ∙ c.requires.free l2 u2)
             (λ q. c.in_ok-put_all.ensures.votes q ∙ (λ j. put_in vote_cmp (parted.copied j) q (unedited.votes q j))) k l u
             ∙ (λ j. if next j == k then (if copies_by file (facts j) l u (vote_in rows.votes (n j) l u) then vote_in rows.votes (n j) l u else pos 0) else vote_in rows.votes k l u)) i;
-        attention = λ u. (c.in_ok-call_eligible.ensures.called u ∙ (λ j.
+        attention = λ u. (c.in_ok-call_all.ensures.called u ∙ (λ j.
             kept_or ((c.in_ok-drop_called.ensures.called u
             ∙ ((λ x. if (c.last_uploader-former.result == u) && not (c.is_eligible-is_gone.ensures x) then None else (same x).attention u)
             ∙ (λ x. if (former x == u) && not (((who x).owner == former x) || (((who x).uploader == former x) || is_some (of_account rows.roles (former x)))) then None else of_account rows.attention u))) j)
-            (if (((who j).owner == u) || (((who j).uploader == u) || is_some ((same j).role u))) && (not ((who j).caller == u) && not (who j).wip)
+            (if (ap (λ xs. list_any (λ x. x == u) xs) c.deref-5.ensures.value ∙ (c.in_ok-accounts.ensures u ∙ (λ k. (((who k).owner == u) || (((who k).uploader == u) || is_some ((same k).role u))) && (not ((who k).caller == u) && not (who k).wip)))) j
             then option_map NotCopied (find
             (λ l. (ap (λ ks. has_lost ks u l) (c.deref-4.ensures.value ∙ parted.lost)
             ∙ (lost_is F c.current_patch-now.result l u (rows_of rows.votes) sorted
