@@ -50,7 +50,8 @@ fn join_edit(
         unreachable!()
     };
     let file = change_file(alloc, found)?;
-    Ok(edit_by(alloc, change, &file, place, request)?)
+    let edit = edit_by(alloc, change, &file, place, request)?;
+    Ok(edit)
 }
 
 /// The edits that make changes join their branch at their places.
