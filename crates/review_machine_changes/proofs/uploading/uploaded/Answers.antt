@@ -1,7 +1,7 @@
-use Rattle.std.proofs.Common.{◌≡◌, ◌∙◌, ◌+◌, ap, subst, length, min}
+use Rattle.std.proofs.Common.{◌≡◌, ◌∙◌, ◌+◌, ℕ, Bor, ap, subst, length, min}
 use Rattle.review_words.specs.declared.command.ChangeCommand.TheVariants.{Upload as UploadOf}
 use Rattle.review_words.specs.declared.reply.{Answer.TheVariants.Patch, Reply.TheVariants.Done}
-use Rattle.review_core_rules.specs.{Change.after, Seen.seen, declared.rows.ChangeRows.ChangeRows}
+use Rattle.review_core_rules.specs.{Change.Change, Change.after, Seen.seen, declared.rows.ChangeRows.ChangeRows}
 use Rattle.review_machine_changes.proofs.Edited.{draft_sound, made_of}
 use Rattle.review_machine_changes.specs.Facts.{MakesChange, next_request, setting_in}
 use Rattle.review_machine_changes.proofs.uploading.uploaded.Goals as goal
@@ -16,9 +16,9 @@ pub returns-clause-made : goal.returns-clause-made
 returns-clause-made c =
     let a = c.args in
     let rows = a.file.now.rows.now in
-    let new = λ n. after (setting_in a.project.now a.rows.now) (UploadOf a.patch.now) a.caller n (seen rows) in
+    let new : ℕ → Change = λ n. after (setting_in a.project.now a.rows.now) (UploadOf a.patch.now) a.caller n (seen rows) in
     let request : c.saturating_add-request.result ≡ next_request a.rows.now = c.saturating_add-request.ensures ∙ ap (λ n. min (n + 1) 18446744073709551615) c.number.ensures in
-    let count : c.len.result ≡ length rows.patches.items = c.len.ensures ∙ ap (λ (r : ChangeRows). length r.patches.items) (ap (λ x. x.now) c.rows.ensures.same) in
+    let count : c.len.result ≡ length rows.patches.items = c.len.ensures ∙ c.rows.result.now.patches.ok.0 ∙ ap (λ (r : Bor ChangeRows). length r.now.patches.items) c.rows.ensures.same in
     record {
       made = subst (λ n. MakesChange a.change (seen rows) (new n) c.in_ok-delta.delta) request
           (made_of a.change rows (new c.saturating_add-request.result) c.in_ok-draft.draft c.in_ok-delta.delta c.in_ok-draft.ensures.change c.in_ok-delta.ensures.made);
