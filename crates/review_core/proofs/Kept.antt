@@ -1,5 +1,5 @@
 -- What the definitions say of rows that are made.
-use Rattle.std.proofs.Common.{◌≡◌, ℕ, ◌+◌, ℤ, pos, List, Bool, true, false, not, refl, sym, subst, arith, int_eq}
+use Rattle.std.proofs.Common.{◌≡◌, ℕ, ◌+◌, ℤ, pos, List, Bool, true, false, not, refl, sym, arith, int_eq}
 use Rattle.std.proofs.lemmas.Bool.{false_from_ne_true, Decides.Decides-int_eq}
 use Rattle.review_core_rules.proofs.Within.{within_parts}
 use Rattle.review_core_rules.specs.{Change.Change, Change.current, Sound.IsSound, Votes.voted}
@@ -17,7 +17,3 @@ next_free c s l a =
     zero_of (c.vote (current c + 1) l a) (false_from_ne_true (voted (c.vote (current c + 1) l a)) (λ yes.
     let p = within_parts (current c) (current c + 1) (s.on_patches (current c + 1) l a yes) in
     absurd (omega (arith, p.1))))
-
--- the change of some rows, where that of others is sound and the same
-pub sound_as : (new old : Change) → new ≡ old → IsSound old → IsSound new
-sound_as new old e s = subst (λ c. IsSound c) (sym e) s

@@ -1,7 +1,7 @@
-use Rattle.std.proofs.Common.{◌≡◌, ℕ, ◌==◌, ◌&&◌, ◌||◌, not, ◌∙◌, ap, None}
+use Rattle.std.proofs.Common.{◌≡◌, ℕ, Bool, Option, ◌==◌, ◌&&◌, ◌||◌, not, ◌∙◌, ap, None}
 use Rattle.std.{proofs.lemmas.Result.IfOk-weaker, specs.List.list_any, specs.Prelude.if◌then◌else◌}
 use Rattle.review_core_rules.specs.Change.{is_open, kept_or, why_commented, why_replied}
-use Rattle.review_core_rules.specs.EditedRows.{for_account}
+use Rattle.review_core_rules.specs.{EditedRows.for_account, declared.rows.Why.Why}
 use Rattle.review_core.proofs.reviewing.call_reviewed.Goals as goal
 
 pub returns-clause-called : goal.returns-clause-called
@@ -10,8 +10,8 @@ returns-clause-called c =
     let now = c.call_all.new.attention in
     let left = c.drop_called.new.attention in
     let old = c.args.attention.now in
-    let by_state = λ b u. if b then why_replied c.args.stored.now c.args.given.now who.caller who.owner who.uploader u else why_commented c.args.new.now who.caller who.owner u in
-    let among = λ u. list_any (λ x. x == u) c.args.accounts.now in
+    let by_state : Bool → ℕ → Option Why = λ b u. if b then why_replied c.args.stored.now c.args.given.now who.caller who.owner who.uploader u else why_commented c.args.new.now who.caller who.owner u in
+    let among : ℕ → Bool = λ u. list_any (λ x. x == u) c.args.accounts.now in
     IfOk-weaker c.call_all.result
     (λ x. (u : ℕ) → for_account now u ≡ kept_or (for_account left u) (if among u then by_state c.is_open.result u else None) c.args.request)
     (λ x. (u : ℕ) → for_account now u ≡ kept_or (if (who.caller == u) && (not (is_open c.args.state) || not who.wip) then None else for_account old u) (if among u then by_state (is_open c.args.state) u else None) c.args.request)

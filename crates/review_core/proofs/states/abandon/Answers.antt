@@ -2,7 +2,6 @@ use Rattle.std.proofs.Common.{◌==◌, ◌&&◌, ◌∙◌, not, true, None}
 use Rattle.review_words.specs.declared.command.ChangeCommand.TheVariants.{Abandon}
 use Rattle.review_core_rules.specs.{Change.eligible, Change.no_copying, Change.settled, Seen.seen}
 use Rattle.review_core_tables.proofs.Accounts.{kept_nothing}
-use Rattle.review_words.specs.declared.shown.State.TheVariants.{Abandoned}
 use Rattle.review_core.proofs.states.abandon.Goals as goal
 
 pub returns-clause-made : goal.returns-clause-made
@@ -11,6 +10,5 @@ returns-clause-made c =
     let same = c.in_ok-draft.ensures.same in
     let after = settled no_copying Abandon c.args.caller c.args.request (seen rows) in
     λ i. record (same i) {
-      state = Abandoned;
       attention = λ u. (c.in_ok-clear.ensures.rows u ∙ kept_nothing (eligible after u && (not (c.args.caller == u) && not after.wip)) None c.args.request) i;
     }
