@@ -1,5 +1,5 @@
 -- What a command makes of a change, as an edit.
-use Rattle.std.proofs.Common.{◌≡◌, ℕ, Result, IfOk, refl, sym, subst}
+use Rattle.std.proofs.Common.{ℕ, Result, IfOk, refl, sym, subst}
 use Rattle.std.proofs.lemmas.Result.{IfOk-weaker}
 use Rattle.std.specs.{Ordering.nat_cmp, declared.alloc.AllocError.AllocError}
 use Rattle.review_table.specs.Rows.{NamesOnce}

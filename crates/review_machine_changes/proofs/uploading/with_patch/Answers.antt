@@ -1,4 +1,4 @@
-use Rattle.std.proofs.Common.{◌≡◌, IfOk, subst}
+use Rattle.std.proofs.Common.{IfOk, subst}
 use Rattle.review_words.specs.declared.{changes.NewPatch.NewPatch, command.ChangeCommand.TheVariants.Upload as UploadOf}
 use Rattle.review_core_rules.specs.Change.{after, carried, copying, is_lost}
 use Rattle.review_core_rules.specs.{Counts.AreMany, Drafts.Makes, Seen.seen, Votes.voted}
