@@ -10,7 +10,7 @@ pub edit_of-requires : goal.edit_of-requires
 edit_of-requires c =
     let a = c.args in
     let rows = a.file.now.rows.now in
-    draft_sound rows (joined_at a.place a.request (seen rows)) c.in_ok-draft.draft c.in_ok-draft.ensures
+    record { sound = draft_sound rows (joined_at a.place a.request (seen rows)) c.in_ok-draft.draft c.in_ok-draft.ensures }
 
 pub returns-clause-becomes : goal.returns-clause-becomes
 returns-clause-becomes c =
