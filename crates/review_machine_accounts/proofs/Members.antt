@@ -9,7 +9,8 @@ use Rattle.std.specs.{BTreeMap.is_at, Cmp.tied_then, Cmp.unsigned_tied, Cmp.Lexi
 use Rattle.std.specs.List.{filter, list_any, AllByRecursion, IsDistinct, Sorted.IsStrictlySortedBy}
 use Rattle.std.specs.Map.{keys_of, Iter.deref_pair}
 use Rattle.std.specs.{Ordering.nat_cmp, Ordering.eq_by_cmp, Prelude.is_some, Str.bytes_eq}
-use Rattle.review_table.specs.{Rows.NamesOnce, Rows.after_row_edit, Rows.row_edit_of, Rows.row_in, declared.table.RowEdit.RowEdit}
+use Rattle.review_table.specs.Rows.{NamesOnce, after_row_edit, row_edit_of, row_in}
+use Rattle.review_table.specs.declared.table.RowEdit.{RowEdit}
 use Rattle.review_machine_rows.specs.Rows.{MemberRow, member_change, member_cmp}
 use Rattle.review_machine_rows.specs.declared.rows.MemberKey.{MemberKey as Member}
 use Rattle.review_machine_accounts.specs.inner.Words.{added, dropped, leaves, is_held, member_of}

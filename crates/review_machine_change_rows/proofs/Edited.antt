@@ -1,16 +1,16 @@
 -- What an edit makes of a change, row by row.
 use Rattle.std.proofs.Common.{◌≡◌, ◌++◌, ℕ, zero, suc, ℤ, List, [], Option, Some, None, cond, length, refl, sym, ap, ◌∙◌}
-use Rattle.std.specs.{Ordering.nat_cmp, Prelude.option_map}
-use Rattle.std.specs.declared.cmp.Ordering.{Ordering}
+use Rattle.std.specs.{Ordering.nat_cmp, Prelude.option_map, declared.cmp.Ordering.Ordering}
+use Rattle.review_table.specs.Edited.{row_with}
 use Rattle.review_table.specs.Rows.{after_row_edit, changed, place_at, row_edit_of, row_in, rows_of}
-use Rattle.review_table.specs.{Edited.row_with, declared.edited.Edited.Edited, declared.table.RowEdit.RowEdit}
-use Rattle.review_core_rules.specs.Change.{of_number}
+use Rattle.review_table.specs.declared.{edited.Edited.Edited, table.RowEdit.RowEdit}
+use Rattle.review_core_rules.specs.{Change.of_number, Drafts.IsBare, Drafts.drafted, EditedRows.for_account}
 use Rattle.review_core_rules.specs.Parts.{Part, TheHeader, PatchOf, VoteOf, RoleOf, CommentOf, AttentionOf, AHeader, APatch, AVote, ARole, AComment, AnAttentionEntry, part_row}
-use Rattle.review_core_rules.specs.{Drafts.IsBare, Drafts.drafted, EditedRows.for_account, Seen.of_account, Seen.seen, Seen.value_of, Seen.vote_cmp, Votes.voted}
+use Rattle.review_core_rules.specs.{Seen.of_account, Seen.seen, Seen.value_of, Seen.vote_cmp, Votes.voted}
 use Rattle.review_core_rules.specs.declared.{draft.Draft.Draft, rows.ChangeRows.ChangeRows, rows.VoteKey.VoteKey}
 use Rattle.review_machine_rows.specs.{Rows.part_change, Rows.vote_row, declared.rows.ChangeEdit.ChangeEdit}
-use Rattle.review_machine_change_rows.specs.inner.Words.{puts_after}
 use Rattle.review_machine_change_rows.proofs.Numbered.{puts_number}
+use Rattle.review_machine_change_rows.specs.inner.Words.{puts_after}
 
 after_mapped : {X Y : Type 0} (f : X → Y) (o : Option (Option X)) (was : Option X) → after_row_edit (option_map (option_map f) o) (option_map f was) ≡ option_map f (after_row_edit o was)
 after_mapped f None was = refl

@@ -2,7 +2,8 @@
 use Rattle.std.proofs.Common.{◌≡◌, ℕ, zero, suc, ◌+◌, ◌==◌, ◌≤◌, List, [], ◌∷◌, ◌++◌, length, length-append, Some, None, true, false, cond, refl, sym, ap, ◌∙◌, ⊎_elim, arith, eqb-true}
 use Rattle.std.proofs.lemmas.Bool.{cases_Bool, Decides.nat_tests}
 use Rattle.std.specs.{Cmp.unsigned_tied, Ordering.nat_cmp, Prelude.slice_get}
-use Rattle.review_table.specs.{Rows.NamesOnce, Rows.after_row_edit, Rows.row_edit_of, Rows.changed, declared.table.RowEdit.RowEdit}
+use Rattle.review_table.specs.Rows.{NamesOnce, after_row_edit, row_edit_of, changed}
+use Rattle.review_table.specs.declared.table.RowEdit.{RowEdit}
 use Rattle.review_core_rules.specs.Change.{of_number}
 use Rattle.review_machine_change_rows.specs.inner.Words.{puts_after}
 

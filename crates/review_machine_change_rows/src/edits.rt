@@ -2,7 +2,8 @@
 ghost use Rattle.std.specs.Prelude.{◌≡◌, ◌+◌, ◌≤◌, IfOk, None, length};
 ghost use Rattle.review_names.specs.Forms.{most_comments, most_patches};
 ghost use Rattle.review_table.specs.Rows.{after_row_edit};
-ghost use Rattle.review_core_rules.specs.{Drafts.IsBare, Drafts.drafted, Parts.Part, Parts.part_row, Seen.seen, Sound.IsSound};
+ghost use Rattle.review_core_rules.specs.Drafts.{IsBare, drafted};
+ghost use Rattle.review_core_rules.specs.{Parts.Part, Parts.part_row, Seen.seen, Sound.IsSound};
 ghost use Rattle.review_machine_rows.specs.{Decisions.NamesRowsOnce, Rows.part_change};
 ghost use Rattle.review_machine_change_rows.specs.inner.Words.{puts_after};
 
@@ -58,7 +59,9 @@ pub fn edit_of_new(
     ensures once { IfOk result NamesRowsOnce }
 {
     let ChangeRows {
-        header, patches, ..
+        header,
+        patches,
+        ..
     } = new;
     let patches = more_patches(alloc, 0, patches)?;
     Ok(ChangeEdit {

@@ -1,7 +1,6 @@
 -- What a command makes of a change, as an edit.
 use Rattle.std.proofs.Common.{ℕ, Result, IfOk, refl, sym, subst}
-use Rattle.std.proofs.lemmas.Result.{IfOk-weaker}
-use Rattle.std.specs.{Ordering.nat_cmp, declared.alloc.AllocError.AllocError}
+use Rattle.std.{proofs.lemmas.Result.IfOk-weaker, specs.Ordering.nat_cmp, specs.declared.alloc.AllocError.AllocError}
 use Rattle.review_table.specs.Rows.{NamesOnce}
 use Rattle.review_core_rules.specs.{Change.Change, Drafts.Makes, Drafts.drafted, Seen.seen, Sound.IsSound}
 use Rattle.review_core_rules.specs.declared.{draft.Draft.Draft, rows.ChangeRows.ChangeRows}

@@ -6,7 +6,8 @@ ghost use Rattle.review_words.specs.declared.command.ChangeCommand.TheVariants.{
 ghost use Rattle.review_words.specs.declared.{command.Command.TheVariants.OnChange, reply.Answer.TheVariants.Patch};
 ghost use Rattle.review_words.specs.declared.reply.NotTaken.TheVariants.{Damaged, Memory};
 ghost use Rattle.review_core_rules.specs.Change.{after, carried, copying, current, is_lost};
-ghost use Rattle.review_core_rules.specs.{Counts.AreMany, Drafts.Makes, Seen.seen, Sound.IsSound, Sound.fits, Votes.voted};
+ghost use Rattle.review_core_rules.specs.{Counts.AreMany, Drafts.Makes, Seen.seen, Sound.IsSound, Sound.fits};
+ghost use Rattle.review_core_rules.specs.Votes.{voted};
 ghost use Rattle.review_machine_rows.specs.{Answer.first_refusal, Answer.most_requests, Changes.Reading};
 ghost use Rattle.review_machine_rows.specs.Decisions.{IsUndecided, NamesEachOnce};
 ghost use Rattle.review_machine_rows.specs.{Rows.HasNoEffect, Steps.OfCommand, View.AreEnough, View.IsDecided};

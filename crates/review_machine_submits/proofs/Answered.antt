@@ -15,7 +15,6 @@ use Rattle.review_machine_accounts.proofs.Questioned.{refused_question, told_que
 use Rattle.review_machine_submits.proofs.Loaded.{OneFile, change_told, has_file, same_trees}
 use Rattle.review_machine_submits.proofs.Standing.{GroupsSuffice, standing_told}
 use Rattle.review_machine_submits.specs.inner.Told.{IsToldBy}
-use Rattle.review_words.specs.declared.reply.Answer.TheVariants as told
 use Rattle.review_machine_rows.specs.declared.rows.Want.TheVariants as want
 
 -- a question about a change that isn't there

@@ -1,11 +1,10 @@
 use Rattle.std.proofs.Common.{◌≡◌, ◌≤◌, ◌+◌, ◌∙◌, ◌++◌, length, length-append, arith, refl, subst, sym}
-use Rattle.std.proofs.lemmas.Bool.Decides.{nat_tests}
-use Rattle.std.specs.{Ordering.nat_cmp, Prelude.nat_le, Prelude.true, Prelude.ℕ}
+use Rattle.std.{proofs.lemmas.Bool.Decides.nat_tests, specs.Ordering.nat_cmp}
+use Rattle.std.specs.Prelude.{nat_le, true, ℕ}
 use Rattle.review_names.specs.Forms.{most_comments, most_patches}
 use Rattle.review_table.specs.Rows.{NamesOnce}
 use Rattle.review_core_rules.{proofs.Within.within_parts, specs.Seen.vote_cmp}
-use Rattle.review_machine_change_rows.proofs.Edited.{added, noted, turned}
-use Rattle.review_machine_change_rows.proofs.Numbered.{numbers_once}
+use Rattle.review_machine_change_rows.proofs.{Edited.added, Edited.noted, Edited.turned, Numbered.numbers_once}
 use Rattle.review_machine_change_rows.proofs.edits.edit_of.Goals as goal
 
 pub more_patches-requires : goal.more_patches-requires

@@ -1,9 +1,7 @@
-use Rattle.std.proofs.Common.{refl, subst, sym}
-use Rattle.std.specs.{Ordering.nat_cmp}
+use Rattle.std.{proofs.Common.refl, proofs.Common.subst, proofs.Common.sym, specs.Ordering.nat_cmp}
 use Rattle.review_table.specs.Rows.{NamesOnce}
 use Rattle.review_core_rules.specs.Seen.{vote_cmp}
-use Rattle.review_machine_change_rows.proofs.Edited.{begun}
-use Rattle.review_machine_change_rows.proofs.Numbered.{numbers_once}
+use Rattle.review_machine_change_rows.proofs.{Edited.begun, Numbered.numbers_once}
 use Rattle.review_machine_change_rows.proofs.edits.edit_of_new.Goals as goal
 
 pub returns-clause-becomes : goal.returns-clause-becomes

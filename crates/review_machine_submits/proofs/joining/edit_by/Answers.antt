@@ -1,7 +1,7 @@
 use Rattle.std.proofs.Common.{◌≡◌, IfOk, subst}
 use Rattle.review_table.specs.Rows.{after_row_edit}
-use Rattle.review_core_rules.specs.{Change.Change, Change.joined_at, Parts.Part, Parts.part_row, Seen.seen}
-use Rattle.review_core_rules.specs.declared.rows.ChangeRows.{ChangeRows}
+use Rattle.review_core_rules.specs.Change.{Change, joined_at}
+use Rattle.review_core_rules.specs.{Parts.Part, Parts.part_row, Seen.seen, declared.rows.ChangeRows.ChangeRows}
 use Rattle.review_machine_rows.specs.Rows.{part_change}
 use Rattle.review_machine_changes.proofs.Edited.{draft_sound}
 use Rattle.review_machine_submits.proofs.joining.edit_by.Goals as goal
