@@ -2,7 +2,8 @@
 ghost use Rattle.std.specs.Prelude.{◌≡◌, ◌↔◌, true, IfOk, MatchResult};
 ghost use Rattle.review_words.specs.declared.command.ChangeCommand.TheVariants.{Upload, Review as ReviewOf, AddReviewer, RemoveReviewer, SetWip, SetReady, Abandon, Restore, AddAttention, RemoveAttention};
 ghost use Rattle.review_core_rules.specs.Change.{after, after_plain, carried, copying, eligible, is_lost, joined_at};
-ghost use Rattle.review_core_rules.specs.{Drafts.Makes, Seen.seen, Sound.IsSound, Sound.fits, Threads.threads, Votes.voted};
+ghost use Rattle.review_core_rules.specs.{Drafts.Makes, Seen.seen, Sound.IsSound, Sound.fits, Threads.threads};
+ghost use Rattle.review_core_rules.specs.Votes.{voted};
 ghost use Rattle.review_core_tables.specs.Copies.{AreMany, group_list};
 ghost use Rattle.review_core_standing.specs.Grouped.{IsStatus};
 ghost use Rattle.review_core.specs.Faults.{IsRefused};
@@ -221,12 +222,7 @@ impl<'r> ChangeFile<'r> {
     }
 
     /// Joined to its branch at a place.
-    pub fn merged(
-        &self,
-        alloc: Global,
-        place: u32,
-        request: u64,
-    ) -> Result<Draft<'r>, AllocError>
+    pub fn merged(&self, alloc: Global, place: u32, request: u64) -> Result<Draft<'r>, AllocError>
         ensures { IfOk result (Makes self.now.rows.now (joined_at place request (seen self.now.rows.now))) }
     {
         joins_sound();

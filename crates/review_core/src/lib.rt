@@ -2,9 +2,9 @@
 //! definitions in `review_core_rules` say.
 //!
 //! [`begun`] makes the rows of a new change, `from_rows` takes stored rows and refuses those that don't fit together, and `rows` gives them
-//! back. Each request is noted beside the rows, as a `Draft`: nothing is copied but what it edits. `with_patch_set` copies votes by the file and the groups before the upload, and counts the copied and the lost ones;
-//! `with_review`, `with_reviewer`, `without_reviewer`, `wip`, `ready`, `abandon`, `restore`, `attend`, `unattend` and `merged` are the
-//! other requests.
+//! back. What a request makes is noted beside the rows, as a `Draft`: nothing is copied but what it edits. `with_patch_set` copies votes by
+//! the file and the groups before the upload, and counts the copied and the lost ones; `with_review`, `with_reviewer`, `without_reviewer`,
+//! `wip`, `ready`, `abandon`, `restore`, `attend`, `unattend` and `merged` are the other requests.
 //!
 //! After `wip`, say, the rows show the change as it was but for `wip`, and nobody is called. `status` says how a requirement stands,
 //! `threads` gives the comments thread by thread, `eligible` whether an account may be called.

@@ -10,7 +10,8 @@ use crate::roles::{current_patch, who_for};
 use crate::states::is_open;
 use review_core_rules::{AttentionEntry, ChangeRows, Comment, Draft, PatchRow, Post, drafted};
 use review_core_tables::{
-    Origin, WhenReviewed, Who, call_all, callable, drop_called, give, new_comments, posts, review_roles,
+    Origin, WhenReviewed, Who, call_all, callable, drop_called, give, new_comments, posts,
+    review_roles,
 };
 use review_table::Edited;
 use review_words::{AccountNo, NewComment, PatchNo, Review, Role, State};

@@ -9,7 +9,9 @@ ghost use Rattle.review_core_tables.specs.declared.attention.Who.{Who};
 use crate::states::is_open;
 use review_core_rules::{ChangeRows, Draft, Header, PatchRow, drafted};
 use review_core_standing::last_uploader;
-use review_core_tables::{WhenAdded, Who, call_all, callable, drop_called, drop_votes, is_reviewer};
+use review_core_tables::{
+    WhenAdded, Who, call_all, callable, drop_called, drop_votes, is_reviewer,
+};
 use review_words::{AccountNo, PatchNo, Role, State};
 use std::alloc::{AllocError, Global};
 

@@ -11,7 +11,8 @@ use crate::roles::current_patch;
 use review_core_rules::{ChangeRows, Draft, PatchRow, drafted};
 use review_core_standing::last_uploader;
 use review_core_tables::{
-    GroupTables, Parted, WhenLost, Who, call_all, callable, drop_called, is_eligible, part_votes, put_all,
+    GroupTables, Parted, WhenLost, Who, call_all, callable, drop_called, is_eligible, part_votes,
+    put_all,
 };
 use review_expr_judging::{ValueRange, VoteFacts};
 use review_file::ProjectFile;

@@ -1,7 +1,8 @@
 -- A change in the making.
 use Rattle.std.specs.Prelude.{◌≡◌, ◌++◌, []}
 use Rattle.review_table.specs.{Edited.row_with, Rows.row_in, Rows.rows_of}
-use Rattle.review_core_rules.specs.{Change.Change, EditedRows.for_account, EditedRows.vote_for, Seen.vote_cmp, Sound.IsSound}
+use Rattle.review_core_rules.specs.{Change.Change, EditedRows.for_account, EditedRows.vote_for, Seen.vote_cmp}
+use Rattle.review_core_rules.specs.Sound.{IsSound}
 use Rattle.review_core_rules.specs.declared.{draft.Draft.Draft, rows.ChangeRows.ChangeRows, rows.VoteKey.VoteKey}
 
 -- the change that is made

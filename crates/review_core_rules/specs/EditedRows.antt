@@ -1,8 +1,8 @@
 -- Edits beside the tables of a change.
 use Rattle.std.specs.{Ordering.nat_cmp, Prelude.ℕ, Prelude.ℤ, Prelude.List, Prelude.Option, Prelude.◌≡◌}
-use Rattle.review_words.specs.declared.changes.Role.{Role}
 use Rattle.review_table.specs.{Edited.row_with, declared.edited.Edited.Edited}
-use Rattle.review_core_rules.specs.{Seen.value_of, Seen.vote_cmp}
+use Rattle.review_words.specs.declared.changes.Role.{Role}
+use Rattle.review_core_rules.specs.Seen.{value_of, vote_cmp}
 use Rattle.review_core_rules.specs.declared.rows.{AttentionEntry.AttentionEntry, ChangeRows.ChangeRows, VoteKey.VoteKey}
 
 -- the row of an account once the edits are made

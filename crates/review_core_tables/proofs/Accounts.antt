@@ -1,7 +1,7 @@
 -- Rows by account, and who is called.
 use Rattle.std.proofs.Common.{◌≡◌, ℕ, List, [], ◌∷◌, map, Option, Some, None, Bool, true, false, not, ◌&&◌, ◌||◌, refl, sym, ap, ◌∙◌, eqb-true, eq-eqb, arith}
-use Rattle.std.{proofs.lemmas.Bool.Decides.nat_tests, specs.BTreeMap.is_at}
-use Rattle.std.specs.{Cmp.unsigned_tied, List.list_any, List.filter, Ordering.nat_cmp}
+use Rattle.std.proofs.lemmas.Bool.Decides.{nat_tests}
+use Rattle.std.specs.{BTreeMap.is_at, Cmp.unsigned_tied, List.list_any, List.filter, Ordering.nat_cmp}
 use Rattle.std.specs.Prelude.{◌==◌, if◌then◌else◌, is_some}
 use Rattle.review_table.specs.Rows.{row_in}
 use Rattle.review_core_rules.specs.{Change.kept_or, declared.rows.AttentionEntry.AttentionEntry, declared.rows.Why.Why}

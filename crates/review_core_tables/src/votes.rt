@@ -1,8 +1,6 @@
 //! The votes of a change in the making.
-ghost use Rattle.std.specs.List.{list_any};
-ghost use Rattle.std.specs.Ordering.{int_eq};
+ghost use Rattle.std.specs.{BTreeMap.is_at, List.list_any, Ordering.int_eq};
 ghost use Rattle.std.specs.Prelude.{◌≡◌, ◌==◌, option_copied, ◌&&◌, ℕ, ℤ, pos, true, false, List, IfOk, IsSome, OnOk, if◌then◌else◌};
-ghost use Rattle.std.specs.BTreeMap.{is_at};
 ghost use Rattle.review_table.specs.Edited.{row_with};
 ghost use Rattle.review_core_rules.specs.{Change.given_or, EditedRows.vote_for, Seen.value_of, Seen.vote_cmp};
 ghost use Rattle.review_core_rules.specs.declared.rows.VoteKey.{VoteKey};

@@ -1,9 +1,9 @@
 -- Edits that are noted beside a table.
 use Rattle.std.proofs.Common.{◌≡◌, List, [], ◌∷◌, ◌++◌, Option, Some, None, Bool, true, false, cond, map, refl, sym, ap, ◌∙◌, ⊎_elim, ◌||◌}
 use Rattle.std.proofs.lemmas.{Bool.cases_Bool, Cmp.tied_back, Cmp.tied_itself}
-use Rattle.std.specs.{BTreeMap.is_at, Cmp.IsTotalOrder, Cmp.Equal-is, List.AllByRecursion, List.Sorted.IsStrictlySortedBy}
-use Rattle.std.specs.{List.list_any, Map.lookup, Map.keys_of, Option.IsSome, Option.is_some, Ordering.is_eq}
-use Rattle.std.specs.declared.cmp.Ordering.{Ordering, TheVariants.Less}
+use Rattle.std.specs.{BTreeMap.is_at, Cmp.IsTotalOrder, Cmp.Equal-is, List.AllByRecursion, List.list_any}
+use Rattle.std.specs.{List.Sorted.IsStrictlySortedBy, Map.lookup, Map.keys_of, Option.IsSome, Option.is_some}
+use Rattle.std.specs.{Ordering.is_eq, declared.cmp.Ordering.Ordering, declared.cmp.Ordering.TheVariants.Less}
 use Rattle.review_table.specs.Rows.{row_in, row_edit_of, place_at, after_row_edit, NamesOnce}
 use Rattle.review_table.specs.{declared.table.RowEdit.RowEdit, inner.Words.as_edit}
 

@@ -1,7 +1,7 @@
 -- A table with edits beside it.
-use Rattle.std.specs.Prelude.{Option}
-use Rattle.std.specs.declared.cmp.Ordering.{Ordering}
-use Rattle.review_table.specs.{Rows.after_row_edit, Rows.place_at, Rows.row_in, Rows.rows_of, declared.edited.Edited.Edited}
+use Rattle.std.specs.{Prelude.Option, declared.cmp.Ordering.Ordering}
+use Rattle.review_table.specs.Rows.{after_row_edit, place_at, row_in, rows_of}
+use Rattle.review_table.specs.declared.edited.Edited.{Edited}
 
 -- the row that a key has once the edits are made
 abbrev pub row_with : {K X : Type 0} → (K → K → Ordering) → Edited K X → K → Option X

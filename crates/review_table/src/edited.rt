@@ -1,7 +1,8 @@
 //! A table with edits beside it that are noted and not made.
 ghost use Rattle.std.specs.{BTreeMap.is_at, List.list_any};
 ghost use Rattle.std.specs.Prelude.{◌≡◌, IfOk, IsSome, None, OnOk, map, true, option_copied, if◌then◌else◌};
-ghost use Rattle.review_table.specs.{Edited.row_with, Rows.NamesOnce, Rows.place_at, Rows.row_edit_of, Rows.row_in, Rows.rows_of};
+ghost use Rattle.review_table.specs.Edited.{row_with};
+ghost use Rattle.review_table.specs.Rows.{NamesOnce, place_at, row_edit_of, row_in, rows_of};
 
 use crate::table::{RowEdit, Table};
 use review_names::Key;

@@ -1,6 +1,7 @@
 use Rattle.std.proofs.Common.{◌≡◌, ap, ◌==◌, ◌&&◌, ◌||◌, ◌∙◌, false, not, None, Some}
 use Rattle.std.specs.{List.list_any, Prelude.if◌then◌else◌, Prelude.is_some}
-use Rattle.review_core_rules.specs.{Change.is_reviewer, Change.kept_or, Change.last_uploader, Seen.of_account, declared.rows.Why.TheVariants.Ready}
+use Rattle.review_core_rules.specs.Change.{is_reviewer, kept_or, last_uploader}
+use Rattle.review_core_rules.specs.{Seen.of_account, declared.rows.Why.TheVariants.Ready}
 use Rattle.review_core_tables.specs.declared.attention.Who.{Who}
 use Rattle.review_core.proofs.states.ready.Goals as goal
 

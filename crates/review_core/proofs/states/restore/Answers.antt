@@ -1,5 +1,4 @@
-use Rattle.std.proofs.Common.{◌≡◌, ◌==◌, ◌&&◌, ◌∙◌, not}
-use Rattle.std.proofs.lemmas.Result.{IfOk-weaker}
+use Rattle.std.proofs.{Common.◌≡◌, Common.◌==◌, Common.◌&&◌, Common.◌∙◌, Common.not, lemmas.Result.IfOk-weaker}
 use Rattle.review_words.specs.declared.{command.ChangeCommand.TheVariants.Restore, shown.State.TheVariants.New}
 use Rattle.review_core_rules.specs.Change.{after_plain, eligible, no_copying, settled}
 use Rattle.review_core_rules.specs.{Drafts.drafted, Seen.of_account, Seen.seen}

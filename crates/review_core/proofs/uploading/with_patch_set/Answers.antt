@@ -1,6 +1,6 @@
 use Rattle.std.proofs.Common.{◌≡◌, ℕ, List, refl, ◌==◌, ◌&&◌, ◌||◌, ◌+◌, ◌++◌, ◌∷◌, [], not, ◌∙◌, ap, sym, length, pos, None, map}
-use Rattle.std.specs.Cmp.Lexicographic.{pointwise}
-use Rattle.std.specs.{List.list_any, Prelude.if◌then◌else◌, Prelude.is_some, Prelude.find, Prelude.option_map}
+use Rattle.std.specs.{Cmp.Lexicographic.pointwise, List.list_any}
+use Rattle.std.specs.Prelude.{if◌then◌else◌, is_some, find, option_map}
 use Rattle.review_table.specs.{Edited.row_with, Rows.rows_of}
 use Rattle.review_expr_judging.specs.declared.facts.VoteFacts.{VoteFacts}
 use Rattle.review_core_rules.specs.Change.{last_uploader, last_paths, kept_or}

@@ -1,4 +1,5 @@
-use Rattle.std.{proofs.Common.◌≡◌, proofs.Common.◌++◌, proofs.Common.◌∷◌, proofs.Common.drop, proofs.Common.map, specs.List.filter, specs.Prelude.is_some}
+use Rattle.std.proofs.Common.{◌≡◌, ◌++◌, ◌∷◌, drop, map}
+use Rattle.std.specs.{List.filter, Prelude.is_some}
 use Rattle.review_core_rules.specs.EditedRows.{for_account}
 use Rattle.review_core_tables.proofs.attention.eligible_accounts.Given as goal
 

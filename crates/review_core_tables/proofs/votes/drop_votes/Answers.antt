@@ -1,5 +1,5 @@
-use Rattle.std.{proofs.Common.pos, proofs.lemmas.Result.IfOk-weaker, specs.Prelude.◌≡◌, specs.Prelude.ℕ, specs.Prelude.List}
-use Rattle.std.specs.{BTreeMap.is_at, List.list_any, Prelude.None, Prelude.if◌then◌else◌}
+use Rattle.std.{proofs.Common.pos, proofs.lemmas.Result.IfOk-weaker, specs.BTreeMap.is_at, specs.List.list_any}
+use Rattle.std.specs.Prelude.{◌≡◌, ℕ, List, None, if◌then◌else◌}
 use Rattle.review_table.specs.Edited.{row_with}
 use Rattle.review_core_rules.specs.{EditedRows.vote_for, Seen.vote_cmp, declared.rows.VoteKey.VoteKey}
 use Rattle.review_core_tables.proofs.VoteKeys.{vote_key, votes_dropped}

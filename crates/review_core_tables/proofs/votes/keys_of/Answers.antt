@@ -1,6 +1,5 @@
 use Rattle.std.proofs.Common.{◌≡◌, ◌∙◌, ◌++◌, ◌&&◌, ap, sym, map, append-nil, arith}
-use Rattle.std.proofs.lemmas.List.{at_drop_all}
-use Rattle.std.specs.{BTreeMap.is_at, List.filter, List.list_any}
+use Rattle.std.{proofs.lemmas.List.at_drop_all, specs.BTreeMap.is_at, specs.List.filter, specs.List.list_any}
 use Rattle.review_core_rules.specs.{Seen.vote_cmp, declared.rows.VoteKey.VoteKey}
 use Rattle.review_core_tables.proofs.VoteKeys.{any_kept, votes_tell}
 use Rattle.review_core_tables.specs.inner.Words.{is_of}
@@ -13,7 +12,7 @@ among c q =
     let items = c.deref-key-items.result.now in
     let kept = filter (is_of c.args.patch c.args.account) in
     let whole : keys ≡ kept (map (λ k. k.now) items) =
-        sym (append-nil keys) ∙ (sym (at_drop_all (λ xs. keys ++ kept (map (λ k. k.now) xs)) items c.loop-key.key-index (omega arith)) ∙ c.loop-key.invariant) in
+    sym (append-nil keys) ∙ (sym (at_drop_all (λ xs. keys ++ kept (map (λ k. k.now) xs)) items c.loop-key.key-index (omega arith)) ∙ c.loop-key.invariant) in
     ap (list_any (is_at (vote_cmp q))) (whole ∙ ap (λ xs. kept (map (λ k. k.now) xs)) c.deref-key-items.ensures.value) ∙ any_kept votes_tell (is_of c.args.patch c.args.account) q (map (λ k. k.now) c.in_ok-all.all.items)
 
 pub returns-clause-all : goal.returns-clause-all

@@ -9,5 +9,5 @@ returns g c = λ q some.
     let keys = map (λ k. k.now) c.loop-key-2.keys.items in
     let R = g.K.Ord.cmp in
     let all : keys ≡ keys_of (rows_of c.args.self.now.rows.now) ++ keys_of c.args.self.now.edits.entries =
-        sym (append-nil keys) ∙ (ap (λ t. keys ++ keys_of t) (sym c.in-None-2.ensures.steps.0) ∙ c.loop-key-2.invariant) in
+    sym (append-nil keys) ∙ (ap (λ t. keys ++ keys_of t) (sym c.in-None-2.ensures.steps.0) ∙ c.loop-key-2.invariant) in
     ap (list_any (is_at (R q))) all ∙ among R q (rows_of c.args.self.now.rows.now) c.args.self.now.edits.entries some
