@@ -1,10 +1,8 @@
 -- Look-ups of what is wanted end.
-use Rattle.std.proofs.Common.{◌≡◌, ℕ, zero, suc, ◌+◌, ◌-◌, ◌*◌, ◌<◌, ◌≤◌, Bool, true, false, List, [], ◌∷◌, length, Option, Some, None, IsSome, ◌⊎◌, inl, inr, refl, sym, ap, ◌∙◌, subst, arith}
+use Rattle.std.proofs.Common.{◌≡◌, ℕ, zero, suc, ◌+◌, ◌-◌, ◌*◌, ◌<◌, ◌≤◌, Bool, true, false, List, [], ◌∷◌, length, Option, Some, None, IsSome, ◌⊎◌, inl, inr, refl, sym, ap, ◌∙◌, subst, arith, ◌==◌, if◌then◌else◌, option_map}
 use Rattle.std.{proofs.lemmas.Bool.Decides.nat_tests, specs.Option.option_map_or}
-use Rattle.std.specs.Prelude.{◌==◌, if◌then◌else◌, option_map}
-use Rattle.review_chain.proofs.Before.{meaning, before_by_parent, lacks_stands}
 use Rattle.review_chain.proofs.Parting.{before_kept, parent_kept, none_some}
-use Rattle.review_chain.proofs.Walking.{Meets, IsTold, decided, goes_on, meets_wanted, wanted_meets, one_end}
+use Rattle.review_chain.proofs.Walking.{meaning, before_by_parent, lacks_stands, Meets, IsTold, decided, goes_on, meets_wanted, wanted_meets, one_end}
 use Rattle.review_chain.specs.Branches.{Branch, parent_standing}
 use Rattle.review_chain.specs.Parts.{Want, TheChange, TheCommit, IsWanted, IsPart, Knows, Lacks, NeedsChange}
 use Rattle.review_chain.specs.Steps.{Before, TheBase, Change, Bad, Wants, before, before_link, before_known, before_change, before_fault, before_parent, left, left_by, left_from}

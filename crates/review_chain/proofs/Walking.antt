@@ -1,17 +1,133 @@
--- Walks that grow at the front, and how they end.
-use Rattle.std.proofs.Common.{◌≡◌, ◌≢◌, ℕ, zero, suc, ◌+◌, ◌<◌, ◌≤◌, Bool, true, false, List, [], ◌∷◌, ◌++◌, length, Option, Some, None, not, refl, sym, ap, ◌∙◌, subst, arith}
-use Rattle.std.proofs.lemmas.Bool.{false≢true, Decides.nat_tests}
-use Rattle.std.specs.Prelude.{◌==◌, if◌then◌else◌, option_and_then}
+-- Walks from a change to the base, and how they end.
+use Rattle.std.proofs.Common.{◌≡◌, ℕ, ◌<◌, ◌≤◌, Bool, true, false, not, List, Option, Some, None, inl, inr, refl, sym, ap, ◌∙◌, subst, arith, eqb-true, eq-eqb, if◌then◌else◌, ◌==◌, option_and_then, option_map, ◌≢◌, zero, suc, ◌+◌, [], ◌∷◌, ◌++◌, length, ◌⊎◌, append_assoc, length-append, ⊎_elim, rules, All}
+use Rattle.std.proofs.lemmas.{Bool.false≢true, Bool.cases_Bool, Bool.Decides.nat_tests, List.Elements.All-cons}
+use Rattle.std.specs.List.{AllByRecursion, IsDistinct}
 use Rattle.review_words.specs.declared.shown.State.{State}
 use Rattle.review_words.specs.declared.shown.State.TheVariants.{New, Merged as MergedState, Abandoned as AbandonedState}
-use Rattle.review_chain.proofs.Before.{meaning, follows_stands, lacks_stands, bad_stands, base_stands}
-use Rattle.review_chain.specs.{Branches.Branch, Parts.Want, Parts.IsWanted, Parts.IsDecided}
-use Rattle.review_chain.specs.Steps.{Before, TheBase, Change, Bad, Wants, before, IsFault}
-use Rattle.review_chain.specs.Walks.{Follows, IsWalk, first_of, IsChain, IsBadLink, most_changes, link_fault, patch_set_fault, is_abandoned, is_merged}
+use Rattle.review_chain.specs.Branches.{Branch, parent_standing}
+use Rattle.review_chain.specs.Parts.{Want, TheChange, TheCommit, Lacks, NeedsChange, IsWanted, IsDecided}
+use Rattle.review_chain.specs.Places.{places, places_from}
+use Rattle.review_chain.specs.Steps.{Before, TheBase, Change, Bad, Wants, before, before_link, before_parent, before_known, before_change, before_fault, IsFault}
+use Rattle.review_chain.specs.Walks.{Follows, is_abandoned, is_merged, patch_set_fault, link_fault, most_changes, IsWalk, first_of, IsChain, IsBadLink, IsReady}
 use Rattle.review_chain.specs.declared.links.{Link.Link, Standing.Standing}
 use Rattle.review_chain.specs.declared.links.Standing.TheVariants.{InBranch, PatchSet, Nowhere}
 use Rattle.review_chain.specs.declared.walks.ChainFault.{ChainFault}
-use Rattle.review_chain.specs.declared.walks.ChainFault.TheVariants.{Memory, Unknown, TooLong, Outdated, Abandoned, Wip, Broken}
+use Rattle.review_chain.specs.declared.walks.ChainFault.TheVariants.{TooLong, Outdated, Abandoned, Wip, Broken, Memory, Unknown}
+
+-- ==== what stands before a change, by cases
+
+-- what it says of a walk of n changes from c that this stands before it
+abbrev pub Means : Branch → ℕ → ℕ → Before → Type 0
+Means b n c TheBase = parent_standing b c ≡ Some InBranch
+Means b n c (Change d) = ((n == most_changes) ≡ false) × Follows b d c
+Means b n c (Bad fault) = (s : Standing) × (parent_standing b c ≡ Some s) × (link_fault b n s ≡ Some fault)
+Means b n c (Wants want) = n ≤ most_changes → Lacks b n c want
+
+-- ---- from the function to its meaning
+
+below_full : (n : ℕ) → n ≤ 100 → (n == 100) ≡ false → n < 100
+below_full n short e = grind (arith, nat_tests)
+
+fine_parts : (same wip : Bool) (s : State) → (if not same then Some Outdated else if is_abandoned s then Some Abandoned else if wip then Some Wip else if is_merged s then Some Broken else None) ≡ None → (same ≡ true) × (s ≡ New) × (wip ≡ false)
+fine_parts true false New e = (refl, refl, refl)
+fine_parts true true New e = absurd (let f : Some Wip ≡ None = e in cc)
+fine_parts true true MergedState e = absurd (let f : Some Wip ≡ None = e in cc)
+fine_parts true false MergedState e = absurd (let f : Some Broken ≡ None = e in cc)
+fine_parts true wip AbandonedState e = absurd (let f : Some Abandoned ≡ None = e in cc)
+fine_parts false wip s e = absurd (let f : Some Outdated ≡ None = e in cc)
+
+by_fault : (b : Branch) (n c d k : ℕ) (l : Link) (fault : Option ChainFault) → (n == most_changes) ≡ false → parent_standing b c ≡ Some (PatchSet d k) → b.link d ≡ Some l → patch_set_fault k l ≡ fault → Means b n c (before_fault d fault)
+by_fault b n c d k l (Some fault) full p there e =
+    (PatchSet d k, p, rw (full, there) e)
+by_fault b n c d k l None full p there e =
+    let parts = fine_parts (k == l.patch) l.wip l.state e in
+    (full, record { patch = k; parent = p; link = l; there = there; current = eqb-true k l.patch parts.0; is_open = parts.1; is_ready = parts.2 })
+
+by_change : (b : Branch) (n c d k : ℕ) (o : Option Link) → (n == most_changes) ≡ false → parent_standing b c ≡ Some (PatchSet d k) → b.link d ≡ o → Means b n c (before_change d k o)
+by_change b n c d k None full p there = λ short. (there, inr (below_full n short full, k, p))
+by_change b n c d k (Some l) full p there = by_fault b n c d k l (patch_set_fault k l) full p there refl
+
+by_full : (b : Branch) (n c d k : ℕ) (full : Bool) → (n == most_changes) ≡ full → parent_standing b c ≡ Some (PatchSet d k) → Means b n c (if full then Bad TooLong else before_change d k (b.link d))
+by_full b n c d k true e p = (PatchSet d k, p, rw e refl)
+by_full b n c d k false e p = by_change b n c d k (b.link d) e p refl
+
+by_known : (b : Branch) (n c : ℕ) (s : Standing) → parent_standing b c ≡ Some s → Means b n c (before_known b n s)
+by_known b n c InBranch p = p
+by_known b n c Nowhere p = (Nowhere, p, refl)
+by_known b n c (PatchSet d k) p = by_full b n c d k (n == most_changes) refl p
+
+by_parent : (b : Branch) (n c : ℕ) (l : Link) (o : Option Standing) → b.link c ≡ Some l → b.standing l.parent ≡ o → Means b n c (before_parent b n l.parent o)
+by_parent b n c l None there e = λ short. (e, rw there refl)
+by_parent b n c l (Some s) there e = by_known b n c s (rw there e)
+
+by_link : (b : Branch) (n c : ℕ) (o : Option Link) → b.link c ≡ o → Means b n c (before_link b n c o)
+by_link b n c None e = λ short. (e, inl refl)
+by_link b n c (Some l) e = by_parent b n c l (b.standing l.parent) e refl
+
+pub meaning : (b : Branch) (n c : ℕ) (v : Before) → before b n c ≡ v → Means b n c v
+meaning b n c v e = subst (Means b n c) e (by_link b n c (b.link c) refl)
+
+-- ---- from the meaning to the function
+
+-- the link of a change whose parent is known to be such a commit
+link_of : (b : Branch) (s : Standing) (o : Option Link) → option_and_then (λ l. b.standing l.parent) o ≡ Some s → (l : Link) × (o ≡ Some l) × (b.standing l.parent ≡ Some s)
+link_of b s None e = absurd (let f : None ≡ Some s = e in cc)
+link_of b s (Some l) e = (l, refl, e)
+
+pub before_by_parent : (b : Branch) (n c : ℕ) (s : Standing) → parent_standing b c ≡ Some s → before b n c ≡ before_known b n s
+before_by_parent b n c s p =
+    let l = link_of b s (b.link c) p in
+    ap (before_link b n c) l.1 ∙ ap (before_parent b n l.0.parent) l.2
+
+pub follows_stands : (b : Branch) (n d c : ℕ) → (n == most_changes) ≡ false → Follows b d c → before b n c ≡ Change d
+follows_stands b n d c full f =
+    before_by_parent b n c (PatchSet d f.patch) f.parent
+    ∙ (ap (λ t. if t then Bad TooLong else before_change d f.patch (b.link d)) full
+    ∙ (ap (before_change d f.patch) f.there ∙ ap (before_fault d) fine))
+  where
+    fine_of : (same wip : Bool) (s : State) → same ≡ true → s ≡ New → wip ≡ false → (if not same then Some Outdated else if is_abandoned s then Some Abandoned else if wip then Some Wip else if is_merged s then Some Broken else None) ≡ None
+    fine_of same wip s e o r = rw (e, o, r) refl
+
+    fine : patch_set_fault f.patch f.link ≡ None
+    fine = fine_of (f.patch == f.link.patch) f.link.wip f.link.state (eq-eqb f.patch f.link.patch f.current) f.is_open f.is_ready
+
+parent_of : (b : Branch) (x : List ℕ) (o : Option Link) → option_map (λ l. l.parent) o ≡ Some x → (l : Link) × (o ≡ Some l) × (l.parent ≡ x)
+parent_of b x None e = absurd (let f : None ≡ Some x = e in cc)
+parent_of b x (Some l) e = (l, refl, let f : Some l.parent ≡ Some x = e in cc)
+
+pub lacks_stands : (b : Branch) (n c : ℕ) (want : Want) → Lacks b n c want → before b n c ≡ Wants want
+lacks_stands b n c (TheCommit x) h =
+    let l = parent_of b x (b.link c) h.1 in
+    ap (before_link b n c) l.1 ∙ (ap (λ p. before_parent b n p (b.standing p)) l.2 ∙ ap (before_parent b n x) h.0)
+lacks_stands b n c (TheChange d) h = by_need h.1
+  where
+    by_need : NeedsChange b n c d → before b n c ≡ Wants (TheChange d)
+    by_need (inl same) = ap (before_link b n c) (ap b.link (sym same) ∙ h.0) ∙ ap (λ (x : ℕ). Wants (TheChange x)) (sym same)
+    by_need (inr (more, k, p)) =
+        before_by_parent b n c (PatchSet d k) p
+        ∙ (ap (λ t. if t then Bad TooLong else before_change d k (b.link d)) (let f : (n == 100) ≡ false = grind (arith, nat_tests) in f)
+        ∙ ap (before_change d k) h.0)
+
+bad_known : (b : Branch) (n : ℕ) (s : Standing) (fault : ChainFault) → link_fault b n s ≡ Some fault → before_known b n s ≡ Bad fault
+bad_known b n InBranch fault e = absurd (let f : None ≡ Some fault = e in cc)
+bad_known b n Nowhere fault e = let f : Some Broken ≡ Some fault = e in cc
+bad_known b n (PatchSet d k) fault e = by_tests (n == most_changes) (b.link d) e
+  where
+    by_patch : (o : Option ChainFault) → o ≡ Some fault → before_fault d o ≡ Bad fault
+    by_patch o e = rw e refl
+
+    by_tests : (full : Bool) (o : Option Link) → (if full then Some TooLong else option_and_then (patch_set_fault k) o) ≡ Some fault → (if full then Bad TooLong else before_change d k o) ≡ Bad fault
+    by_tests true o e = let f : Some TooLong ≡ Some fault = e in cc
+    by_tests false None e = absurd (let f : None ≡ Some fault = e in cc)
+    by_tests false (Some l) e = by_patch (patch_set_fault k l) e
+
+pub bad_stands : (b : Branch) (n c : ℕ) (s : Standing) (fault : ChainFault) → parent_standing b c ≡ Some s → link_fault b n s ≡ Some fault → before b n c ≡ Bad fault
+bad_stands b n c s fault p e = before_by_parent b n c s p ∙ bad_known b n s fault e
+
+pub base_stands : (b : Branch) (n c : ℕ) → parent_standing b c ≡ Some InBranch → before b n c ≡ TheBase
+base_stands b n c p = before_by_parent b n c InBranch p
+
+-- ==== walks that grow at the front, and how they end
 
 pub IsWalk-more : (b : Branch) (walk : List ℕ) (d c : ℕ) → IsWalk b walk c → Follows b d (first_of walk) → IsWalk b (d ∷ walk) c
 IsWalk-more b [] d c h f = absurd h
@@ -226,3 +342,79 @@ told_end (Wants want) t = absurd t
 pub decided : (b : Branch) (walk : List ℕ) (c : ℕ) (v : Before) → Meets b walk c v → IsTold v → IsDecided b c
 decided b walk c v h told = λ other want w.
     subst IsTold (one_end b walk other c v (Wants want) h (told_end v told) (wanted_meets b other c want w) tt) told
+
+-- ==== fronts of chains
+
+front_walks : (b : Branch) (xs : List ℕ) (d : ℕ) (ys : List ℕ) (c : ℕ) → IsWalk b (xs ++ d ∷ ys) c → IsWalk b (xs ++ d ∷ []) d
+front_walks b [] d ys c h = refl
+front_walks b (x ∷ []) d [] c h = (h.0, refl)
+front_walks b (x ∷ []) d (y ∷ ys) c h = (h.0, refl)
+front_walks b (x ∷ y ∷ xs) d ys c h = (h.0, front_walks b (y ∷ xs) d ys c h.1)
+
+first_same : (xs : List ℕ) (d : ℕ) (ys : List ℕ) → first_of (xs ++ d ∷ ys) ≡ first_of (xs ++ d ∷ [])
+first_same [] d ys = refl
+first_same (x ∷ xs) d ys = refl
+
+front_length : (xs : List ℕ) (d : ℕ) (ys : List ℕ) → length (xs ++ d ∷ []) ≤ length (xs ++ d ∷ ys)
+front_length xs d ys = omega (arith, length-append xs (d ∷ []), length-append xs (d ∷ ys))
+
+pub front_is_chain : (b : Branch) (xs ys : List ℕ) (d c : ℕ) → IsChain b (xs ++ d ∷ ys) c → IsChain b (xs ++ d ∷ []) d
+front_is_chain b xs ys d c h =
+    let short : length (xs ++ d ∷ ys) ≤ 100 = h.short in
+    record { walks = front_walks b xs d ys c h.walks; short = omega (arith, front_length xs d ys); based = rw (← first_same xs d ys) h.based }
+
+-- a change doesn't stand again later in its chain
+never_twice : (b : Branch) (xs mid ys : List ℕ) (d e c : ℕ) → IsChain b ((xs ++ d ∷ mid) ++ e ∷ ys) c → d ≡ e → ⊥
+never_twice b xs mid ys d e c h same =
+    let far : IsChain b ((xs ++ d ∷ mid) ++ e ∷ []) e = front_is_chain b (xs ++ d ∷ mid) ys e c h in
+    let again : IsChain b (xs ++ d ∷ (mid ++ e ∷ ys)) c = subst (λ (w : List ℕ). IsChain b w c) (append_assoc xs (d ∷ mid) (e ∷ ys)) h in
+    let near : IsChain b (xs ++ d ∷ []) d = front_is_chain b xs (mid ++ e ∷ ys) d c again in
+    let near_e : IsChain b (xs ++ d ∷ []) e = subst (λ (x : ℕ). IsChain b (xs ++ d ∷ []) x) same near in
+    let alike : xs ++ d ∷ [] ≡ (xs ++ d ∷ mid) ++ e ∷ [] = one_walk b (xs ++ d ∷ []) ((xs ++ d ∷ mid) ++ e ∷ []) e TheBase TheBase (chain_meets b (xs ++ d ∷ []) e near_e) tt (chain_meets b ((xs ++ d ∷ mid) ++ e ∷ []) e far) tt in
+    let lengths : length (xs ++ d ∷ []) ≡ length ((xs ++ d ∷ mid) ++ e ∷ []) = ap length alike in
+    omega (arith, length-append xs (d ∷ []), length-append (xs ++ d ∷ mid) (e ∷ []), length-append xs (d ∷ mid))
+
+all_others : (b : Branch) (xs mid ys : List ℕ) (d c : ℕ) → IsChain b ((xs ++ d ∷ mid) ++ ys) c → AllByRecursion (λ y. (d == y) ≡ false) ys
+all_others b xs mid [] d c h = tt
+all_others b xs mid (e ∷ ys) d c h =
+    let other : (d == e) ≡ false = ⊎_elim (λ (t : (d == e) ≡ true). absurd (never_twice b xs mid ys d e c h (eqb-true d e t))) (λ (f : (d == e) ≡ false). f) (cases_Bool (d == e)) in
+    let moved : (xs ++ d ∷ mid) ++ e ∷ ys ≡ (xs ++ d ∷ (mid ++ e ∷ [])) ++ ys = simp append_assoc in
+    (other, all_others b xs (mid ++ e ∷ []) ys d c (subst (λ (w : List ℕ). IsChain b w c) moved h))
+
+distinct_from : (b : Branch) (xs ys : List ℕ) (c : ℕ) → IsChain b (xs ++ ys) c → IsDistinct ◌==◌ ys
+unfolding IsDistinct
+distinct_from b xs [] c h = tt
+distinct_from b xs (d ∷ ys) c h =
+    let moved : xs ++ d ∷ ys ≡ (xs ++ d ∷ []) ++ ys = simp append_assoc in
+    let there : IsChain b ((xs ++ d ∷ []) ++ ys) c = subst (λ (w : List ℕ). IsChain b w c) moved h in
+    (all_others b xs [] ys d c there, distinct_from b (xs ++ d ∷ []) ys c there)
+
+pub chain_distinct : (b : Branch) (walk : List ℕ) (c : ℕ) → IsChain b walk c → IsDistinct ◌==◌ walk
+chain_distinct b walk c h = distinct_from b [] walk c h
+
+-- it is the change of the chain, or ready to join before it
+abbrev IsLastOrReady : Branch → ℕ → ℕ → Type 0
+IsLastOrReady b c d = (d ≡ c) ⊎ IsReady b d
+
+All-none : (P : ℕ → Type 0) → All P []
+All-none P = search rules
+
+ready_walk : (b : Branch) (walk : List ℕ) (c : ℕ) → IsWalk b walk c → All (λ d. (d ≡ c) ⊎ IsReady b d) walk
+ready_walk b [] c h = absurd h
+ready_walk b (d ∷ []) c h = All-cons (IsLastOrReady b c) d [] (inl h) (All-none (IsLastOrReady b c))
+ready_walk b (d ∷ e ∷ rest) c h =
+    let f = h.0 in
+    All-cons (IsLastOrReady b c) d (e ∷ rest) (inr (record { link = f.link; there = f.there; is_open = f.is_open; is_ready = f.is_ready })) (ready_walk b (e ∷ rest) c h.1)
+
+pub chain_ready : (b : Branch) (walk : List ℕ) (c : ℕ) → IsChain b walk c → All (λ d. (d ≡ c) ⊎ IsReady b d) walk
+chain_ready b walk c h = ready_walk b walk c h.walks
+
+-- ==== places of one list of changes after another
+
+places_from-append : (n : ℕ) (xs ys : List ℕ) → places_from n (xs ++ ys) ≡ places_from n xs ++ places_from (n + length xs) ys
+places_from-append n [] ys = ap (λ (m : ℕ). places_from m ys) (let e : n ≡ n + 0 = omega arith in e)
+places_from-append n (x ∷ xs) ys =
+    ap (λ (rest : List (ℕ × ℕ)). (x, n) ∷ rest) (places_from-append (n + 1) xs ys ∙ ap (λ (m : ℕ). places_from (n + 1) xs ++ places_from m ys) (let e : n + 1 + length xs ≡ n + length (x ∷ xs) = omega arith in e))
+
+pub places_append : (joined chain : List ℕ) → places (joined ++ chain) ≡ places joined ++ places_from (length joined + 1) chain
+places_append joined chain = places_from-append 1 joined chain ∙ ap (λ (m : ℕ). places joined ++ places_from m chain) (let e : 1 + length joined ≡ length joined + 1 = omega arith in e)

@@ -1,16 +1,54 @@
--- Rows that fit together, by tests of them one by one.
-use Rattle.std.proofs.Common.{◌≡◌, ℕ, ℤ, List, Option, Some, None, Bool, true, false, not, ◌&&◌, ◌||◌, refl, sym, ap, ◌∙◌, eq-eqb, eqb-true, length, nat_le}
-use Rattle.std.{proofs.lemmas.Bool.and_parts, proofs.lemmas.Bool.and_from, specs.List.list_all}
-use Rattle.std.specs.{List.Sorted.IsStrictlySortedBy, Map.keys_of, Ordering.nat_cmp, Prelude.◌==◌, Prelude.is_some}
+-- Rows that fit together.
+use Rattle.std.proofs.Common.{◌≡◌, List, [], ◌∷◌, Option, Some, None, Bool, true, false, refl, sym, ap, ◌∙◌, unwrap_or, if◌then◌else◌, ℕ, ℤ, not, ◌&&◌, ◌||◌, eq-eqb, eqb-true, length, nat_le, nat_cmp, ◌==◌, is_some, ◌+◌, pos, arith, int_eq}
+use Rattle.std.proofs.lemmas.Bool.{and_parts, and_from, false_from_ne_true, Decides.Decides-int_eq}
+use Rattle.std.specs.{BTreeMap.is_at, List.list_all, List.Sorted.IsStrictlySortedBy, Map.keys_of}
+use Rattle.std.specs.declared.cmp.Ordering.{Ordering}
 use Rattle.review_names.specs.Forms.{is_within, most_comments, most_patches}
 use Rattle.review_table.specs.Rows.{row_in, rows_of}
-use Rattle.review_core_rules.specs.Change.{current, uploader}
+use Rattle.review_core_rules.proofs.Stays.{within_parts}
+use Rattle.review_core_rules.specs.Change.{current, uploader, Change}
 use Rattle.review_core_rules.specs.Seen.{of_account, seen, value_of, vote_cmp, vote_in}
 use Rattle.review_core_rules.specs.{Sound.IsSound, Sound.are_in_order, Votes.voted}
 use Rattle.review_core_rules.specs.declared.rows.{AttentionEntry.AttentionEntry, ChangeRows.ChangeRows, VoteKey.VoteKey}
-use Rattle.review_core_tables.proofs.{Accounts.accounts_tell, VoteKeys.vote_key, VoteKeys.votes_tell}
-use Rattle.review_core.proofs.Everywhere.{all_at, all_from}
+use Rattle.review_core_tables.proofs.Accounts.{accounts_tell}
+use Rattle.review_core_tables.proofs.Copied.{Tells, none_after, vote_key, votes_tell}
 use Rattle.review_core.specs.Tests.{are_counted, is_called_in_place, is_in_place}
+
+-- ==== a test of all rows, and of the row at a key
+
+at_step : {K X : Type 0} (p : K × X → Bool) (b : Bool) (e : K × X) (q : K) (x : X) (rest : Option X) → (b ≡ true → q ≡ e.0) → p e ≡ true → (rest ≡ Some x → p (q, x) ≡ true) → (if b then Some e.1 else rest) ≡ Some x → p (q, x) ≡ true
+at_step p true e q x rest same here more h =
+    let v : e.1 ≡ x = ap (λ o. unwrap_or o e.1) h in
+    let k = same refl in
+    let along : p (q, x) ≡ p (e.0, e.1) = λ i. p (k i, sym v i) in
+    along ∙ here
+at_step p false e q x rest same here more h = more h
+
+-- what holds of all rows holds of the row at a key
+pub all_at : {K X : Type 0} {R : K → K → Ordering} → Tells R → (p : K × X → Bool) (rows : List (K × X)) → list_all p rows ≡ true → (q : K) (x : X) → row_in R rows q ≡ Some x → p (q, x) ≡ true
+all_at t p [] all q x h = absurd (let e : None ≡ Some x = h in cc)
+all_at {R = R} t p (e ∷ es) all q x h =
+    let a = and_parts (p e) (list_all p es) all in
+    at_step p (is_at (R q) e.0) e q x (row_in R es q) (t.same q e.0) a.0 (all_at t p es a.1 q x) h
+
+here_step : {X : Type 0} (b : Bool) (x : X) (rest : Option X) → b ≡ true → (if b then Some x else rest) ≡ Some x
+here_step true x rest h = refl
+here_step false x rest h = absurd (let e : false ≡ true = h in cc)
+
+later_step : {X : Type 0} (b : Bool) (y x : X) (rest : Option X) → (b ≡ true → rest ≡ None) → rest ≡ Some x → (if b then Some y else rest) ≡ Some x
+later_step true y x rest none h = absurd (let e : None ≡ Some x = sym (none refl) ∙ h in cc)
+later_step false y x rest none h = h
+
+-- what holds of the row at each key holds of all rows
+pub all_from : {K X : Type 0} {R : K → K → Ordering} → Tells R → (p : K × X → Bool) (rows : List (K × X)) → IsStrictlySortedBy R (keys_of rows) → ((q : K) (x : X) → row_in R rows q ≡ Some x → p (q, x) ≡ true) → list_all p rows ≡ true
+unfolding IsStrictlySortedBy
+all_from t p [] s f = refl
+all_from {R = R} t p (e ∷ es) s f =
+    and_from (p e) (list_all p es)
+    (f e.0 e.1 (here_step (is_at (R e.0) e.0) e.1 (row_in R es e.0) (t.self e.0)))
+    (all_from t p es s.1 (λ q x h. f q x (later_step (is_at (R q) e.0) e.1 x (row_in R es q) (λ y. none_after R e.0 q (t.same q e.0 y) es s.0) h)))
+
+-- ==== rows that fit together, by tests of them one by one
 
 voted_row : (o : Option ℤ) → voted (value_of o) ≡ true → (v : ℤ) × (o ≡ Some v) × (voted v ≡ true)
 voted_row None h = absurd (let e : false ≡ true = h in cc)
@@ -86,3 +124,19 @@ passing rows votes_sorted called_sorted s =
     (and_from (list_all (place_test rows) (rows_of rows.votes)) (list_all (call_test rows) (rows_of rows.attention))
     (all_from votes_tell (place_test rows) (rows_of rows.votes) votes_sorted (place_passes rows s))
     (all_from accounts_tell (call_test rows) (rows_of rows.attention) called_sorted (call_passes rows s))))
+
+-- ==== what the definitions say of rows that are made
+
+zero_of : (v : ℤ) → voted v ≡ false → v ≡ pos 0
+zero_of v e = (Decides-int_eq v (pos 0)).0 (untrue (int_eq v (pos 0)) e)
+  where
+    untrue : (b : Bool) → not b ≡ false → b ≡ true
+    untrue true e = refl
+    untrue false e = absurd (let f : true ≡ false = e in cc)
+
+-- the next patch set has no votes yet
+pub next_free : (c : Change) → IsSound c → (l : List ℕ) (a : ℕ) → c.vote (current c + 1) l a ≡ pos 0
+next_free c s l a =
+    zero_of (c.vote (current c + 1) l a) (false_from_ne_true (voted (c.vote (current c + 1) l a)) (λ yes.
+    let p = within_parts (current c) (current c + 1) (s.on_patches (current c + 1) l a yes) in
+    absurd (omega (arith, p.1))))

@@ -1,3 +1,1 @@
-mod Everywhere
 mod Fitting
-mod Kept

@@ -1,20 +1,21 @@
 //! A new change.
 ghost use Rattle.std.specs.Prelude.{◌≡◌, IfOk};
-ghost use Rattle.review_core_rules.specs.{Change.begun, Seen.seen};
+ghost use Rattle.review_core_rules.specs.{Change.begun, EditedChanges.IsBare, Seen.seen};
 
 use review_core_rules::{ChangeRows, Header, PatchRow};
 use review_table::Table;
 use review_words::{AccountNo, ChangeKind, NewChange, State};
 use std::alloc::{AllocError, Global};
 
-/// The rows of a new change.
+/// The rows of the change that a request makes: its first patch set alone, whose uploader is the request's caller, as the owner is. An error is want of memory.
 pub fn begun(
     alloc: Global,
     new: NewChange,
     caller: AccountNo,
     request: u64,
 ) -> Result<ChangeRows, AllocError>
-    ensures { IfOk result (λ rows. seen rows ≡ begun new caller request) }
+    ensures change { IfOk result (λ rows. seen rows ≡ begun new caller request) }
+    ensures bare { IfOk result IsBare }
 {
     let NewChange {
         project,

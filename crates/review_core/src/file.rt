@@ -1,27 +1,28 @@
 //! A change whose rows fit together, and what each request makes of it.
 ghost use Rattle.std.specs.Prelude.{◌≡◌, ◌↔◌, true, IfOk, MatchResult};
 ghost use Rattle.review_words.specs.declared.command.ChangeCommand.TheVariants.{Upload, Review as ReviewOf, AddReviewer, RemoveReviewer, SetWip, SetReady, Abandon, Restore, AddAttention, RemoveAttention};
-ghost use Rattle.review_core_rules.specs.Change.{after, after_plain, begun, carried, copying, eligible, is_lost, joined_at};
-ghost use Rattle.review_core_rules.specs.{Seen.seen, Sound.IsSound, Sound.fits, Threads.threads, Votes.voted};
+ghost use Rattle.review_core_rules.specs.Change.{after, after_plain, carried, copying, eligible, is_lost, joined_at};
+ghost use Rattle.review_core_rules.specs.{EditedChanges.Makes, Seen.seen, Sound.IsSound, Sound.fits, Threads.threads};
+ghost use Rattle.review_core_rules.specs.Votes.{voted};
 ghost use Rattle.review_core_tables.specs.Copies.{AreMany, group_list};
 ghost use Rattle.review_core_standing.specs.Grouped.{IsStatus};
 ghost use Rattle.review_core.specs.Faults.{IsRefused};
 
 use crate::sound::{are_all, are_counted, are_eligible, are_in_order, are_in_place};
 use crate::uploading::{self, Copied};
-use crate::{attending, beginning, reviewing, roles, states};
-use review_core_rules::{ChangeRows, begins_sound, joins_sound, stays_sound};
+use crate::{attending, reviewing, roles, states};
+use review_core_rules::{ChangeRows, EditedChange, joins_sound, stays_sound};
 use review_core_standing::last_uploader;
 use review_core_tables::GroupTables;
 use review_file::{ProjectFile, Requirement};
-use review_words::{AccountNo, Listed, NewChange, NewPatch, Reason, Review, Role, Status, Thread};
+use review_words::{AccountNo, Listed, NewPatch, Reason, Review, Role, Status, Thread};
 use std::alloc::{AllocError, Global};
 
 /// The rows of one change, which fit together.
 #[derive(Drop)]
-pub struct ChangeFile {
-    rows: ChangeRows,
-    ghost sound: { IsSound (seen rows) },
+pub struct ChangeFile<'r> {
+    rows: &'r ChangeRows,
+    ghost sound: { IsSound (seen rows.now) },
 }
 
 /// Why rows make no change.
@@ -44,58 +45,37 @@ impl From<AllocError> for RowsFault {
     }
 }
 
-impl ChangeFile {
-    /// The change that a request makes, with its first patch set; its caller is the owner.
-    pub fn begin(
-        alloc: Global,
-        new: NewChange,
-        caller: AccountNo,
-        request: u64,
-    ) -> Result<ChangeFile, AllocError>
-        ensures { IfOk result (λ file. seen file.rows ≡ begun new caller request) }
-    {
-        begins_sound();
-        let rows = beginning::begun(alloc, new, caller, request)?;
-        Ok(ChangeFile { rows })
-    }
-
+impl<'r> ChangeFile<'r> {
     /// The change of stored rows. Broken exactly where they don't fit together; Memory where there was no memory to find out.
-    pub fn from_rows(alloc: Global, rows: ChangeRows) -> Result<ChangeFile, RowsFault>
-        ensures { MatchResult result (λ file. file.rows ≡ rows) (IsRefused rows) }
+    pub fn from_rows(alloc: Global, rows: &'r ChangeRows) -> Result<ChangeFile<'r>, RowsFault>
+        ensures { MatchResult result (λ file. file.rows ≡ rows.entry) (IsRefused rows.now) }
     {
-        if !fit_together(alloc, &rows)? {
+        if !fit_together(alloc, rows)? {
             return Err(RowsFault::Broken);
         }
         Ok(ChangeFile { rows })
     }
 
     /// The rows.
-    pub fn rows(&self) -> &ChangeRows
-        ensures same { result.now ≡ self.now.rows }
+    pub fn rows(&self) -> &'r ChangeRows
+        ensures same { result ≡ self.now.rows }
         ensures sound { IsSound (seen result.now) }
-    {
-        &self.rows
-    }
-
-    /// The rows, given up.
-    pub fn into_rows(self) -> ChangeRows
-        ensures { result ≡ self.rows }
     {
         self.rows
     }
 
     /// Whether an account is the owner, the current uploader, or has a role. This takes no memory.
     pub fn eligible(&self, account: AccountNo) -> bool
-        ensures { result ≡ eligible (seen self.now.rows) account }
+        ensures { result ≡ eligible (seen self.now.rows.now) account }
     {
-        let rows = &self.rows;
+        let rows = self.rows;
         let uploader = last_uploader(rows.header.owner, &rows.patches);
         review_core_tables::is_eligible(rows.header.owner, uploader, &rows.roles, account)
     }
 
     /// The threads of its comments, by their first comments, each with its comments in order. An error is want of memory.
     pub fn threads(&self, alloc: Global) -> Result<Listed<Thread>, AllocError>
-        ensures { IfOk result (λ v. v ≡ threads (seen self.now.rows).comments) }
+        ensures { IfOk result (λ v. v ≡ threads (seen self.now.rows.now).comments) }
     {
         let threads = review_core_standing::threads(alloc, &self.rows.comments)?;
         Ok(threads)
@@ -110,161 +90,182 @@ impl ChangeFile {
         groups: &GroupTables,
         requirement: &Requirement,
     ) -> Result<Status, AllocError>
-        ensures { IfOk result (IsStatus (record { file = file.now; groups = group_list groups.now }) (seen self.now.rows) requirement.now) }
+        ensures { IfOk result (IsStatus (record { file = file.now; groups = group_list groups.now }) (seen self.now.rows.now) requirement.now) }
     {
-        review_core_standing::status(alloc, &self.rows, file, groups, requirement)
+        review_core_standing::status(alloc, self.rows, file, groups, requirement)
     }
 
     /// A new patch set, with the numbers of votes that were copied to it and that weren't. The file and the groups are those
     /// before the request.
     pub fn with_patch_set(
-        self,
+        &self,
         alloc: Global,
         patch: NewPatch,
         caller: AccountNo,
         file: &ProjectFile,
         groups: &GroupTables,
         request: u64,
-    ) -> Result<(ChangeFile, Copied), AllocError>
-        requires { fits (Upload patch) (seen self.rows) ≡ true }
-        ensures change { IfOk result (λ r. seen r.0.rows ≡ after (record { file = file.now; groups = group_list groups.now }) (Upload patch) caller request (seen self.rows)) }
-        ensures copied { IfOk result (λ r. AreMany (λ l u. voted (carried (copying (record { file = file.now; groups = group_list groups.now }) (Upload patch) caller (seen self.rows)) (seen self.rows) l u)) r.1.copied) }
-        ensures outdated { IfOk result (λ r. AreMany (λ l u. is_lost (copying (record { file = file.now; groups = group_list groups.now }) (Upload patch) caller (seen self.rows)) (seen self.rows) u l) r.1.outdated) }
+    ) -> Result<(EditedChange<'r>, Copied), AllocError>
+        requires { fits (Upload patch) (seen self.now.rows.now) ≡ true }
+        ensures change { IfOk result (λ r. Makes self.now.rows.now (after (record { file = file.now; groups = group_list groups.now }) (Upload patch) caller request (seen self.now.rows.now)) r.0) }
+        ensures copied { IfOk result (λ r. AreMany (λ l u. voted (carried (copying (record { file = file.now; groups = group_list groups.now }) (Upload patch) caller (seen self.now.rows.now)) (seen self.now.rows.now) l u)) r.1.copied) }
+        ensures outdated { IfOk result (λ r. AreMany (λ l u. is_lost (copying (record { file = file.now; groups = group_list groups.now }) (Upload patch) caller (seen self.now.rows.now)) (seen self.now.rows.now) u l) r.1.outdated) }
     {
         stays_sound();
-        let (rows, counts) = uploading::with_patch_set(
+        let (edited, counts) = uploading::with_patch_set(
             alloc, self.rows, patch, caller, file, groups, request,
         )?;
-        Ok((ChangeFile { rows }, counts))
+        Ok((edited, counts))
     }
 
     /// A review: votes, a message, comments.
     pub fn with_review(
-        self,
+        &self,
         alloc: Global,
         review: &Review,
         caller: AccountNo,
         request: u64,
-    ) -> Result<ChangeFile, AllocError>
-        requires { fits (ReviewOf review.now) (seen self.rows) ≡ true }
-        ensures { IfOk result (λ new. seen new.rows ≡ after_plain (ReviewOf review.now) caller request (seen self.rows)) }
+    ) -> Result<EditedChange<'r>, AllocError>
+        requires { fits (ReviewOf review.now) (seen self.now.rows.now) ≡ true }
+        ensures { IfOk result (Makes self.now.rows.now (after_plain (ReviewOf review.now) caller request (seen self.now.rows.now))) }
     {
         stays_sound();
-        let rows = reviewing::with_review(alloc, self.rows, review, caller, request)?;
-        Ok(ChangeFile { rows })
+        let edited = reviewing::with_review(alloc, self.rows, review, caller, request)?;
+        Ok(edited)
     }
 
     /// A role for an account.
     pub fn with_reviewer(
-        self,
+        &self,
         alloc: Global,
         account: AccountNo,
         role: Role,
         caller: AccountNo,
         request: u64,
-    ) -> Result<ChangeFile, AllocError>
-        ensures { IfOk result (λ new. seen new.rows ≡ after_plain (AddReviewer account role) caller request (seen self.rows)) }
+    ) -> Result<EditedChange<'r>, AllocError>
+        ensures { IfOk result (Makes self.now.rows.now (after_plain (AddReviewer account role) caller request (seen self.now.rows.now))) }
     {
         stays_sound();
-        let rows = roles::with_reviewer(alloc, self.rows, account, role, caller, request)?;
-        Ok(ChangeFile { rows })
+        let edited = roles::with_reviewer(alloc, self.rows, account, role, caller, request)?;
+        Ok(edited)
     }
 
     /// No role for an account any more, and no votes on the current patch set.
     pub fn without_reviewer(
-        self,
+        &self,
         alloc: Global,
         account: AccountNo,
         caller: AccountNo,
         request: u64,
-    ) -> Result<ChangeFile, AllocError>
-        ensures { IfOk result (λ new. seen new.rows ≡ after_plain (RemoveReviewer account) caller request (seen self.rows)) }
+    ) -> Result<EditedChange<'r>, AllocError>
+        ensures { IfOk result (Makes self.now.rows.now (after_plain (RemoveReviewer account) caller request (seen self.now.rows.now))) }
     {
         stays_sound();
-        let rows = roles::without_reviewer(alloc, self.rows, account, caller, request)?;
-        Ok(ChangeFile { rows })
+        let edited = roles::without_reviewer(alloc, self.rows, account, caller, request)?;
+        Ok(edited)
     }
 
     /// In work in progress.
-    pub fn wip(self, alloc: Global, caller: AccountNo, request: u64) -> ChangeFile
-        ensures { seen result.rows ≡ after_plain SetWip caller request (seen self.rows) }
+    pub fn wip(
+        &self,
+        alloc: Global,
+        caller: AccountNo,
+        request: u64,
+    ) -> Result<EditedChange<'r>, AllocError>
+        ensures { IfOk result (Makes self.now.rows.now (after_plain SetWip caller request (seen self.now.rows.now))) }
     {
         stays_sound();
-        let rows = states::wip(alloc, self.rows, caller, request);
-        ChangeFile { rows }
+        let edited = states::wip(alloc, self.rows, caller, request)?;
+        Ok(edited)
     }
 
     /// Ready for review.
     pub fn ready(
-        self,
+        &self,
         alloc: Global,
         caller: AccountNo,
         request: u64,
-    ) -> Result<ChangeFile, AllocError>
-        ensures { IfOk result (λ new. seen new.rows ≡ after_plain SetReady caller request (seen self.rows)) }
+    ) -> Result<EditedChange<'r>, AllocError>
+        ensures { IfOk result (Makes self.now.rows.now (after_plain SetReady caller request (seen self.now.rows.now))) }
     {
         stays_sound();
-        let rows = states::ready(alloc, self.rows, caller, request)?;
-        Ok(ChangeFile { rows })
+        let edited = states::ready(alloc, self.rows, caller, request)?;
+        Ok(edited)
     }
 
     /// Abandoned.
-    pub fn abandon(self, alloc: Global, caller: AccountNo, request: u64) -> ChangeFile
-        ensures { seen result.rows ≡ after_plain Abandon caller request (seen self.rows) }
+    pub fn abandon(
+        &self,
+        alloc: Global,
+        caller: AccountNo,
+        request: u64,
+    ) -> Result<EditedChange<'r>, AllocError>
+        ensures { IfOk result (Makes self.now.rows.now (after_plain Abandon caller request (seen self.now.rows.now))) }
     {
         stays_sound();
-        let rows = states::abandon(alloc, self.rows, caller, request);
-        ChangeFile { rows }
+        let edited = states::abandon(alloc, self.rows, caller, request)?;
+        Ok(edited)
     }
 
     /// Open again.
-    pub fn restore(self, caller: AccountNo, request: u64) -> ChangeFile
-        ensures { seen result.rows ≡ after_plain Restore caller request (seen self.rows) }
+    pub fn restore(
+        &self,
+        alloc: Global,
+        caller: AccountNo,
+        request: u64,
+    ) -> Result<EditedChange<'r>, AllocError>
+        ensures { IfOk result (Makes self.now.rows.now (after_plain Restore caller request (seen self.now.rows.now))) }
     {
         stays_sound();
-        let rows = states::restore(self.rows, caller, request);
-        ChangeFile { rows }
+        let edited = states::restore(alloc, self.rows, caller, request)?;
+        Ok(edited)
     }
 
     /// Joined to its branch at a place.
-    pub fn merged(self, alloc: Global, place: u32, request: u64) -> ChangeFile
-        ensures { seen result.rows ≡ joined_at place request (seen self.rows) }
+    pub fn merged(
+        &self,
+        alloc: Global,
+        place: u32,
+        request: u64,
+    ) -> Result<EditedChange<'r>, AllocError>
+        ensures { IfOk result (Makes self.now.rows.now (joined_at place request (seen self.now.rows.now))) }
     {
         joins_sound();
-        let rows = states::merged(alloc, self.rows, place, request);
-        ChangeFile { rows }
+        let edited = states::merged(alloc, self.rows, place, request)?;
+        Ok(edited)
     }
 
     /// An account called by hand.
     pub fn attend(
-        self,
+        &self,
         alloc: Global,
         account: AccountNo,
         reason: &Reason,
         caller: AccountNo,
         request: u64,
-    ) -> Result<ChangeFile, AllocError>
-        requires { fits (AddAttention account reason.now) (seen self.rows) ≡ true }
-        ensures { IfOk result (λ new. seen new.rows ≡ after_plain (AddAttention account reason.now) caller request (seen self.rows)) }
+    ) -> Result<EditedChange<'r>, AllocError>
+        requires { fits (AddAttention account reason.now) (seen self.now.rows.now) ≡ true }
+        ensures { IfOk result (Makes self.now.rows.now (after_plain (AddAttention account reason.now) caller request (seen self.now.rows.now))) }
     {
         stays_sound();
-        let rows = attending::attend(alloc, self.rows, account, reason, caller, request)?;
-        Ok(ChangeFile { rows })
+        let edited = attending::attend(alloc, self.rows, account, reason, caller, request)?;
+        Ok(edited)
     }
 
     /// An account called no more.
     pub fn unattend(
-        self,
+        &self,
+        alloc: Global,
         account: AccountNo,
         reason: &Reason,
         caller: AccountNo,
         request: u64,
-    ) -> ChangeFile
-        ensures { seen result.rows ≡ after_plain (RemoveAttention account reason.now) caller request (seen self.rows) }
+    ) -> Result<EditedChange<'r>, AllocError>
+        ensures { IfOk result (Makes self.now.rows.now (after_plain (RemoveAttention account reason.now) caller request (seen self.now.rows.now))) }
     {
         stays_sound();
-        let rows = attending::unattend(self.rows, account, reason, caller, request);
-        ChangeFile { rows }
+        let edited = attending::unattend(alloc, self.rows, account, reason, caller, request)?;
+        Ok(edited)
     }
 }
 

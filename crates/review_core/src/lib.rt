@@ -1,15 +1,15 @@
 //! One change: a [`ChangeFile`] has the rows of a change, which fit together, and a call for each request makes of it the change that the
 //! definitions in `review_core_rules` say.
 //!
-//! `ChangeFile::begin` makes a new change, `from_rows` takes stored rows and refuses those that don't fit together, and `rows` gives them
-//! back. `with_patch_set` copies votes by the file and the groups before the upload, and counts the copied and the lost ones;
-//! `with_review`, `with_reviewer`, `without_reviewer`, `wip`, `ready`, `abandon`, `restore`, `attend`, `unattend` and `merged` are the
-//! other requests.
+//! [`begun`] makes the rows of a new change, `from_rows` takes stored rows and refuses those that don't fit together, and `rows` gives them
+//! back. What a request makes is noted beside the rows, as an `EditedChange`: nothing is copied but what it edits. `with_patch_set` copies votes by
+//! the file and the groups before the upload, and counts the copied and the lost ones; `with_review`, `with_reviewer`, `without_reviewer`,
+//! `wip`, `ready`, `abandon`, `restore`, `attend`, `unattend` and `merged` are the other requests.
 //!
-//! After `wip`, say, the rows show the change as it was but for `wip`, and nobody is called. `status` says how a requirement stands,
-//! `threads` gives the comments thread by thread, `eligible` whether an account may be called.
+//! The edits of `wip`, say, make the change as it was but that it is in work in progress, and nobody is called. `status` says how a
+//! requirement stands, `threads` gives the comments thread by thread, `eligible` whether an account may be called.
 //!
-//! - **Proved**: the change that the new rows show is the old one after the request; how many votes an upload copied and how many not; rows
+//! - **Proved**: the change that the edits make is the old one after the request; how many votes an upload copied and how many not; rows
 //!   that don't fit together are refused, and no others.
 //! - **Assumed**: nothing beyond the kit. What a request has to be (`fits`) its caller makes sure of first.
 //! - **Only tested**: `scripts/desk.txt`, by the requests.
@@ -25,8 +25,9 @@ mod sound;
 mod states;
 mod uploading;
 
+pub use beginning::begun;
 pub use file::{ChangeFile, RowsFault};
 pub use review_core_rules::{
-    AttentionEntry, ChangeRows, Comment, CommentRow, Header, PatchRow, Vote, VoteKey,
+    AttentionEntry, ChangeRows, Comment, CommentRow, EditedChange, Header, PatchRow, Vote, VoteKey,
 };
 pub use uploading::Copied;

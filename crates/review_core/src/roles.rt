@@ -3,14 +3,14 @@ ghost use Rattle.std.specs.Prelude.{◌≡◌, ◌==◌, ◌&&◌, ◌||◌, not
 ghost use Rattle.review_names.specs.Forms.{is_within, most_patches};
 ghost use Rattle.review_words.specs.declared.command.ChangeCommand.TheVariants.{AddReviewer, RemoveReviewer};
 ghost use Rattle.review_core_rules.specs.Change.{after_plain, current, is_open, is_reviewer, last_uploader};
-ghost use Rattle.review_core_rules.specs.Seen.{seen};
+ghost use Rattle.review_core_rules.specs.{EditedChanges.after_edits, Seen.seen};
 ghost use Rattle.review_core_tables.specs.declared.attention.Who.{Who};
 
 use crate::states::is_open;
-use review_core_rules::{ChangeRows, Header, PatchRow};
+use review_core_rules::{ChangeRows, EditedChange, Header, PatchRow, begin_edits};
 use review_core_standing::last_uploader;
 use review_core_tables::{
-    WhenAdded, Who, call_eligible, drop_called, drop_votes, is_reviewer, set_role,
+    WhenAdded, Who, call_all, callable, drop_called, drop_votes, is_reviewer,
 };
 use review_words::{AccountNo, PatchNo, Role, State};
 use std::alloc::{AllocError, Global};
@@ -45,33 +45,27 @@ fn calls_reviewer(role: Role, state: State) -> bool
 }
 
 /// A role for an account.
-pub fn with_reviewer(
+pub fn with_reviewer<'r>(
     alloc: Global,
-    rows: ChangeRows,
+    rows: &'r ChangeRows,
     account: AccountNo,
     role: Role,
     caller: AccountNo,
     request: u64,
-) -> Result<ChangeRows, AllocError>
-    ensures { IfOk result (λ new. seen new ≡ after_plain (AddReviewer account role) caller request (seen rows)) }
+) -> Result<EditedChange<'r>, AllocError>
+    ensures rows { IfOk result (λ new. new.rows ≡ rows.entry) }
+    ensures made { IfOk result (λ new. after_edits new ≡ after_plain (AddReviewer account role) caller request (seen rows.now)) }
 {
-    let mut rows = rows;
-    set_role(&mut rows.roles, account, Some(role))?;
-    rows.header.updated = request;
+    let mut edited = begin_edits(alloc, rows, rows.header.state, request)?;
+    edited.roles.set(account, Some(role))?;
     let who = who_for(&rows.header, &rows.patches, caller);
     let rule = WhenAdded {
         account,
         is_called: calls_reviewer(role, rows.header.state),
     };
-    call_eligible(
-        alloc,
-        &mut rows.attention,
-        &rows.roles,
-        &who,
-        &rule,
-        request,
-    )?;
-    Ok(rows)
+    let accounts = callable(alloc, &edited.roles, &who)?;
+    call_all(alloc, &mut edited.attention, &accounts, &rule, request)?;
+    Ok(edited)
 }
 
 fn is_other(account: AccountNo, owner: AccountNo, uploader: AccountNo) -> bool
@@ -81,23 +75,23 @@ fn is_other(account: AccountNo, owner: AccountNo, uploader: AccountNo) -> bool
 }
 
 /// No role for an account any more, and no votes on the current patch set.
-pub fn without_reviewer(
+pub fn without_reviewer<'r>(
     alloc: Global,
-    rows: ChangeRows,
+    rows: &'r ChangeRows,
     account: AccountNo,
     caller: AccountNo,
     request: u64,
-) -> Result<ChangeRows, AllocError>
-    requires { is_within most_patches (current (seen rows)) ≡ true }
-    ensures { IfOk result (λ new. seen new ≡ after_plain (RemoveReviewer account) caller request (seen rows)) }
+) -> Result<EditedChange<'r>, AllocError>
+    requires { is_within most_patches (current (seen rows.now)) ≡ true }
+    ensures rows { IfOk result (λ new. new.rows ≡ rows.entry) }
+    ensures made { IfOk result (λ new. after_edits new ≡ after_plain (RemoveReviewer account) caller request (seen rows.now)) }
 {
-    let mut rows = rows;
-    rows.header.updated = request;
+    let mut edited = begin_edits(alloc, rows, rows.header.state, request)?;
     let who = who_for(&rows.header, &rows.patches, caller);
     let patch = current_patch(&rows.patches);
-    set_role(&mut rows.roles, account, None)?;
+    edited.roles.set(account, None)?;
     let is_gone = is_other(account, who.owner, who.uploader);
-    drop_called(&mut rows.attention, account, is_gone);
-    rows.votes = drop_votes(alloc, rows.votes, patch, account)?;
-    Ok(rows)
+    drop_called(&mut edited.attention, account, is_gone)?;
+    drop_votes(alloc, &mut edited.votes, patch, account)?;
+    Ok(edited)
 }

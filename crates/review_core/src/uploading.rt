@@ -1,17 +1,18 @@
 //! A new patch set: its votes, and who is called.
 ghost use Rattle.std.specs.Cmp.Lexicographic.{pointwise};
-ghost use Rattle.std.specs.Prelude.{◌≡◌, ◌+◌, ◌==◌, ℕ, List, [], pos, true, length, IfOk, OnOk};
+ghost use Rattle.std.specs.Prelude.{◌≡◌, ◌+◌, ◌==◌, ℕ, List, [], pos, true, length, IfOk};
 ghost use Rattle.review_names.specs.Forms.{is_within, most_patches};
 ghost use Rattle.review_words.specs.declared.command.ChangeCommand.TheVariants.{Upload};
 ghost use Rattle.review_core_rules.specs.Change.{after, carried, copying, current, is_lost, last_paths};
-ghost use Rattle.review_core_rules.specs.{Seen.seen, Seen.vote_in, Votes.voted};
+ghost use Rattle.review_core_rules.specs.{EditedChanges.after_edits, Seen.seen, Seen.vote_in, Votes.voted};
 ghost use Rattle.review_core_tables.specs.Copies.{AreMany, GroupTable, group_list, with_groups};
 
-use crate::roles::{current_patch, who_for};
-use review_core_rules::{ChangeRows, PatchRow};
+use crate::roles::current_patch;
+use review_core_rules::{ChangeRows, EditedChange, PatchRow, begin_edits};
 use review_core_standing::last_uploader;
 use review_core_tables::{
-    GroupTables, Parted, WhenLost, call_eligible, drop_called, is_eligible, part_votes, put_all,
+    GroupTables, Parted, WhenLost, Who, call_all, callable, drop_called, is_eligible, part_votes,
+    put_all,
 };
 use review_expr_judging::{ValueRange, VoteFacts};
 use review_file::ProjectFile;
@@ -94,22 +95,23 @@ fn sent_by(patch: NewPatch, caller: AccountNo) -> PatchRow
     }
 }
 
-/// Adds a new patch set to a change, and tells how many votes were copied and lost. Where memory is wanting, a part may be made.
-fn add_patch_set(
+/// The change after a new patch set, and how many votes were copied and lost.
+pub fn with_patch_set<'r>(
     alloc: Global,
-    rows: &mut ChangeRows,
+    rows: &'r ChangeRows,
     patch: NewPatch,
     caller: AccountNo,
     file: &ProjectFile,
     groups: &GroupTables,
     request: u64,
-) -> Result<Copied, AllocError>
+) -> Result<(EditedChange<'r>, Copied), AllocError>
     requires now { is_within most_patches (current (seen rows.now)) ≡ true }
     requires next { is_within most_patches (current (seen rows.now) + 1) ≡ true }
     requires free { (l : List ℕ) (a : ℕ) → vote_in rows.now.votes (current (seen rows.now) + 1) l a ≡ pos 0 }
-    ensures rows { OnOk result (seen rows.new ≡ after (record { file = file.now; groups = group_list groups.now }) (Upload patch) caller request (seen rows.old)) }
-    ensures copied { IfOk result (λ r. AreMany (λ l u. voted (carried (copying (record { file = file.now; groups = group_list groups.now }) (Upload patch) caller (seen rows.old)) (seen rows.old) l u)) r.copied) }
-    ensures outdated { IfOk result (λ r. AreMany (λ l u. is_lost (copying (record { file = file.now; groups = group_list groups.now }) (Upload patch) caller (seen rows.old)) (seen rows.old) u l) r.outdated) }
+    ensures rows { IfOk result (λ r. r.0.rows ≡ rows.entry) }
+    ensures made { IfOk result (λ r. after_edits r.0 ≡ after (record { file = file.now; groups = group_list groups.now }) (Upload patch) caller request (seen rows.now)) }
+    ensures copied { IfOk result (λ r. AreMany (λ l u. voted (carried (copying (record { file = file.now; groups = group_list groups.now }) (Upload patch) caller (seen rows.now)) (seen rows.now) l u)) r.1.copied) }
+    ensures outdated { IfOk result (λ r. AreMany (λ l u. is_lost (copying (record { file = file.now; groups = group_list groups.now }) (Upload patch) caller (seen rows.now)) (seen rows.now) u l) r.1.outdated) }
 {
     let now = current_patch(&rows.patches);
     let next = next_patch(now);
@@ -121,45 +123,22 @@ fn add_patch_set(
         copied: copied.len(),
         outdated: lost.len(),
     };
-    put_all(&mut rows.votes, copied)?;
-    rows.patches.push(sent_by(patch, caller))?;
-    rows.header.updated = request;
-    let who = who_for(&rows.header, &rows.patches, caller);
+    let mut edited = begin_edits(alloc, rows, rows.header.state, request)?;
+    put_all(&mut edited.votes, copied)?;
+    edited.patches.push(sent_by(patch, caller))?;
+    let who = Who {
+        owner: rows.header.owner,
+        uploader: caller,
+        caller,
+        wip: rows.header.wip,
+    };
     let is_gone = !is_eligible(who.owner, who.uploader, &rows.roles, former);
-    drop_called(&mut rows.attention, former, is_gone);
+    drop_called(&mut edited.attention, former, is_gone)?;
     let rule = WhenLost {
         labels: file.labels(),
         lost: &lost,
     };
-    call_eligible(
-        alloc,
-        &mut rows.attention,
-        &rows.roles,
-        &who,
-        &rule,
-        request,
-    )?;
-    Ok(counts)
-}
-
-/// The change after a new patch set, and how many votes were copied and lost.
-pub fn with_patch_set(
-    alloc: Global,
-    rows: ChangeRows,
-    patch: NewPatch,
-    caller: AccountNo,
-    file: &ProjectFile,
-    groups: &GroupTables,
-    request: u64,
-) -> Result<(ChangeRows, Copied), AllocError>
-    requires now { is_within most_patches (current (seen rows)) ≡ true }
-    requires next { is_within most_patches (current (seen rows) + 1) ≡ true }
-    requires free { (l : List ℕ) (a : ℕ) → vote_in rows.votes (current (seen rows) + 1) l a ≡ pos 0 }
-    ensures rows { IfOk result (λ r. seen r.0 ≡ after (record { file = file.now; groups = group_list groups.now }) (Upload patch) caller request (seen rows)) }
-    ensures copied { IfOk result (λ r. AreMany (λ l u. voted (carried (copying (record { file = file.now; groups = group_list groups.now }) (Upload patch) caller (seen rows)) (seen rows) l u)) r.1.copied) }
-    ensures outdated { IfOk result (λ r. AreMany (λ l u. is_lost (copying (record { file = file.now; groups = group_list groups.now }) (Upload patch) caller (seen rows)) (seen rows) u l) r.1.outdated) }
-{
-    let mut rows = rows;
-    let counts = add_patch_set(alloc, &mut rows, patch, caller, file, groups, request)?;
-    Ok((rows, counts))
+    let accounts = callable(alloc, &edited.roles, &who)?;
+    call_all(alloc, &mut edited.attention, &accounts, &rule, request)?;
+    Ok((edited, counts))
 }

@@ -1,5 +1,1 @@
-pub mod Within
-mod Order
-mod Voters
-mod Eligible
 pub mod Stays

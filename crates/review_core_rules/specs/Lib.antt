@@ -1,6 +1,8 @@
 pub mod Votes
 pub mod Change
 pub mod Seen
+pub mod EditedRows
+pub mod EditedChanges
 pub mod Parts
 pub mod Sound
 pub mod Status

@@ -15,11 +15,13 @@ pub fn begins_sound()
 {}
 
 /// A change that joins its branch stays sound.
+#[tactic(auto, using(crate::proofs::Stays::joins))]
 pub fn joins_sound()
     ensures { (place request : ℕ) (c : Change) → IsSound c → IsSound (joined_at place request c) }
 {}
 
 /// Who voted on the current patch set of a sound change is eligible.
+#[tactic(auto, using(crate::proofs::Stays::role_eligible))]
 pub fn voters_are_eligible()
     ensures { (c : Change) (l : List ℕ) (a : ℕ) → IsSound c → voted (c.vote (current c) l a) ≡ true → eligible c a ≡ true }
 {}

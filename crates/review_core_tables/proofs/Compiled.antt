@@ -1,9 +1,8 @@
 -- Copy conditions that were compiled.
-use Rattle.std.proofs.Common.{◌≡◌, ◌<◌, ◌+◌, ℕ, ℤ, List, [], ◌∷◌, ◌++◌, length, take, get_or, ap₂, Bool, true, false, Option, Some, None, Result, Ok, Err, IfOk, map, sym, ap, ◌∙◌, subst, refl}
+use Rattle.std.proofs.Common.{◌≡◌, ◌<◌, ◌+◌, ℕ, ℤ, List, [], ◌∷◌, ◌++◌, length, take, get_or, ap₂, Bool, true, false, Option, Some, None, Result, Ok, Err, IfOk, map, sym, ap, ◌∙◌, subst, refl, All, cond, find, option_map, bytes_eq}
 use Rattle.std.proofs.Math.{Bool.Bool-set, Logic.∥∥₁_elim}
 use Rattle.std.proofs.lemmas.List.{map-append, take_more, Elements.All-head, Elements.All-tail}
-use Rattle.std.specs.{Coded.Unit-prop, List.All, Option.option_map_or, Prelude.cond, Prelude.find, Prelude.option_map}
-use Rattle.std.specs.{Str.bytes_eq, declared.alloc.AllocError.AllocError}
+use Rattle.std.specs.{Coded.Unit-prop, Option.option_map_or, declared.alloc.AllocError.AllocError}
 use Rattle.review_expr_judging.specs.declared.facts.VoteFacts.{VoteFacts}
 use Rattle.review_expr.specs.{Exprs.AreTermsOf, declared.compiled.Terms.Terms, declared.expr.Expr.Expr}
 use Rattle.review_file_rules.specs.View.{FileView, LabelView}

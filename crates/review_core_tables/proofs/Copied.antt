@@ -1,17 +1,137 @@
--- Votes that a new patch set copies.
-use denote.Ref.{Bor}
-use Rattle.std.proofs.Common.{◌≡◌, ◌<◌, ◌+◌, length, drop, get_or, map, append_assoc, ℕ, ℤ, pos, List, [], ◌∷◌, ◌++◌, ◌||◌, Option, Some, None, Bool, true, false, not, ◌&&◌, refl, sym, ap, ◌∙◌, eqb-true, eq-eqb}
-use Rattle.std.proofs.lemmas.Bool.{and_parts, and_from, Decides.Decides-int_eq}
-use Rattle.std.proofs.lemmas.{List.at_drop_more, Slice.Eq.bytes_eq-Decides}
-use Rattle.std.specs.{BTreeMap.is_at, List.Sorted.IsStrictlySortedBy, Map.keys_of, Map.Iter.deref_pair, Ordering.int_eq}
-use Rattle.std.specs.{Prelude.◌==◌, Prelude.if◌then◌else◌, Str.bytes_eq}
+-- Votes by their keys: copied to a new patch set, and counted.
+use Rattle.std.proofs.Common.{◌≡◌, List, [], ◌∷◌, Option, Some, None, Bool, true, false, refl, sym, ap, ◌∙◌, ⊎_elim, subst, filter, is_eq, if◌then◌else◌, ℕ, ℤ, pos, not, ◌&&◌, ◌||◌, eqb-true, eq-eqb, int_eq, IsSome, nat_cmp, ◌==◌, bytes_eq, Bor, ◌<◌, ◌+◌, length, drop, get_or, map, append_assoc, ◌++◌, suc}
+use Rattle.std.proofs.lemmas.Bool.{cases_Bool, and_parts, and_from, Decides.Decides-int_eq}
+use Rattle.std.proofs.lemmas.{List.at_drop_more, Map.Text.is_eq-slice_cmp, Slice.Eq.bytes_eq-Decides}
+use Rattle.std.specs.{BTreeMap.is_at, Cmp.tied_then, Cmp.unsigned_tied, Cmp.Lexicographic.slice_cmp}
+use Rattle.std.specs.List.{AllByRecursion, list_any, Sorted.IsStrictlySortedBy}
+use Rattle.std.specs.{Map.keys_of, Map.Iter.deref_pair, Ordering.ordering_then}
+use Rattle.std.specs.declared.cmp.Ordering.{Ordering, TheVariants.Less}
 use Rattle.review_table.specs.Rows.{row_in, rows_of}
-use Rattle.review_core_rules.specs.Seen.{Votes, vote_cmp, vote_in, value_of}
+use Rattle.review_core_rules.specs.Seen.{vote_cmp, value_of, Votes, vote_in}
 use Rattle.review_core_rules.specs.{Votes.voted, declared.rows.VoteKey.VoteKey}
-use Rattle.review_core_tables.proofs.InTurn.{put_where, none_after}
-use Rattle.review_core_tables.proofs.VoteKeys.{vote_key, vote_tied, votes_tell}
-use Rattle.review_core_tables.specs.Copies.{Copies, has_lost, copied_rows, lost_rows}
-use Rattle.review_core_tables.specs.{Tables.put_in, inner.Words.or_else}
+use Rattle.review_core_tables.specs.Copies.{Copies, has_lost, copied_rows, lost_rows, AreApart, AreMany}
+use Rattle.review_core_tables.specs.{Tables.put_in, inner.Words.or_else, inner.Words.is_vote, inner.Words.is_of}
+
+-- ==== rows that are put one after the other
+
+-- a comparison tells keys apart
+pub record Tells {K : Type 0} (R : K → K → Ordering) : Type 0 where
+  pub same : (j k : K) → is_at (R j) k ≡ true → j ≡ k
+  pub self : (k : K) → is_at (R k) k ≡ true
+
+pub at_sym : {K : Type 0} {R : K → K → Ordering} → Tells R → (j k : K) → is_at (R j) k ≡ is_at (R k) j
+at_sym {R = R} t j k =
+    ⊎_elim
+    (λ (y : is_at (R j) k ≡ true). y ∙ sym (subst (λ x. is_at (R k) x ≡ true) (sym (t.same j k y)) (t.self k)))
+    (λ (f : is_at (R j) k ≡ false). ⊎_elim
+    (λ (y : is_at (R k) j ≡ true). let e = subst (λ x. is_at (R j) x ≡ true) (sym (t.same k j y)) (t.self j) in absurd (cc))
+    (λ (g : is_at (R k) j ≡ false). f ∙ sym g)
+    (cases_Bool (is_at (R k) j)))
+    (cases_Bool (is_at (R j) k))
+
+-- in order, the rows after a key's have none of that key
+pub none_after : {K X : Type 0} (R : K → K → Ordering) (k q : K) → q ≡ k → (rows : List (K × X)) → AllByRecursion (λ y. R k y ≡ Less) (keys_of rows) → row_in R rows q ≡ None
+none_after R k q e [] s = refl
+none_after R k q e (r ∷ rows) s = let h : is_at (R q) r.0 ≡ false = ap (λ x. is_at (R x) r.0) e ∙ ap is_eq s.0 in rw h (none_after R k q e rows s.1)
+
+pub put_where : {K X : Type 0} (R : K → K → Ordering) (b : Bool) (xs ys : List (K × X)) (q : K) (o : Option X) → put_in R (if b then xs else ys) q o ≡ (if b then put_in R xs q o else put_in R ys q o)
+put_where R true xs ys q o = refl
+put_where R false xs ys q o = refl
+
+-- ==== votes by their keys
+
+-- two keys of votes are the same
+pub vote_tied : (k : VoteKey) (n : ℕ) (l : List ℕ) (a : ℕ) → is_at (vote_cmp k) (record { patch = n; label = l; account = a }) ≡ is_vote k n l a
+vote_tied k n l a =
+    sym (tied_then (nat_cmp k.patch n) (ordering_then (slice_cmp nat_cmp k.label l) (nat_cmp k.account a)))
+    ∙ (λ i. unsigned_tied k.patch n i && ((sym (tied_then (slice_cmp nat_cmp k.label l) (nat_cmp k.account a)) ∙ (λ j. is_eq-slice_cmp k.label l j && unsigned_tied k.account a j)) i))
+
+value_where : (b : Bool) (x y : Option ℤ) → value_of (if b then x else y) ≡ (if b then value_of x else value_of y)
+value_where true x y = refl
+value_where false x y = refl
+
+abbrev pub vote_key : ℕ → List ℕ → ℕ → VoteKey
+vote_key n l a = record { patch = n; label = l; account = a }
+
+-- one vote is put or taken away
+pub vote_set : (k : VoteKey) (o : Option ℤ) (new old : VoteKey → Option ℤ) → ((q : VoteKey) → new q ≡ (if is_at (vote_cmp k) q then o else old q)) →
+    (n : ℕ) (l : List ℕ) (a : ℕ) → value_of (new (vote_key n l a)) ≡ (if is_vote k n l a then value_of o else value_of (old (vote_key n l a)))
+vote_set k o new old is n l a =
+    ap value_of (is (vote_key n l a))
+    ∙ (value_where (is_at (vote_cmp k) (vote_key n l a)) o (old (vote_key n l a))
+    ∙ ap (λ b. if b then value_of o else value_of (old (vote_key n l a))) (vote_tied k n l a))
+
+pub votes_tell : Tells vote_cmp
+votes_tell = record {
+  same = λ j k e.
+      let p = and_parts (j.patch == k.patch) (bytes_eq j.label k.label && (j.account == k.account)) (sym (vote_tied j k.patch k.label k.account) ∙ e) in
+      let r = and_parts (bytes_eq j.label k.label) (j.account == k.account) p.1 in
+      let n = eqb-true j.patch k.patch p.0 in
+      let l = (bytes_eq-Decides j.label k.label).0 r.0 in
+      let a = eqb-true j.account k.account r.1 in
+      λ i. record { patch = n i; label = l i; account = a i };
+  self = λ k. vote_tied k k.patch k.label k.account
+      ∙ and_from (k.patch == k.patch) (bytes_eq k.label k.label && (k.account == k.account)) (eq-eqb k.patch k.patch refl)
+      (and_from (bytes_eq k.label k.label) (k.account == k.account) ((bytes_eq-Decides k.label k.label).1 refl) (eq-eqb k.account k.account refl));
+}
+
+value_same : (b : Bool) (v w : ℤ) → (b ≡ true → w ≡ v) → w ≡ (if b then v else w)
+value_same true v w same = same refl
+value_same false v w same = refl
+
+-- a vote that has its value already
+pub vote_stays : (k : VoteKey) (v : ℤ) (old : VoteKey → Option ℤ) → value_of (old k) ≡ v → (n : ℕ) (l : List ℕ) (a : ℕ) → value_of (old (vote_key n l a)) ≡ (if is_vote k n l a then v else value_of (old (vote_key n l a)))
+vote_stays k v old is n l a = value_same (is_vote k n l a) v (value_of (old (vote_key n l a))) (λ here. ap (λ q. value_of (old q)) (sym (votes_tell.same k (vote_key n l a) (vote_tied k n l a ∙ here))) ∙ is)
+
+and_no : (b : Bool) → false ≡ (b && false)
+and_no true = refl
+and_no false = refl
+
+any_where : {K : Type 0} (test : K → Bool) (b : Bool) (k : K) (ks : List K) → list_any test (if b then k ∷ ks else ks) ≡ (if b then test k || list_any test ks else list_any test ks)
+any_where test true k ks = refl
+any_where test false k ks = refl
+
+kept_step : (b here passes kept rest : Bool) → (here ≡ true → passes ≡ b) → kept ≡ (passes && rest) → (if b then here || kept else kept) ≡ (passes && (here || rest))
+kept_step true true passes kept rest same ih = ap (λ x. x && true) (sym (same refl))
+kept_step true false passes kept rest same ih = ih
+kept_step false true passes kept rest same ih = ih ∙ (ap (λ x. x && rest) (same refl) ∙ ap (λ x. x && true) (sym (same refl)))
+kept_step false false passes kept rest same ih = ih
+
+-- a key is among those that pass a test where it passes and is among all
+pub any_kept : {K : Type 0} {R : K → K → Ordering} → Tells R → (p : K → Bool) (q : K) (ks : List K) → list_any (is_at (R q)) (filter p ks) ≡ (p q && list_any (is_at (R q)) ks)
+any_kept t p q [] = and_no (p q)
+any_kept {R = R} t p q (k ∷ ks) =
+    any_where (is_at (R q)) (p k) k (filter p ks)
+    ∙ kept_step (p k) (is_at (R q) k) (p q) (list_any (is_at (R q)) (filter p ks)) (list_any (is_at (R q)) ks) (λ h. ap p (t.same q k h)) (any_kept t p q ks)
+
+-- the votes but those of an account on a patch set
+pub votes_dropped : (patch account : ℕ) (keys : List VoteKey) (new old : VoteKey → Option ℤ) →
+    ((q : VoteKey) → is_of patch account q ≡ true → IsSome (old q) → list_any (is_at (vote_cmp q)) keys ≡ true) → ((q : VoteKey) → is_of patch account q ≡ false → list_any (is_at (vote_cmp q)) keys ≡ false) →
+    ((q : VoteKey) → new q ≡ (if list_any (is_at (vote_cmp q)) keys then None else old q)) →
+    (n : ℕ) (l : List ℕ) (a : ℕ) → value_of (new (vote_key n l a)) ≡ (if is_of patch account (vote_key n l a) then pos 0 else value_of (old (vote_key n l a)))
+votes_dropped patch account keys new old all only is n l a =
+    let q = vote_key n l a in
+    ap value_of (is q) ∙ by (is_of patch account q) (list_any (is_at (vote_cmp q)) keys) (old q) (all q) (only q)
+  where
+    by : (b any : Bool) (o : Option ℤ) → (b ≡ true → IsSome o → any ≡ true) → (b ≡ false → any ≡ false) → value_of (if any then None else o) ≡ (if b then pos 0 else value_of o)
+    by true true o there none = refl
+    by true false None there none = refl
+    by true false (Some v) there none = absurd (let no : false ≡ true = there refl refl in cc)
+    by false true o there none = absurd (let no : true ≡ false = none refl in cc)
+    by false false o there none = refl
+
+-- the value of a vote that is made of a value
+pub value_voted : (v : ℤ) → value_of (if voted v then Some v else None) ≡ v
+value_voted v = ⊎_elim
+    (λ (e : voted v ≡ true). rw e refl)
+    (λ (e : voted v ≡ false). rw e (sym ((Decides-int_eq v (pos 0)).0 (untrue (int_eq v (pos 0)) e))))
+    (cases_Bool (voted v))
+  where
+    untrue : (b : Bool) → not b ≡ false → b ≡ true
+    untrue true e = refl
+    untrue false e = absurd (let f : true ≡ false = e in cc)
+
+-- ==== votes that a new patch set copies
 
 -- a row that is copied
 abbrev copied_of : Copies → List ℕ → ℕ → Option ℤ → Option ℤ
@@ -164,12 +284,12 @@ put_past f n next q e (r ∷ rows) before =
     same false o = refl
 
 -- the votes after those of a patch set are copied to the next one, on which there were none
-pub votes_carried : (f : Copies) (n next : ℕ) (votes after : Votes) → IsStrictlySortedBy vote_cmp (keys_of (rows_of votes)) → ((l : List ℕ) (a : ℕ) → vote_in votes next l a ≡ pos 0) →
-    ((q : VoteKey) → row_in vote_cmp (rows_of after) q ≡ put_in vote_cmp (copied_rows f n next (rows_of votes)) q (row_in vote_cmp (rows_of votes) q)) →
-    (m : ℕ) (l : List ℕ) (a : ℕ) → vote_in after m l a ≡ (if next == m then (if f l a (vote_in votes n l a) then vote_in votes n l a else pos 0) else vote_in votes m l a)
+pub votes_carried : (f : Copies) (n next : ℕ) (votes : Votes) (after : VoteKey → Option ℤ) → IsStrictlySortedBy vote_cmp (keys_of (rows_of votes)) → ((l : List ℕ) (a : ℕ) → vote_in votes next l a ≡ pos 0) →
+    ((q : VoteKey) → after q ≡ put_in vote_cmp (copied_rows f n next (rows_of votes)) q (row_in vote_cmp (rows_of votes) q)) →
+    (m : ℕ) (l : List ℕ) (a : ℕ) → value_of (after (vote_key m l a)) ≡ (if next == m then (if f l a (vote_in votes n l a) then vote_in votes n l a else pos 0) else vote_in votes m l a)
 votes_carried f n next votes after sorted none is m l a = go (next == m) refl
   where
-    go : (b : Bool) → (next == m) ≡ b → vote_in after m l a ≡ (if b then (if f l a (vote_in votes n l a) then vote_in votes n l a else pos 0) else vote_in votes m l a)
+    go : (b : Bool) → (next == m) ≡ b → value_of (after (vote_key m l a)) ≡ (if b then (if f l a (vote_in votes n l a) then vote_in votes n l a else pos 0) else vote_in votes m l a)
     go true e =
         let same = eqb-true next m e in
         ap value_of (is (vote_key m l a))
@@ -187,3 +307,59 @@ rows_more G next old new whole rows i e h is more before =
     let front : G (map deref_pair (drop i rows)) ≡ G (deref_pair e ∷ []) ++ G rest =
     at_drop_more (λ xs. G (map deref_pair xs)) rows i e h ∙ (ap (λ x. G (deref_pair x ∷ rest)) (sym is) ∙ next (deref_pair e) rest) in
     ap (λ x. x ++ G rest) more ∙ (append_assoc old (G (deref_pair e ∷ [])) (G rest) ∙ (ap (λ x. old ++ x) (sym front) ∙ before))
+
+-- ==== counting votes
+
+lost_apart : (f : Copies) (n : ℕ) (rows : List (VoteKey × ℤ)) → IsStrictlySortedBy vote_cmp (keys_of rows) → AreApart (lost_rows f n rows)
+unfolding IsStrictlySortedBy
+lost_apart f n [] s = tt
+lost_apart f n (e ∷ es) s = go (((e.0.patch == n) && voted e.1) && not (f e.0.label e.0.account e.1)) refl (lost_apart f n es s.1)
+  where
+    go : (b : Bool) → (((e.0.patch == n) && voted e.1) && not (f e.0.label e.0.account e.1)) ≡ b → AreApart (lost_rows f n es) → AreApart (if b then e.0 ∷ lost_rows f n es else lost_rows f n es)
+    go true held rest =
+        let x = and_parts (e.0.patch == n) (voted e.1) (and_parts ((e.0.patch == n) && voted e.1) (not (f e.0.label e.0.account e.1)) held).0 in
+        let same : vote_key n e.0.label e.0.account ≡ e.0 = λ i. vote_key (sym (eqb-true e.0.patch n x.0) i) e.0.label e.0.account in (
+          lost_is f n e.0.label e.0.account es s.1
+              ∙ value_none f e.0.label e.0.account (row_in vote_cmp es (vote_key n e.0.label e.0.account)) (none_after vote_cmp e.0 (vote_key n e.0.label e.0.account) same es s.0),
+          rest,
+        )
+    go false other rest = rest
+
+-- the lost votes are counted
+pub many_lost : (f : Copies) (n : ℕ) (votes : Votes) → IsStrictlySortedBy vote_cmp (keys_of (rows_of votes)) → (test : List ℕ → ℕ → Bool) →
+    ((l : List ℕ) (u : ℕ) → (voted (vote_in votes n l u) && not (f l u (vote_in votes n l u))) ≡ test l u) → (k : ℕ) → length (lost_rows f n (rows_of votes)) ≡ k → AreMany test k
+many_lost f n votes s test is k e = record {
+  keys = lost_rows f n (rows_of votes);
+  apart = lost_apart f n (rows_of votes) s;
+  each = λ l u. lost_is f n l u (rows_of votes) s ∙ is l u;
+  count = e;
+}
+
+-- the copied ones are those that the opposite would lose
+as_many : (f : Copies) (n next : ℕ) (rows : List (VoteKey × ℤ)) → length (lost_rows (λ l u v. not (f l u v)) n rows) ≡ length (copied_rows f n next rows)
+as_many f n next [] = refl
+as_many f n next (e ∷ es) = go ((e.0.patch == n) && voted e.1) (f e.0.label e.0.account e.1) (as_many f n next es)
+  where
+    go : (a b : Bool) → length (lost_rows (λ l u v. not (f l u v)) n es) ≡ length (copied_rows f n next es)
+        → length (if a && not (not b) then e.0 ∷ lost_rows (λ l u v. not (f l u v)) n es else lost_rows (λ l u v. not (f l u v)) n es)
+        ≡ length (if a && b then (vote_key next e.0.label e.0.account, e.1) ∷ copied_rows f n next es else copied_rows f n next es)
+    go true true rest = ap (λ k. suc k) rest
+    go true false rest = rest
+    go false b rest = rest
+
+voted_where : (b : Bool) (v : ℤ) → (voted v && not (not b)) ≡ voted (if b then v else pos 0)
+voted_where true v = and_true (voted v)
+  where
+    and_true : (a : Bool) → (a && true) ≡ a
+    and_true true = refl
+    and_true false = refl
+voted_where false v = and_false (voted v)
+  where
+    and_false : (a : Bool) → (a && false) ≡ false
+    and_false true = refl
+    and_false false = refl
+
+pub many_copied : (f : Copies) (n next : ℕ) (votes : Votes) → IsStrictlySortedBy vote_cmp (keys_of (rows_of votes)) → (test : List ℕ → ℕ → Bool) →
+    ((l : List ℕ) (u : ℕ) → voted (if f l u (vote_in votes n l u) then vote_in votes n l u else pos 0) ≡ test l u) → (k : ℕ) → length (copied_rows f n next (rows_of votes)) ≡ k → AreMany test k
+many_copied f n next votes s test is k e =
+    many_lost (λ l u v. not (f l u v)) n votes s test (λ l u. voted_where (f l u (vote_in votes n l u)) (vote_in votes n l u) ∙ is l u) k (as_many f n next (rows_of votes) ∙ e)

@@ -1,8 +1,4 @@
-pub mod InTurn
-pub mod VoteKeys
-pub mod Accounts
 pub mod Copied
-pub mod Counted
-pub mod Grouped
+pub mod Accounts
 mod Lines
 pub mod Compiled

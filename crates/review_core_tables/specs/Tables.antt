@@ -1,4 +1,4 @@
--- Rows that are put, given or called one after the other, at a key.
+-- Rows that are put one after the other, at a key.
 use Rattle.std.specs.BTreeMap.{is_at}
 use Rattle.std.specs.Prelude.{[], List, ◌∷◌, Option, Some, if◌then◌else◌}
 use Rattle.std.specs.declared.cmp.Ordering.{Ordering}

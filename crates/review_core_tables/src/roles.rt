@@ -2,9 +2,9 @@
 ghost use Rattle.std.specs.List.{list_any};
 ghost use Rattle.std.specs.Prelude.{◌≡◌, ◌==◌, ◌||◌, ℕ, is_some, OnOk, if◌then◌else◌};
 ghost use Rattle.review_core_rules.specs.Change.{is_reviewer, says_something, writer_role};
-ghost use Rattle.review_core_rules.specs.{Seen.of_account, Votes.voted};
+ghost use Rattle.review_core_rules.specs.{EditedRows.edited_account, Seen.of_account, Votes.voted};
 
-use review_table::Table;
+use review_table::{Edited, Table};
 use review_words::{AccountNo, Given, Review, Role};
 use std::alloc::AllocError;
 
@@ -50,38 +50,22 @@ pub fn is_reviewer(role: Option<Role>) -> bool
     }
 }
 
-/// Gives an account a role, or takes it away.
-pub fn set_role(
-    roles: &mut Table<AccountNo, Role>,
-    account: AccountNo,
-    role: Option<Role>,
-) -> Result<(), AllocError>
-    ensures { OnOk result ((u : ℕ) → of_account roles.new u ≡ (if account == u then role else of_account roles.old u)) }
-{
-    match role {
-        Some(role) => {
-            roles.put(account, role)?;
-            Ok(())
-        }
-        None => {
-            roles.remove(&account);
-            Ok(())
-        }
-    }
-}
-
 /// The roles after a review.
 pub fn review_roles(
-    roles: &mut Table<AccountNo, Role>,
+    roles: &mut Edited<'_, AccountNo, Role>,
     review: &Review,
     owner: AccountNo,
     caller: AccountNo,
 ) -> Result<(), AllocError>
-    ensures { OnOk result ((u : ℕ) → of_account roles.new u ≡ (if caller == u then writer_role review.now owner caller (of_account roles.old caller) else of_account roles.old u)) }
+    ensures table { roles.new.rows ≡ roles.old.rows }
+    ensures roles { OnOk result ((u : ℕ) → edited_account roles.new u ≡ (if caller == u then writer_role review.now owner caller (edited_account roles.old caller) else edited_account roles.old u)) }
 {
     let was = roles.get(&caller).copied();
     let role = writer_role(review, owner, caller, was);
-    set_role(roles, caller, role)
+    if role == was {
+        return Ok(());
+    }
+    roles.set(caller, role)
 }
 
 /// Whether an account is the owner, the current uploader, or has a role. This takes no memory.

@@ -1,36 +1,51 @@
-//! The votes of a change.
-ghost use Rattle.std.specs.List.{filter};
-ghost use Rattle.std.specs.Prelude.{not, ◌≡◌, ◌==◌, ◌&&◌, ℕ, ℤ, pos, List, IfOk, OnOk, if◌then◌else◌};
-ghost use Rattle.review_table.specs.Rows.{row_in, rows_of};
-ghost use Rattle.review_core_rules.specs.{Change.given_or, Seen.vote_in, Seen.vote_cmp};
+//! The votes of a change in the making.
+ghost use Rattle.std.specs.{BTreeMap.is_at, List.list_any, Ordering.int_eq};
+ghost use Rattle.std.specs.Prelude.{◌≡◌, ◌==◌, option_copied, ◌&&◌, ℕ, ℤ, pos, true, false, List, IfOk, IsSome, OnOk, if◌then◌else◌};
+ghost use Rattle.review_table.specs.Edited.{edited_row};
+ghost use Rattle.review_core_rules.specs.{Change.given_or, EditedRows.edited_vote, Seen.value_of, Seen.vote_cmp};
+ghost use Rattle.review_core_rules.specs.declared.rows.VoteKey.{VoteKey};
 ghost use Rattle.review_core_tables.specs.{Tables.put_in, inner.Words.is_vote, inner.Words.is_of};
 
 use review_core_rules::{Vote, VoteKey};
-use review_table::Table;
+use review_table::{Edited, Key};
 use review_words::{AccountNo, Given, PatchNo};
 use std::alloc::{AllocError, Global};
 
-/// Sets a vote; 0 takes it away.
-fn set_vote(votes: &mut Table<VoteKey, Vote>, key: VoteKey, value: i8) -> Result<(), AllocError>
-    ensures { OnOk result ((n : ℕ) (l : List ℕ) (a : ℕ) → vote_in votes.new n l a ≡ (if is_vote key n l a then value else vote_in votes.old n l a)) }
+/// Whether a vote has a value; none has 0.
+fn has_value(vote: Option<&Vote>, value: i8) -> bool
+    ensures { result ≡ int_eq (value_of (option_copied vote.entry)) value }
 {
-    let Some(vote) = Vote::from_value(value) else {
-        votes.remove(&key);
+    match vote {
+        Some(vote) => vote.get() == value,
+        None => value == 0,
+    }
+}
+
+/// Sets a vote, where that isn't its value already; 0 takes it away.
+fn set_vote(
+    votes: &mut Edited<'_, VoteKey, Vote>,
+    key: VoteKey,
+    value: i8,
+) -> Result<(), AllocError>
+    ensures table { votes.new.rows ≡ votes.old.rows }
+    ensures votes { OnOk result ((n : ℕ) (l : List ℕ) (a : ℕ) → edited_vote votes.new n l a ≡ (if is_vote key n l a then value else edited_vote votes.old n l a)) }
+{
+    if has_value(votes.get(&key), value) {
         return Ok(());
-    };
-    votes.put(key, vote)?;
-    Ok(())
+    }
+    votes.set(key, Vote::from_value(value))
 }
 
 /// Gives the votes of a review.
 pub fn give(
     alloc: Global,
-    votes: &mut Table<VoteKey, Vote>,
+    votes: &mut Edited<'_, VoteKey, Vote>,
     patch: PatchNo,
     account: AccountNo,
     labels: &[Given],
 ) -> Result<(), AllocError>
-    ensures { OnOk result ((n : ℕ) (l : List ℕ) (a : ℕ) → vote_in votes.new n l a ≡ (if (patch == n) && (account == a) then given_or labels.now l (vote_in votes.old n l a) else vote_in votes.old n l a)) }
+    ensures table { votes.new.rows ≡ votes.old.rows }
+    ensures votes { OnOk result ((n : ℕ) (l : List ℕ) (a : ℕ) → edited_vote votes.new n l a ≡ (if (patch == n) && (account == a) then given_or labels.now l (edited_vote votes.old n l a) else edited_vote votes.old n l a)) }
 {
     for given in labels {
         let label = given.label.copy(alloc)?;
@@ -44,56 +59,56 @@ pub fn give(
     Ok(())
 }
 
-/// The votes but those of an account on a patch set.
-fn others(
-    alloc: Global,
-    rows: Vec<(VoteKey, Vote)>,
-    patch: PatchNo,
-    account: AccountNo,
-) -> Result<Vec<(VoteKey, Vote)>, AllocError>
-    ensures { IfOk result (λ kept. kept.items ≡ filter (λ e. not (is_of patch account e.0)) rows.items) }
-{
-    let mut kept = Vec::new(alloc);
-    for (key, vote) in rows {
-        if !is_of(&key, patch, account) {
-            kept.push((key, vote))?;
-        }
-    }
-    Ok(kept)
-}
-
 fn is_of(key: &VoteKey, patch: PatchNo, account: AccountNo) -> bool
     ensures { result ≡ is_of patch account key.now }
 {
     patch == key.patch && account == key.account
 }
 
+/// The keys of the votes of an account on a patch set.
+fn keys_of(
+    alloc: Global,
+    votes: &Edited<'_, VoteKey, Vote>,
+    patch: PatchNo,
+    account: AccountNo,
+) -> Result<Vec<VoteKey>, AllocError>
+    ensures all { IfOk result (λ keys. (q : VoteKey) → is_of patch account q ≡ true → IsSome (edited_row vote_cmp votes.now q) → list_any (is_at (vote_cmp q)) keys.items ≡ true) }
+    ensures only { IfOk result (λ keys. (q : VoteKey) → is_of patch account q ≡ false → list_any (is_at (vote_cmp q)) keys.items ≡ false) }
+{
+    let mut keys = Vec::new(alloc);
+    let all = votes.keys(alloc)?;
+    for key in &all {
+        if is_of(key, patch, account) {
+            keys.push(Key::copy(*key, alloc)?)?;
+        }
+    }
+    Ok(keys)
+}
+
 /// Takes away the votes of an account on a patch set.
 pub fn drop_votes(
     alloc: Global,
-    votes: Table<VoteKey, Vote>,
+    votes: &mut Edited<'_, VoteKey, Vote>,
     patch: PatchNo,
     account: AccountNo,
-) -> Result<Table<VoteKey, Vote>, AllocError>
-    ensures { IfOk result (λ after. (n : ℕ) (l : List ℕ) (a : ℕ) → vote_in after n l a ≡ (if (patch == n) && (account == a) then pos 0 else vote_in votes n l a)) }
+) -> Result<(), AllocError>
+    ensures table { votes.new.rows ≡ votes.old.rows }
+    ensures votes { OnOk result ((n : ℕ) (l : List ℕ) (a : ℕ) → edited_vote votes.new n l a ≡ (if (patch == n) && (account == a) then pos 0 else edited_vote votes.old n l a)) }
 {
-    votes.once();
-    let rows = votes.into_rows(alloc)?;
-    let kept = others(alloc, rows, patch, account)?;
-    let mut after = Table::new(alloc);
-    put_all(&mut after, kept)?;
-    Ok(after)
+    let keys = keys_of(alloc, votes, patch, account)?;
+    votes.take_away(keys)
 }
 
 /// Puts votes, one after the other.
 pub fn put_all(
-    votes: &mut Table<VoteKey, Vote>,
+    votes: &mut Edited<'_, VoteKey, Vote>,
     rows: Vec<(VoteKey, Vote)>,
 ) -> Result<(), AllocError>
-    ensures { OnOk result ((q : VoteKey) → row_in vote_cmp (rows_of votes.new) q ≡ put_in vote_cmp rows.items q (row_in vote_cmp (rows_of votes.old) q)) }
+    ensures table { votes.new.rows ≡ votes.old.rows }
+    ensures votes { OnOk result ((q : VoteKey) → edited_row vote_cmp votes.new q ≡ put_in vote_cmp rows.items q (edited_row vote_cmp votes.old q)) }
 {
     for (key, vote) in rows {
-        votes.put(key, vote)?;
+        votes.set(key, Some(vote))?;
     }
     Ok(())
 }

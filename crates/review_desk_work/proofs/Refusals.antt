@@ -1,8 +1,6 @@
 -- The kinds that an error of the command line may have give one fault.
-use Rattle.std.proofs.Common.{◌≡◌, ℕ, Bool, true, false, not, List, [], ◌∷◌, Option, Some, None, zero, suc, inl, inr, refl, sym, ap}
+use Rattle.std.proofs.Common.{◌≡◌, ℕ, Bool, true, false, not, List, [], ◌∷◌, Option, Some, None, zero, suc, inl, inr, refl, sym, ap, ◌&&◌, ◌||◌, codes, if◌then◌else◌, find, length, encode_utf8, drop, is_some, bytes_eq}
 use Rattle.std.specs.{List.list_all, Option.option_map_or}
-use Rattle.std.specs.Prelude.{◌&&◌, ◌||◌, codes, if◌then◌else◌, find, length, encode_utf8, drop, is_some}
-use Rattle.std.specs.Str.{bytes_eq}
 use Rattle.clap.proofs.{OnLiterals.clap_on_literals, WalkLemmas.both}
 use Rattle.clap.specs.Faults.{action_fault, bundle_step_fault, built_fault, count_fault, default_fault, defaults_fault, entered_fault, fault_of, flag_word_fault, flags_fault, level_fault, long_fault, option_fault, other_fault, positional_fault, react_fault, settle_fault, short_fault, step_fault, stray_fault, turn_fault, use_fault, walk_fault, word_fault}
 use Rattle.clap.specs.Kinds.{IsAmong, Kinds, check_kinds, or_else, range_kinds, request_kinds, values_kinds}

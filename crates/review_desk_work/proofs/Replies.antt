@@ -1,6 +1,5 @@
 -- Questions and their replies.
-use Rattle.std.proofs.Common.{◌≡◌, List, [], length, take, sym, subst, arith}
-use Rattle.std.proofs.lemmas.List.{take_all}
+use Rattle.std.proofs.Common.{◌≡◌, List, [], length, take, sym, subst, arith, take_all}
 use Rattle.review_words.specs.declared.{command.Delivery.Delivery, reply.Reply.Reply}
 use Rattle.review_machine_rows.specs.Shelf.{Shown}
 use Rattle.review_machine_deliveries.{proofs.Ran.ran_none, specs.Delivered.WasRun}

@@ -1,6 +1,5 @@
 -- The words of copy conditions, read again.
-use Rattle.std.proofs.Common.{◌≡◌, List, ◌∷◌, ℕ, Option, None, Some, Bool, true, false, cond, option_map, refl, sym, ap, subst, ◌∙◌}
-use Rattle.std.specs.{Prelude.codes, Str.bytes_eq}
+use Rattle.std.proofs.Common.{◌≡◌, List, ◌∷◌, ℕ, Option, None, Some, Bool, true, false, cond, option_map, refl, sym, ap, subst, ◌∙◌, codes, bytes_eq}
 use Rattle.review_names.specs.{Kinds.kind_named, Kinds.kind_name, Names.is_word, declared.kinds.ChangeKind.ChangeKind}
 use Rattle.review_expr_terms.specs.Words.{NoTerm, Reading, Good, Bad}
 use Rattle.review_expr_terms.specs.declared.terms.{CopyTerm.CopyTerm, VoteValue.VoteValue}
@@ -9,9 +8,7 @@ use Rattle.review_expr_spelling.specs.Readings.{◌>>=◌, in_term, in_value, un
 use Rattle.review_expr_spelling.specs.Values.{vote_in, is_met_by_zero}
 use Rattle.review_expr_spelling.specs.Words.{copy_key, copy_value, copy_reading}
 use Rattle.review_expr_spelling.specs.declared.keys.CopyKey.{CopyKey}
-use Rattle.review_expr_printing.proofs.Lacking.{lacks, word_back, value_lacks, bare_quote, keep, keep_both}
-use Rattle.review_expr_printing.proofs.Standing.{quoted_runs}
-use Rattle.review_expr_printing.proofs.WordsPrinted.{small_vote, vote_again, bare_vote}
+use Rattle.review_expr_printing.proofs.Words.{lacks, word_back, value_lacks, bare_quote, keep, keep_both, quoted_runs, small_vote, vote_again, bare_vote}
 use Rattle.review_expr_printing.specs.Written.{vote_text, word_of, copy_word, IsOneWord}
 use Rattle.review_names.specs.Numerals as Steps
 use Rattle.review_expr_terms.specs.declared.terms.Comparison.TheVariants as comparison

@@ -1,6 +1,5 @@
 -- The words of submit requirements, read again.
-use Rattle.std.proofs.Common.{◌≡◌, List, ◌∷◌, ◌++◌, ℕ, Option, None, Some, Bool, true, false, cond, option_map, refl, sym, ap, subst, ◌∙◌}
-use Rattle.std.specs.{Prelude.codes, Str.bytes_eq}
+use Rattle.std.proofs.Common.{◌≡◌, List, ◌∷◌, ◌++◌, ℕ, Option, None, Some, Bool, true, false, cond, option_map, refl, sym, ap, subst, ◌∙◌, codes, bytes_eq}
 use Rattle.review_names.specs.{Forms.is_slashed_name, Forms.is_path, Names.is_word}
 use Rattle.review_expr_terms.specs.{Patterns.is_pattern, Words.NoTerm, Words.Reading, Words.Good, Words.Bad}
 use Rattle.review_expr_terms.specs.declared.terms.{LabelTerm.LabelTerm, RequirementTerm.RequirementTerm}
@@ -12,9 +11,8 @@ use Rattle.review_expr_spelling.specs.Values.{is_met_by_zero}
 use Rattle.review_expr_spelling.specs.Words.{formed, is_component, keyed, pattern_or, requirement_key, requirement_value, requirement_reading, truth_in}
 use Rattle.review_expr_spelling.specs.declared.keys.RequirementKey.{RequirementKey}
 use Rattle.review_expr_printing.proofs.CopyWords.{value_good, formed_good}
-use Rattle.review_expr_printing.proofs.LabelWords.{label_again, label_of_form, label_lacks}
-use Rattle.review_expr_printing.proofs.Lacking.{lacks, word_back, value_lacks, keep, keep_both}
-use Rattle.review_expr_printing.proofs.Standing.{quoted_runs}
+use Rattle.review_expr_printing.proofs.LabelParts.{label_again, label_of_form, label_lacks}
+use Rattle.review_expr_printing.proofs.Words.{lacks, word_back, value_lacks, keep, keep_both, quoted_runs}
 use Rattle.review_expr_printing.specs.Written.{label_text, word_of, requirement_word, IsOneWord}
 use Rattle.review_names.specs.Numerals as Steps
 use Rattle.review_expr_terms.specs.declared.terms.RequirementTerm.TheVariants as requirement

@@ -1,7 +1,6 @@
 -- A word is a label term exactly where it is `label:` and a text that stands for the value of that term.
-use Rattle.std.proofs.Common.{◌≡◌, ℕ, List, [], ◌∷◌, ◌++◌, Bool, true, false, not, cond, Option, None, Some, option_map, refl, sym, ap, ◌∙◌, inl, inr, ◌==◌, arith}
+use Rattle.std.proofs.Common.{◌≡◌, ℕ, List, [], ◌∷◌, ◌++◌, Bool, true, false, not, cond, Option, None, Some, option_map, refl, sym, ap, ◌∙◌, inl, inr, ◌==◌, arith, ◌&&◌, ◌≢◌, codes, bytes_eq}
 use Rattle.std.proofs.lemmas.{Bool.Decides.nat_tests, List.Folds.list_all-append, Slice.Eq.bytes_eq-Decides}
-use Rattle.std.specs.{Prelude.◌&&◌, Prelude.◌≢◌, Prelude.codes, Str.bytes_eq}
 use Rattle.review_names.specs.{Forms.is_slashed_name, Forms.is_path, Names.is_word}
 use Rattle.review_expr_terms.specs.{Patterns.is_pattern, Words.Reading, Words.Good}
 use Rattle.review_expr_terms.specs.declared.terms.{LabelTerm.LabelTerm, RequirementTerm.RequirementTerm}
@@ -12,7 +11,7 @@ use Rattle.review_expr_spelling.specs.Values.{is_met_by_zero}
 use Rattle.review_expr_spelling.specs.Words.{formed, is_component, keyed, pattern_or, requirement_key, requirement_value, requirement_reading, truth_in}
 use Rattle.review_expr_spelling.specs.declared.keys.RequirementKey.{RequirementKey}
 use Rattle.review_expr_printing.proofs.LabelValues.{IsCut, cut_is, label_values}
-use Rattle.review_expr_printing.proofs.Lacking.{lacks, cut_lacking, whole_lacking, value_lacks, keep, keep_both}
+use Rattle.review_expr_printing.proofs.Words.{lacks, cut_lacking, whole_lacking, value_lacks, keep, keep_both}
 use Rattle.review_expr_printing.specs.LabelWords.{StandsFor, IsLabelWord, LabelWordsAreSo}
 use Rattle.review_names.specs.Numerals as Steps
 use Rattle.review_expr_terms.specs.declared.terms.RequirementTerm.TheVariants as requirement

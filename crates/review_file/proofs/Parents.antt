@@ -1,6 +1,5 @@
 -- The parent of a file.
-use Rattle.std.proofs.Common.{◌≡◌, ◌∙◌, ℕ, List, None, cond, sym, ap}
-use Rattle.std.specs.Prelude.{option_and_then}
+use Rattle.std.proofs.Common.{◌≡◌, ◌∙◌, ℕ, List, None, cond, sym, ap, option_and_then}
 use Rattle.toml.specs.{Data.table, Parse.parse_document}
 use Rattle.review_expr.specs.declared.expr.Expr.{Expr}
 use Rattle.review_file_rules.specs.{Reading.IsRead, Reading.named_parent, Spelled.parent_in, View.FileView}

@@ -1,7 +1,6 @@
 -- The range that is granted to an account on a label ends in values of the label.
-use Rattle.std.proofs.Common.{◌≡◌, ℕ, ℤ, pos, Bool, true, false, List, [], ◌∷◌, map, Option, Some, None, refl, cond}
+use Rattle.std.proofs.Common.{◌≡◌, ℕ, ℤ, pos, Bool, true, false, List, [], ◌∷◌, map, Option, Some, None, refl, cond, ◌&&◌, IfSome, filter, find, fold, int_lt}
 use Rattle.std.specs.{Int.int_min, Int.int_max, List.list_all, Option.option_map_or}
-use Rattle.std.specs.Prelude.{◌&&◌, IfSome, filter, find, fold, int_lt}
 use Rattle.review_expr.specs.declared.expr.Expr.{Expr}
 use Rattle.review_file_rules.specs.Rights.{least_of, greatest_of}
 use Rattle.review_file_rules.specs.Sound.{is_value, is_run, is_range, is_sound_label}

@@ -74,7 +74,7 @@ fn content_in(alloc: Global, file: &Value) -> Result<Content, ParseFault>
     })
 }
 
-#[tactic(auto, using(review_file_rules::proofs::Verdicts::least_first))]
+#[tactic(auto, using(review_file_rules::proofs::Together::least_first))]
 fn read_document(alloc: Global, file: &Value) -> Result<Content, ReadFault>
     ensures read { IfOk result (IsFaultless (view file.now)) }
     ensures fault { IfErr result (IsDocumentFault (view file.now)) }

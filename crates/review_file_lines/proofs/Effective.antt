@@ -1,7 +1,6 @@
 -- The effective files of lines.
-use Rattle.std.proofs.Common.{Result, map, length, take, drop, get_or, ◌-◌, ◌≤◌, ◌≡◌, ℕ, List, [], ◌∷◌, refl, subst, sym, suc, arith}
+use Rattle.std.proofs.Common.{Result, map, length, take, drop, get_or, ◌-◌, ◌≤◌, ◌≡◌, ℕ, List, [], ◌∷◌, refl, subst, sym, suc, arith, IfErr, IsErrAnd}
 use Rattle.std.proofs.lemmas.{Grind.common_steps, Result.err_from_is_err_and}
-use Rattle.std.specs.Result.{IfErr, IsErrAnd}
 use Rattle.review_expr.specs.declared.expr.Expr.{Expr}
 use Rattle.review_file_rules.{proofs.Together.never_both, specs.Inherited.IsEffective, specs.Inherited.inherit}
 use Rattle.review_file_rules.specs.{Patterns.HasPattern, Reading.IsRead, Reading.IsReadFault, View.FileView}

@@ -1,9 +1,8 @@
 -- Where a thing is put among others by its name.
-use Rattle.std.proofs.Common.{◌≡◌, ℕ, suc, set, Bool, true, false, Less, Equal, Greater, nat_cmp, is_eq, List, [], ◌∷◌, ◌++◌, cond, refl, ap, sym, ◌∙◌}
+use Rattle.std.proofs.Common.{◌≡◌, ℕ, suc, set, Bool, true, false, Less, Equal, Greater, nat_cmp, is_eq, List, [], ◌∷◌, ◌++◌, cond, refl, ap, sym, ◌∙◌, insert, is_lt, fold, slice_get, bytes_eq}
 use Rattle.std.proofs.lemmas.{Cmp.nat_list_cmp_total, Map.Text.is_eq-slice_cmp}
-use Rattle.std.specs.{Cmp.Lexicographic.slice_cmp, List.insert, Option.option_map_or}
-use Rattle.std.specs.Ordering.{is_lt, match_ordering, ordering_reverse}
-use Rattle.std.specs.{Prelude.fold, Prelude.slice_get, Str.bytes_eq, declared.cmp.Ordering.Ordering}
+use Rattle.std.specs.{Cmp.Lexicographic.slice_cmp, Option.option_map_or}
+use Rattle.std.specs.{Ordering.match_ordering, Ordering.ordering_reverse, declared.cmp.Ordering.Ordering}
 use Rattle.review_file_rules.specs.Inherited.{put_by}
 use Rattle.review_file_lines.specs.inner.Before.{count_before}
 

@@ -1,11 +1,9 @@
 -- Things by their names: what is found among them, that their names ascend, and what stays true of each of them.
-use Rattle.std.proofs.Common.{◌≡◌, ℕ, Bool, true, false, cond, Less, Equal, Greater, nat_cmp, is_eq, List, [], ◌∷◌, ◌++◌, map, filter, Option, Some, None, refl, ap, sym, subst, ◌∙◌}
+use Rattle.std.proofs.Common.{◌≡◌, ℕ, Bool, true, false, cond, Less, Equal, Greater, nat_cmp, is_eq, List, [], ◌∷◌, ◌++◌, map, filter, Option, Some, None, refl, ap, sym, subst, ◌∙◌, find, fold, ◌&&◌, ◌||◌, bytes_eq}
 use Rattle.std.proofs.lemmas.{Cmp.nat_list_cmp_total, Map.Text.is_eq-slice_cmp, Slice.Eq.bytes_eq-Decides}
-use Rattle.std.specs.Cmp.Lexicographic.{slice_cmp}
-use Rattle.std.specs.List.{AllByRecursion, list_all, list_any, Sorted.IsStrictlySortedBy}
-use Rattle.std.specs.{Option.option_or, Ordering.match_ordering, Ordering.ordering_reverse}
-use Rattle.std.specs.Prelude.{find, fold, ◌&&◌, ◌||◌}
-use Rattle.std.specs.{Str.bytes_eq, declared.cmp.Ordering.Ordering}
+use Rattle.std.specs.{Cmp.Lexicographic.slice_cmp, List.AllByRecursion, List.list_all, List.list_any}
+use Rattle.std.specs.{List.Sorted.IsStrictlySortedBy, Option.option_or}
+use Rattle.std.specs.{Ordering.match_ordering, Ordering.ordering_reverse, declared.cmp.Ordering.Ordering}
 use Rattle.review_file_rules.specs.Inherited.{put_by, by_name}
 
 abbrev pub Sorted : List (List ℕ) → Type 0

@@ -1,6 +1,5 @@
 -- A fault's place is below 2^64.
-use Rattle.std.proofs.Common.{◌≡◌, inl, inr, ℕ, ◌≤◌, Bool, true, false, List, [], ◌∷◌, Option, Some, None, arith}
-use Rattle.std.specs.{Bool.MatchBool, Prelude.length, Prelude.nat_lt}
+use Rattle.std.proofs.Common.{◌≡◌, inl, inr, ℕ, ◌≤◌, Bool, true, false, List, [], ◌∷◌, Option, Some, None, arith, MatchBool, length, nat_lt}
 use Rattle.toml.specs.{Data.Members, Data.table, Parse.parse_document}
 use Rattle.review_file_document.specs.Limits.{most_bytes}
 use Rattle.review_words.specs.{Texts.IsPlaced, declared.faults.ExprFault.ExprFault, declared.faults.FileFault.FileFault}

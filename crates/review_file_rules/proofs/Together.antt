@@ -1,29 +1,205 @@
--- What two answers to one text have in common: two files that it spells, a file and a fault, two faults.
-use Rattle.std.proofs.Common.{◌≡◌, ◌⊎◌, inl, inr, ℕ, ℤ, Bool, true, false, List, [], ◌∷◌, Option, Some, None, refl, sym, ap, ap₂, ◌∙◌, subst}
-use Rattle.std.proofs.lemmas.Option.{same_Some}
-use Rattle.std.specs.{Bool.MatchBool, List.list_all, List.list_any, Option.option_map_or}
-use Rattle.std.specs.Prelude.{not, ◌&&◌, ◌||◌, length, nat_lt, is_none}
-use Rattle.std.specs.Str.{bytes_eq}
+-- What two answers to one text have in common.
+use Rattle.std.proofs.Common.{◌≡◌, ℕ, ◌+◌, Bool, true, false, ◌==◌, List, [], ◌∷◌, Option, Some, None, cond, refl, sym, ap, subst, if◌then◌else◌, codes, option_map, IsSomeAnd, bytes_eq, ◌∙◌, length, nat_lt, Result, IfOk, ◌⊎◌, inl, inr, ℤ, ap₂, MatchBool, not, ◌&&◌, ◌||◌, is_none}
+use Rattle.std.proofs.lemmas.{Option.same_Some, Result.IfOk-weaker, Slice.Eq.bytes_eq-Decides}
+use Rattle.std.specs.{List.list_all, List.list_any, Option.option_map_or}
 use Rattle.toml.specs.{Data.Data, Data.Members, Data.table, Parse.parse_document}
 use Rattle.review_names.specs.Forms.{text_set}
-use Rattle.review_expr_terms.specs.Views.{view}
-use Rattle.review_file_document.specs.Limits.{most_bytes}
+use Rattle.review_expr_terms.{proofs.Refused.never_deep, specs.Grammar.Tok, specs.Grammar.Tree, specs.Lexemes.Word}
+use Rattle.review_expr_terms.specs.{Patterns.is_pattern, Patterns.IsDeepPattern, Patterns.IsEnginePattern, Views.view}
+use Rattle.review_expr_terms.specs.Words.{Reading, Good, Bad, NoTerm}
+use Rattle.review_expr_terms.specs.declared.terms.RequirementTerm.{RequirementTerm}
+use Rattle.review_expr_terms.specs.declared.terms.RequirementTerm.TheVariants.{BranchMatches, PathMatches}
+use Rattle.review_file_document.specs.{Keys.has_unknown_key, Keys.lacks_key, Limits.most_bytes, Names.has_bad_name}
+use Rattle.review_file_document.specs.Values.{has_value_twice, has_bad_values}
 use Rattle.review_words.specs.declared.faults.{ExprCode.TheVariants.BadValue, ExprFault.ExprFault, FileFault.FileFault}
 use Rattle.review_words.specs.declared.faults.FileFault.TheVariants.{Toml, UnknownKey, Missing, BadName, Twice, BadValues, UnknownLabel, Limit, Expr as Faulty}
 use Rattle.review_expr_judging.specs.Labels.{labels}
-use Rattle.review_expr_spelling.specs.Words.{requirement_reading, copy_reading, IsDeep}
-use Rattle.review_expr.proofs.{Excluded.bad_value, Excluded.one_tree, OneFault.one_fault}
-use Rattle.review_expr.specs.Exprs.{IsCopyOf, IsRequirementOf, NoWord, labels_in}
-use Rattle.review_expr.specs.{Faults.IsFault, Faults.HasWord, declared.expr.Expr.Expr}
-use Rattle.review_file_rules.proofs.{DeepWords.no_deep_word, Verdicts.all_copies, Verdicts.all_requirements}
-use Rattle.review_file_rules.specs.Expressions.{EachTo, IfThere, AllRead, FirstFault, IsNoCopy, IsNoRequirement, IsLabel, IsRequirement, IsFile, IsStoppedBy, copy_texts, requirement_texts, names_other, requires_other, has_unknown_label}
-use Rattle.review_file_rules.specs.Patterns.{SomeWord, HasDeepPattern}
-use Rattle.review_file_rules.specs.Reading.{first_fault, HasFile, IsFaultless, IsLeast, IsBadValue, IsRefused, IsFileFault, IsRead}
+use Rattle.review_expr_spelling.specs.{Cuts.behind, Cuts.cut_at, Cuts.key_and_value, Readings.◌>>=◌, Readings.in_value}
+use Rattle.review_expr_spelling.specs.Words.{pattern_or, pattern_of, pattern_in, keyed, requirement_value, requirement_reading, IsDeep, IsPattern, copy_reading}
+use Rattle.review_expr_spelling.specs.declared.keys.RequirementKey.{RequirementKey}
+use Rattle.review_expr.proofs.{Excluded.no_flaw, Excluded.bad_value, Excluded.one_tree, OneFault.one_fault}
+use Rattle.review_expr.specs.{Expressions.HasExpr, Exprs.IsCopyOf, Exprs.IsRequirementOf, Exprs.NoWord, Exprs.labels_in}
+use Rattle.review_expr.specs.Faults.{HasWord, IsFault}
+use Rattle.review_expr.specs.Tokens.{operator_by, operator_or, term_token, meaning, is_signed, unsigned, alone, behind_minus, after_minus, opens_at, lexeme_tokens}
+use Rattle.review_expr.specs.declared.expr.Expr.{Expr}
+use Rattle.review_file_rules.specs.Expressions.{EachTo, IfThere, AllRead, IsLabel, IsRequirement, copy_texts, requirement_texts, with_text, FirstFault, IsNoCopy, IsNoRequirement, IsFile, IsStoppedBy, names_other, requires_other, has_unknown_label}
+use Rattle.review_file_rules.specs.Patterns.{SomeWord, HasDeepPattern, HasPattern}
+use Rattle.review_file_rules.specs.Reading.{first_fault, IsLeast, IsFaultless, IsRead, HasFile, IsBadValue, IsRefused, IsFileFault, IsReadFault}
 use Rattle.review_file_rules.specs.Rights.{covers, is_covered, has_values}
 use Rattle.review_file_rules.specs.{Spelled.spelled, View.LabelView, View.RequirementView, View.FileView}
-use Rattle.review_file_rules.specs.declared.fault.ReadFault.TheVariants.{File}
+use Rattle.review_file_rules.specs.declared.fault.ReadFault.{ReadFault, TheVariants.File, TheVariants.Pattern}
+use Rattle.review_expr_spelling.specs.declared.keys.RequirementKey.TheVariants as key
 use Rattle.review_expr.specs.declared.expr.Expr.TheVariants as expr
 use Rattle.review_expr.specs.declared.fault.ParseFault.TheVariants as parse
+
+-- ==== no word of an expression has a pattern that nests too deep: it would be one, and none
+
+by_form : (b : Bool) (re : List ℕ) (term : List ℕ → RequirementTerm) (a : RequirementTerm) → in_value (option_map term (cond b (Some re) None)) ≡ Good a → b ≡ true
+by_form true re term a good = refl
+by_form false re term a good = absurd (let none = good in cc)
+
+-- a value that is a term has a pattern, where it begins as one
+value_by : (o : Option (List ℕ)) (term : List ℕ → RequirementTerm) (other : Option RequirementTerm) (a : RequirementTerm) → pattern_or o term other ≡ Good a →
+    IsSomeAnd o IsDeepPattern → IsSomeAnd o IsEnginePattern
+value_by (Some re) term other a good deep = by_form (is_pattern re) re term a good
+value_by None term other a good deep = deep
+
+value_pattern : (k : RequirementKey) (value : List ℕ) (a : RequirementTerm) → requirement_value k value ≡ Good a →
+    IsSomeAnd (pattern_of k value) IsDeepPattern → IsSomeAnd (pattern_of k value) IsEnginePattern
+unfolding requirement_value
+value_pattern key.Branch value a good deep = value_by (behind (codes "^") value) BranchMatches _ a good deep
+value_pattern key.Path value a good deep = value_by (behind (codes "^") value) PathMatches _ a good deep
+value_pattern key.File value a good deep = value_by (behind (codes "^") value) PathMatches _ a good deep
+value_pattern key.Is value a good deep = deep
+value_pattern key.Label value a good deep = deep
+value_pattern key.UploaderIn value a good deep = deep
+value_pattern key.OwnerIn value a good deep = deep
+value_pattern key.Has value a good deep = deep
+
+halves_pattern : (r : Reading (RequirementKey × List ℕ)) (a : RequirementTerm) → (r >>= (λ halves. requirement_value halves.0 halves.1)) ≡ Good a →
+    IsSomeAnd (pattern_in r) IsDeepPattern → IsSomeAnd (pattern_in r) IsEnginePattern
+halves_pattern (Good halves) a good deep = value_pattern halves.0 halves.1 a good deep
+halves_pattern (Bad flaw) a good deep = deep
+
+-- a word that is a term has a pattern, where its pattern nests too deep
+term_pattern : (w : List ℕ) (a : RequirementTerm) → requirement_reading w ≡ Good a → IsDeep w → IsPattern w
+unfolding requirement_reading
+term_pattern w a good deep = halves_pattern (keyed w) a good deep
+
+-- an operator has no pattern, nor has the empty word
+no_and : IsDeep (codes "AND") → ⊥
+unfolding keyed key_and_value cut_at
+no_and deep = deep
+
+no_or : IsDeep (codes "OR") → ⊥
+unfolding keyed key_and_value cut_at
+no_or deep = deep
+
+no_not : IsDeep (codes "NOT") → ⊥
+unfolding keyed key_and_value cut_at
+no_not deep = deep
+
+no_nothing : IsDeep [] → ⊥
+unfolding keyed key_and_value cut_at
+no_nothing deep = deep
+
+same_word : (w v : List ℕ) → bytes_eq w v ≡ true → w ≡ v
+same_word w v h = (bytes_eq-Decides w v).0 h
+
+token_pattern : (w : List ℕ) (r : Reading RequirementTerm) (t : Tok RequirementTerm) → requirement_reading w ≡ r → term_token r ≡ Good t → IsDeep w → IsPattern w
+token_pattern w (Good a) t is good deep = term_pattern w a is deep
+token_pattern w (Bad flaw) t is good deep = absurd (let none = good in cc)
+
+operator_pattern : (w : List ℕ) (is_and is_or is_not : Bool) (t : Tok RequirementTerm) →
+    bytes_eq w (codes "AND") ≡ is_and → bytes_eq w (codes "OR") ≡ is_or → bytes_eq w (codes "NOT") ≡ is_not →
+    operator_or (operator_by is_and is_or is_not) (requirement_reading w) ≡ Good t → IsDeep w → IsPattern w
+operator_pattern w true is_or is_not t is or not good deep = absurd (no_and (subst IsDeep (same_word w (codes "AND") is) deep))
+operator_pattern w false true is_not t is or not good deep = absurd (no_or (subst IsDeep (same_word w (codes "OR") or) deep))
+operator_pattern w false false true t is or not good deep = absurd (no_not (subst IsDeep (same_word w (codes "NOT") not) deep))
+operator_pattern w false false false t is or not good deep = token_pattern w (requirement_reading w) t refl good deep
+
+meaning_pattern : (w : List ℕ) (t : Tok RequirementTerm) → meaning requirement_reading w ≡ Good t → IsDeep w → IsPattern w
+meaning_pattern w t good deep = operator_pattern w (bytes_eq w (codes "AND")) (bytes_eq w (codes "OR")) (bytes_eq w (codes "NOT")) t refl refl refl good deep
+
+alone_pattern : (w : List ℕ) (r : Reading (Tok RequirementTerm)) (ts : List (Tok RequirementTerm)) → meaning requirement_reading w ≡ r → alone r ≡ Good ts → IsDeep w → IsPattern w
+alone_pattern w (Good t) ts is good deep = meaning_pattern w t is deep
+alone_pattern w (Bad flaw) ts is good deep = absurd (let none = good in cc)
+
+behind_pattern : (w : List ℕ) (r : Reading (Tok RequirementTerm)) (ts : List (Tok RequirementTerm)) → meaning requirement_reading w ≡ r → behind_minus r ≡ Good ts → IsDeep w → IsPattern w
+behind_pattern w (Good t) ts is good deep = meaning_pattern w t is deep
+behind_pattern w (Bad flaw) ts is good deep = absurd (let none = good in cc)
+
+second_pattern : (b : Bool) (w : List ℕ) (ts : List (Tok RequirementTerm)) → (if b then Bad NoTerm else behind_minus (meaning requirement_reading w)) ≡ Good ts → IsDeep w → IsPattern w
+second_pattern true w ts good deep = absurd (let none = good in cc)
+second_pattern false w ts good deep = behind_pattern w (meaning requirement_reading w) ts refl good deep
+
+after_pattern : (opens : Bool) (w : List ℕ) (ts : List (Tok RequirementTerm)) → after_minus requirement_reading opens w ≡ Good ts → IsDeep w → IsPattern w
+after_pattern opens [] ts good deep = absurd (no_nothing deep)
+after_pattern opens (c ∷ cs) ts good deep = second_pattern (c == 45) (c ∷ cs) ts good deep
+
+bare : (w : List ℕ) → is_signed w ≡ false → unsigned w ≡ w
+bare [] h = refl
+bare (c ∷ cs) h = ap (λ b. (if b then cs else c ∷ cs)) h
+
+word_pattern : (opens signed : Bool) (w : List ℕ) (ts : List (Tok RequirementTerm)) → is_signed w ≡ signed →
+    (if signed then after_minus requirement_reading opens (unsigned w) else alone (meaning requirement_reading w)) ≡ Good ts → IsDeep (unsigned w) → IsPattern (unsigned w)
+word_pattern opens true w ts is good deep = after_pattern opens (unsigned w) ts good deep
+word_pattern opens false w ts is good deep =
+    let same = bare w is in subst IsPattern (sym same) (alone_pattern w (meaning requirement_reading w) ts refl good (subst IsDeep same deep))
+
+deep_or_engine : (o : Option (List ℕ)) → IsSomeAnd o IsDeepPattern → IsSomeAnd o IsEnginePattern → ⊥
+deep_or_engine None deep is = deep
+deep_or_engine (Some re) deep is = never_deep re deep is
+
+-- in a text that is an expression there is no such word
+pub no_deep_word : (text : List ℕ) (t : Tree RequirementTerm) (place : ℕ) → HasExpr requirement_reading text t → HasWord requirement_reading IsDeep text place → ⊥
+no_deep_word text t place is (w, after, reached, deep) = by (lexeme_tokens requirement_reading (Word place w) after) refl
+  where
+    by : (r : Reading (List (Tok RequirementTerm))) → lexeme_tokens requirement_reading (Word place w) after ≡ r → ⊥
+    by (Good ts) good = deep_or_engine (pattern_in (keyed (unsigned w))) deep (word_pattern (opens_at (place + 1) after) (is_signed w) w ts refl good deep)
+    by (Bad flaw) bad = no_flaw requirement_reading text is.0 place flaw is.1 (w, after, reached, bad)
+
+-- ==== how the faults of a document follow one another
+
+-- the faults that a document has whatever its expressions are
+abbrev is_early : FileFault → Bool
+is_early (Faulty e) = false
+is_early UnknownLabel = false
+is_early Limit = false
+is_early f = true
+
+one_of_five : (a b c d e : Bool) →
+    option_map_or is_early (if a then Some UnknownKey else if b then Some Missing else if c then Some BadName else if d then Some Twice else if e then Some BadValues else None) true ≡ true
+one_of_five true b c d e = refl
+one_of_five false true c d e = refl
+one_of_five false false true d e = refl
+one_of_five false false false true e = refl
+one_of_five false false false false true = refl
+one_of_five false false false false false = refl
+
+early : (file : Data) (f : FileFault) → first_fault file ≡ Some f → is_early f ≡ true
+early file f h = sym (ap (λ o. option_map_or is_early o true) h) ∙ one_of_five (has_unknown_key file) (lacks_key file) (has_bad_name file) (has_value_twice file) (has_bad_values file)
+
+-- a first fault is the least
+pub least_first : (file : Data) (f : FileFault) → first_fault file ≡ Some f → IsLeast file f
+least_first file Toml h = h
+least_first file UnknownKey h = h
+least_first file Missing h = h
+least_first file BadName h = h
+least_first file Twice h = h
+least_first file BadValues h = h
+least_first file (Faulty e) h = absurd (let none : false ≡ true = early file (Faulty e) h in cc)
+least_first file UnknownLabel h = absurd (let none : false ≡ true = early file UnknownLabel h in cc)
+least_first file Limit h = absurd (let none : false ≡ true = early file Limit h in cc)
+
+with_read : (Is : List ℕ → Expr → Type 0) (o : Option (List ℕ)) (e : Option Expr) (rest : List (List ℕ)) → IfThere Is o e → AllRead Is rest → AllRead Is (with_text o rest)
+with_read Is None None rest is all = all
+with_read Is (Some text) (Some e) rest is all = ((e, is), all)
+with_read Is None (Some e) rest is all = absurd is
+with_read Is (Some text) None rest is all = absurd is
+
+-- the copy conditions of labels that were read are expressions
+pub all_copies : (ps : List (LabelView (List ℕ))) (ls : List (LabelView Expr)) → EachTo IsLabel ps ls → AllRead IsCopyOf (copy_texts ps)
+all_copies [] [] each = tt
+all_copies (p ∷ ps) (l ∷ ls) each = with_read IsCopyOf p.copy_condition l.copy_condition (copy_texts ps) each.0.3 (all_copies ps ls each.1)
+all_copies [] (l ∷ ls) each = absurd each
+all_copies (p ∷ ps) [] each = absurd each
+
+-- and so are the expressions of requirements that were read
+pub all_requirements : (ps : List (RequirementView (List ℕ))) (rs : List (RequirementView Expr)) → EachTo IsRequirement ps rs → AllRead IsRequirementOf (requirement_texts ps)
+all_requirements [] [] each = tt
+all_requirements (p ∷ ps) (r ∷ rs) each =
+    with_read IsRequirementOf p.applicable_if r.applicable_if _ each.0.3
+    ((r.submittable_if, each.0.4), with_read IsRequirementOf p.override_if r.override_if (requirement_texts ps) each.0.5 (all_requirements ps rs each.1))
+all_requirements [] (r ∷ rs) each = absurd each
+all_requirements (p ∷ ps) [] each = absurd each
+
+-- a text whose document has no fault is read
+pub read_text : {X : Type 0} (text : List ℕ) (ms : Members) (file : Data) (r : Result (FileView Expr) X) → nat_lt most_bytes (length text) ≡ false → parse_document text ≡ Some ms → file ≡ table ms →
+    IfOk r (IsFaultless file) → IfOk r (IsRead text)
+read_text text ms file r short parsed same ok = IfOk-weaker r (IsFaultless file) (IsRead text) (λ f h. (short, (ms, parsed, rw same at h))) ok
+
+-- ==== what two answers to one text have in common: two files that it spells, a file and a fault, two faults
 
 -- ---- labels of two files that one document spells
 
@@ -273,3 +449,30 @@ one_by false text x y h k = one_refused (parse_document text) text x y refl h k
 -- of two different faults of a text one is a bad value, for a pattern that nests too deep
 pub one_refusal : (text : List ℕ) (x y : FileFault) → IsFileFault text x → IsFileFault text y → (x ≡ y) ⊎ ((IsBadValue x ⊎ IsBadValue y) × HasDeepPattern text)
 one_refusal text x y h k = one_by (nat_lt most_bytes (length text)) text x y h k
+
+-- ==== a text that is refused for a pattern spells one
+
+-- no copy condition is refused for a pattern
+no_copy : (texts : List (List ℕ)) → FirstFault IsCopyOf IsNoCopy texts parse.Pattern → ⊥
+no_copy [] first = first
+no_copy (text ∷ texts) (inl word) = word.1.3
+no_copy (text ∷ texts) (inr first) = no_copy texts first.1
+
+-- a requirement's expression that is refused for a pattern has one
+some_requirement : (texts : List (List ℕ)) → FirstFault IsRequirementOf IsNoRequirement texts parse.Pattern → SomeWord IsPattern texts
+some_requirement [] first = first
+some_requirement (text ∷ texts) (inl word) = inl word
+some_requirement (text ∷ texts) (inr first) = inr (some_requirement texts first.1)
+
+refused_by : (o : Option Members) (text : List ℕ) → parse_document text ≡ o → IsRefused o Pattern → HasPattern text
+refused_by None text parsed refused = absurd (let none : Pattern ≡ File Toml = refused in cc)
+refused_by (Some ms) text parsed refused =
+    (ms, parsed, elim refused.1 [ inl first ↦ absurd (no_copy _ first) | inr requirements ↦ some_requirement _ requirements.1 ])
+
+read_by : (long : Bool) (text : List ℕ) → MatchBool long (Pattern ≡ File Limit) (IsRefused (parse_document text) Pattern) → HasPattern text
+read_by true text refused = absurd (let none : Pattern ≡ File Limit = refused in cc)
+read_by false text refused = refused_by (parse_document text) text refl refused
+
+pub pattern_spelled : (text : List ℕ) (fault : ReadFault) → IsReadFault text fault → fault ≡ Pattern → HasPattern text
+pattern_spelled text fault refused is =
+    let P : ReadFault → Type 0 = λ f. IsReadFault text f in read_by (nat_lt most_bytes (length text)) text (subst P is refused)

@@ -1,12 +1,4 @@
 pub mod Given
-pub mod Written
 pub mod Insert
-pub mod Segmented
 pub mod Whole
-pub mod Digits
-pub mod Judging
-pub mod Longer
 pub mod Telling
-pub mod Nothing
-pub mod One
-pub mod Waiting

@@ -24,6 +24,7 @@ pub fn nothing_calls_for_nothing()
 {}
 
 /// Such an input is told as empty, unless the reader failed or memory ran out.
+#[tactic(auto, using(crate::proofs::Telling::empty))]
 pub fn nothing_is_empty()
     ensures { NothingIsEmpty }
 {}

@@ -1,16 +1,89 @@
 -- The answers to lines, one by one.
-use Rattle.std.proofs.Common.{◌≡◌, ◌++◌, ◌&&◌, Bool, true, false, ℕ, List, [], ◌∷◌, length, refl, Option, arith, sym, ap, subst, ◌∙◌, append_assoc, append-nil, length-append}
-use Rattle.std.{proofs.KnownBytes.Appends-nil, proofs.KnownBytes.Appends-trans, specs.Io.KnownBytes.Appends}
-use Rattle.std.specs.Prelude.{Result, Ok, Err, IfOk, OnOk}
-use Rattle.std.specs.declared.alloc.AllocError.{AllocError}
+use Rattle.std.proofs.Common.{◌≡◌, ◌<◌, ◌++◌, ◌==◌, ℕ, List, [], ◌∷◌, length, refl, false, Option, Some, None, arith, sym, ap, ◌∙◌, append_assoc, append-nil, inl, inr, subst, suc, ◌&&◌, Bool, true, length-append, Result, Ok, Err, IfOk, OnOk, take, drop, take-append-drop, IfErr, IsErrAnd, ◌+◌, ◌≤◌, length-take-le}
+use Rattle.std.proofs.KnownBytes.{Appends-nil, Appends-trans}
+use Rattle.std.proofs.{Math.Seq.take-append-add, lemmas.Bool.Decides.nat_tests}
+use Rattle.std.specs.{Io.KnownBytes.IsAtEnd, Io.KnownBytes.Appends, declared.alloc.AllocError.AllocError}
 use Rattle.review_words.specs.declared.{command.Delivery.Delivery, reply.Reply.Reply}
 use Rattle.review_machine_rows.specs.Shelf.{Shown}
 use Rattle.review_machine_deliveries.{proofs.Ran.ran_none, proofs.Ran.ran-append, specs.Delivered.WasRun}
-use Rattle.review_json_lines.proofs.LinesOf.{GaveLines, gave_more, gave_none}
-use Rattle.review_json_lines.specs.Answers.{asked, with_asked, deliveries, answered, answers, bad_line, reply_line, is_taken, is_done, all_done}
-use Rattle.review_json_lines.specs.{Lines.HasNoEnd, Lines.GaveLine, declared.apply.Asked.Asked}
+use Rattle.review_json_lines.specs.Answers.{lines_of, HasLines, HasFirst, asked, with_asked, deliveries, answered, answers, bad_line, reply_line, is_taken, is_done, all_done, IsPartOf, IsLeftBy}
+use Rattle.review_json_lines.specs.{Lines.HasNoEnd, Lines.GaveLine, Lines.line_feed, declared.apply.Asked.Asked}
 use Rattle.review_json_lines.specs.declared.apply.Asked.TheVariants.{Nothing, Unreadable, Asks}
+use Rattle.review_json_lines.specs.declared.fault.Fault.{Fault}
+use Rattle.review_json_lines.specs.declared.fault.Fault.TheVariants.{Memory, Input, Output}
 use Rattle.review_json_lines.specs.{declared.fault.Outcome.Outcome, inner.Words.IsRunOf}
+
+-- ==== the lines of an input, one by one
+
+-- an input began with these lines
+abbrev pub GaveLines : Option (List ℕ) → Option (List ℕ) → List (List ℕ) → Type 0
+GaveLines None new lines = Unit {0}
+GaveLines (Some xs) None lines = ⊥
+GaveLines (Some xs) (Some ys) lines = lines_of xs ≡ lines ++ lines_of ys
+
+differs : (b : ℕ) → (b ≡ line_feed → ⊥) → (b == line_feed) ≡ false
+differs b other = grind (arith, nat_tests)
+
+tail : (b : ℕ) (bytes : List ℕ) → HasNoEnd (b ∷ bytes) → HasNoEnd bytes
+tail b bytes plain = λ k d lt is. plain (suc k) d (omega (arith, lt)) is
+
+head : (b : ℕ) (bytes : List ℕ) → HasNoEnd (b ∷ bytes) → (b == line_feed) ≡ false
+head b bytes plain = differs b (plain 0 0 (omega arith))
+
+-- a line and what comes after its end
+line_then : (bytes rest : List ℕ) → HasNoEnd bytes → lines_of (bytes ++ line_feed ∷ rest) ≡ bytes ∷ lines_of rest
+line_then [] rest plain = refl
+line_then (b ∷ bytes) rest plain = rw (head b bytes plain, line_then bytes rest (tail b bytes plain))
+
+-- a last line without its end
+last_line : (bytes : List ℕ) → HasNoEnd bytes → 0 < length bytes → lines_of bytes ≡ bytes ∷ []
+last_line [] plain some = absurd (omega (arith, some))
+last_line (b ∷ []) plain some = rw (head b [] plain)
+last_line (b ∷ (c ∷ bytes)) plain some = rw (head b (c ∷ bytes) plain, last_line (c ∷ bytes) (tail b (c ∷ bytes) plain) (omega arith))
+
+one_line : (ys zs bytes : List ℕ) → HasNoEnd bytes → GaveLine (Some ys) (Some zs) bytes → lines_of ys ≡ bytes ∷ lines_of zs
+one_line ys zs bytes plain (inl gave) = ap lines_of (gave ∙ append_assoc bytes (line_feed ∷ []) zs) ∙ line_then bytes zs plain
+one_line ys zs bytes plain (inr gave) =
+    let whole : ys ≡ bytes = gave.0 ∙ (ap (λ l. bytes ++ l) gave.1 ∙ append-nil bytes) in
+    ap lines_of whole ∙ (last_line bytes plain gave.2 ∙ ap (λ l. bytes ∷ lines_of l) (sym gave.1))
+
+no_line : (ys bytes : List ℕ) → GaveLine (Some ys) None bytes → ⊥
+no_line ys bytes (inl gave) = gave
+no_line ys bytes (inr gave) = gave.0
+
+-- one line more
+pub gave_more : (i l m : Option (List ℕ)) (lines : List (List ℕ)) (bytes : List ℕ) → GaveLines i l lines → HasNoEnd bytes → GaveLine l m bytes → GaveLines i m (lines ++ bytes ∷ [])
+gave_more None l m lines bytes was plain gave = tt
+gave_more (Some xs) None m lines bytes was plain gave = absurd was
+gave_more (Some xs) (Some ys) None lines bytes was plain gave = absurd (no_line ys bytes gave)
+gave_more (Some xs) (Some ys) (Some zs) lines bytes was plain gave =
+    was ∙ (ap (λ l. lines ++ l) (one_line ys zs bytes plain gave) ∙ sym (append_assoc lines (bytes ∷ []) (lines_of zs)))
+
+pub gave_all : (i l : Option (List ℕ)) (lines : List (List ℕ)) → GaveLines i l lines → IsAtEnd l → HasLines i lines
+gave_all None l lines was end = tt
+gave_all (Some xs) None lines was end = absurd was
+gave_all (Some xs) (Some ys) lines was end = was ∙ (ap (λ l. lines ++ lines_of l) end ∙ append-nil lines)
+
+pub gave_first : (i l : Option (List ℕ)) (lines : List (List ℕ)) → GaveLines i l lines → HasFirst i lines
+gave_first None l lines was = tt
+gave_first (Some xs) None lines was = absurd was
+gave_first (Some xs) (Some ys) lines was = (lines_of ys, was)
+
+same_lines : (i l : Option (List ℕ)) → l ≡ i → GaveLines i i [] → GaveLines i l []
+same_lines i l same was = subst (λ (m : Option (List ℕ)). GaveLines i m []) (sym same) was
+
+none_yet : (i : Option (List ℕ)) → GaveLines i i []
+none_yet None = tt
+none_yet (Some xs) = refl
+
+pub gave_none : (i l : Option (List ℕ)) → l ≡ i → GaveLines i l []
+gave_none i l same = same_lines i l same (none_yet i)
+
+pub nothing_first : (i : Option (List ℕ)) → HasFirst i []
+nothing_first None = tt
+nothing_first (Some xs) = (lines_of xs, refl)
+
+-- ==== the answers to lines, one by one
 
 -- These lines were read, what they ask for was done, and their answers were sent or wait.
 pub record AreAnswered (lines : List (List ℕ)) (replies : List Reply) (complete : Bool) (input left before after : Option (List ℕ)) (waiting : List ℕ) (old new : Shown) : Type 0 where
@@ -161,3 +234,99 @@ did_one a d r s t Q same ran q = subst (λ (x : Asked). Did x s t Q) same (r ∷
 pub if_told : (r : Result Outcome AllocError) (A B : Type 0) (T U : Outcome → Type 0) → OnOk r A → IfOk r T → (A → B) → ((o : Outcome) → T o → U o) → IfOk r (λ o. B × U o)
 if_told (Ok o) A B T U a t f g = (f a, g o t)
 if_told (Err e) A B T U a t f g = tt
+
+-- ==== what a fault leaves of the answers
+
+-- a first part by its length
+pub taken_part : (n : ℕ) (bytes : List ℕ) → IsPartOf (take n bytes) bytes
+taken_part n bytes = (drop n bytes, sym (take-append-drop n bytes))
+
+pub whole_part : (bytes : List ℕ) → IsPartOf bytes bytes
+whole_part bytes = ([], sym (append-nil bytes))
+
+-- a first part of what comes after others
+part_after : (front text whole : List ℕ) → IsPartOf text whole → IsPartOf (front ++ text) (front ++ whole)
+part_after front text whole part = (part.0, ap (λ l. front ++ l) part.1 ∙ sym (append_assoc front text part.0))
+
+part_of_part : (a b c : List ℕ) → IsPartOf a b → IsPartOf b c → IsPartOf a c
+part_of_part a b c one two = (one.0 ++ two.0, two.1 ∙ ap (λ l. l ++ two.0) one.1 ∙ append_assoc a one.0 two.0)
+
+-- the answer to one line, and a first part of those to the later ones
+answered_part : (a : Asked) (rs : List Reply) (few all : List Reply → List ℕ) → ((ss : List Reply) → IsPartOf (few ss) (all ss)) → IsPartOf (answered a rs few) (answered a rs all)
+answered_part Nothing rs few all part = part rs
+answered_part Unreadable rs few all part = part_after bad_line _ _ (part rs)
+answered_part (Asks d) [] few all part = whole_part []
+answered_part (Asks d) (r ∷ rs) few all part = part_after (reply_line r) _ _ (part rs)
+
+-- the answers to the first lines are a first part of those to all
+answers_part : (before last : List (List ℕ)) (rs : List Reply) → IsPartOf (answers before rs) (answers (before ++ last) rs)
+answers_part [] last rs = (answers last rs, refl)
+answers_part (line ∷ before) last rs = answered_part (asked line) rs (answers before) (answers (before ++ last)) (answers_part before last)
+
+-- what any fault leaves is a first part of the answers
+left_part : (fault : Fault) (lines : List (List ℕ)) (rs : List Reply) (text : List ℕ) → IsLeftBy fault lines rs text → IsPartOf text (answers lines rs)
+left_part Input lines rs text left = ([], sym (append-nil text ∙ left))
+left_part Memory lines rs text left =
+    let P : List (List ℕ) → Type 0 = λ all. IsPartOf text (answers all rs) in
+    let Q : List ℕ → Type 0 = λ t. IsPartOf t (answers (left.0 ++ left.1) rs) in
+    subst P (sym left.2) (subst Q (sym left.4) (answers_part left.0 left.1 rs))
+left_part Output lines rs text left = left
+
+-- what waits is sent in part
+pub sent_less : (sent part waiting whole : List ℕ) → IsPartOf part waiting → IsPartOf (sent ++ waiting) whole → IsPartOf (sent ++ part) whole
+sent_less sent part waiting whole less all = part_of_part _ _ _ (part_after sent part waiting less) all
+
+-- whether a fault came or not, what is left is a first part of the answers
+pub part_either : (P Q : Outcome → Type 0) (end : Result Outcome Fault) (lines : List (List ℕ)) (rs : List Reply) (text : List ℕ) →
+    IfOk end (λ o. P o × (text ≡ answers lines rs) × Q o) → IfErr end (λ f. IsLeftBy f lines rs text) → IsPartOf text (answers lines rs)
+part_either P Q (Ok o) lines rs text whole left = ([], sym (append-nil text ∙ whole.1))
+part_either P Q (Err f) lines rs text whole left = left_part f lines rs text left
+
+-- all lines are answered, whatever the fault
+pub all_left : (f : Fault) (lines : List (List ℕ)) (rs : List Reply) (text : List ℕ) → text ≡ answers lines rs → IsLeftBy f lines rs text
+all_left Input lines rs text whole = whole
+all_left Memory lines rs text whole = (lines, [], sym (append-nil lines), omega arith, whole)
+all_left Output lines rs text whole = ([], sym (append-nil text ∙ whole))
+
+-- all lines but one are answered
+pub memory_left : (f : Fault) (lines : List (List ℕ)) (line : List ℕ) (rs qs : List Reply) (text : List ℕ) → f ≡ Memory → length rs ≡ length (deliveries lines)
+    → text ≡ answers lines rs → IsLeftBy f (lines ++ line ∷ []) (rs ++ qs) text
+memory_left f lines line rs qs text is count whole =
+    let same : answers (lines ++ []) (rs ++ qs) ≡ answers lines rs = answers-append lines [] qs rs count ∙ append-nil (answers lines rs) in
+    let kept : answers lines (rs ++ qs) ≡ answers lines rs = ap (λ l. answers l (rs ++ qs)) (sym (append-nil lines)) ∙ same in
+    subst (λ (x : Fault). IsLeftBy x (lines ++ line ∷ []) (rs ++ qs) text) (sym is) (lines, line ∷ [], refl, omega arith, whole ∙ sym kept)
+
+-- what waited was sent in part, and the rest is lost
+pub output_left : (f : Fault) (lines : List (List ℕ)) (rs : List Reply) (sent part waiting rest : List ℕ) → f ≡ Output → IsPartOf part waiting
+    → sent ++ waiting ≡ answers lines rs → rest ≡ [] → IsLeftBy f lines rs ((sent ++ part) ++ rest)
+output_left f lines rs sent part waiting rest is less whole none =
+    let all : IsPartOf (sent ++ waiting) (answers lines rs) = ([], sym (append-nil (sent ++ waiting) ∙ whole)) in
+    let text : (sent ++ part) ++ rest ≡ sent ++ part = ap (λ l. (sent ++ part) ++ l) none ∙ append-nil (sent ++ part) in
+    let P : List ℕ → Type 0 = λ t. IsPartOf t (answers lines rs) in
+    subst (λ (x : Fault). IsLeftBy x lines rs ((sent ++ part) ++ rest)) (sym is) (subst P (sym text) (sent_less sent part waiting _ less all))
+
+pub part_left : (f : Fault) (lines : List (List ℕ)) (rs : List Reply) (text : List ℕ) → f ≡ Output → IsPartOf text (answers lines rs) → IsLeftBy f lines rs text
+part_left f lines rs text is part = subst (λ (x : Fault). IsLeftBy x lines rs text) (sym is) part
+
+-- what is so of the fault that came
+pub if_err : (P Q : Fault → Type 0) (end : Result Outcome Fault) → IsErrAnd end P → ((f : Fault) → P f → Q f) → IfErr end Q
+if_err P Q (Ok o) came so = tt
+if_err P Q (Err f) came so = so f came
+
+-- all lines are answered, whether a fault came or not
+pub any_left : (end : Result Outcome Fault) (lines : List (List ℕ)) (rs : List Reply) (text : List ℕ) → text ≡ answers lines rs → IfErr end (λ f. IsLeftBy f lines rs text)
+any_left (Ok o) lines rs text whole = tt
+any_left (Err f) lines rs text whole = all_left f lines rs text whole
+
+-- ==== bytes that were written in two steps
+
+take_two : (a n : ℕ) (bs : List ℕ) → a ≤ length bs → take (a + n) bs ≡ take a bs ++ take n (drop a bs)
+take_two a n bs within =
+    let len : length (take a bs) ≡ a = length-take-le a bs within in
+    let e : take (length (take a bs) + n) (take a bs ++ drop a bs) ≡ take a bs ++ take n (drop a bs) = take-append-add (take a bs) (drop a bs) n in
+    let P : ℕ → Type 0 = λ m. take (m + n) (take a bs ++ drop a bs) ≡ take a bs ++ take n (drop a bs) in
+    let Q : List ℕ → Type 0 = λ l. take (a + n) l ≡ take a bs ++ take n (drop a bs) in
+    subst Q (take-append-drop a bs) (subst P len e)
+
+pub wrote_more : (x y z : Option (List ℕ)) (a n : ℕ) (bs : List ℕ) → a ≤ length bs → Appends x y (take a bs) → Appends y z (take n (drop a bs)) → Appends x z (take (a + n) bs)
+wrote_more x y z a n bs within before more = subst (λ (l : List ℕ). Appends x z l) (sym (take_two a n bs within)) (Appends-trans x y z _ _ before more)

@@ -1,10 +1,13 @@
--- Lines that were begun, and how they end.
-use Rattle.std.proofs.Common.{◌≡◌, ◌≢◌, ◌<◌, ◌++◌, ◌==◌, ℕ, List, [], ◌∷◌, length, refl, true, false, Option, Some, None, arith, sym, subst, append-nil, inr}
-use Rattle.std.proofs.KnownBytes.{Consumes-trans}
-use Rattle.std.proofs.lemmas.{Bool.eqb-true, Bool.Decides.nat_tests, List.Elements.All-append}
+-- Lines that were begun, in parts.
+use Rattle.std.proofs.Common.{◌≡◌, ◌≢◌, ◌<◌, ◌++◌, ◌==◌, ℕ, List, [], ◌∷◌, length, refl, true, false, Option, Some, None, arith, sym, subst, append-nil, inr, eqb-true, ◌≤◌, ◌+◌, ◌-◌, take, drop, ap, ◌∙◌, slice_range, drop-cons, drop-drop, add-one, length-take, eq-eqb, get_or-take, take-append-drop, is_some}
+use Rattle.std.proofs.{KnownBytes.Consumes-trans, lemmas.Bool.Decides.nat_tests}
+use Rattle.std.proofs.lemmas.List.{get_or_default, drop-take, Elements.All-append}
 use Rattle.std.specs.Io.KnownBytes.{Consumes, IsAtEnd, prepend_known}
-use Rattle.review_json_lines.specs.Lines.{IsLineOf, HasNoEnd, IsNext, line_feed}
+use Rattle.memchr.specs.Find.{IsFirstByte, is_byte}
+use Rattle.review_json_lines.specs.Lines.{IsLineOf, HasNoEnd, IsNext, line_feed, HoldsEnd}
 use Rattle.review_json_lines.specs.{declared.lines.Line.Line, inner.Words.GavePart}
+
+-- ==== lines that were begun, and how they end
 
 -- a line that was begun has these bytes so far
 abbrev pub IsBegun : Option (List ℕ) → Option (List ℕ) → Line → Type 0
@@ -55,3 +58,36 @@ pub filled : (r s : Option (List ℕ)) (old new : List ℕ) → old ≡ [] → C
 filled None s old new empty gave = tt
 filled (Some xs) None old new empty gave = gave
 filled (Some xs) (Some ys) old new empty gave = rw empty gave
+
+-- ==== parts of lines in the bytes that were read
+
+-- no line ends where no line feed was found
+pub none_found : (bytes : List ℕ) → IsFirstByte (is_byte 10) bytes None → HasNoEnd bytes
+none_found bytes none = λ k d lt is. none k (omega arith) lt (eq-eqb _ _ (get_or_default bytes k 0 d lt ∙ is))
+
+-- the bytes are those up to a line feed, it, and those after it
+pub one_found : (bytes : List ℕ) (at : ℕ) → IsFirstByte (is_byte 10) bytes (Some at) → GavePart true bytes (drop (at + 1) bytes) (take at bytes)
+one_found bytes at found =
+    let feed = eqb-true _ _ found.1 in
+    let rest : drop at bytes ≡ line_feed ∷ drop (at + 1) bytes = rw (add-one, drop-cons bytes at 0 found.0.high, feed) in
+    sym (take-append-drop at bytes) ∙ ap (λ l. take at bytes ++ l) rest
+
+-- no line ends before the first line feed
+pub none_before : (bytes : List ℕ) (at : ℕ) → IsFirstByte (is_byte 10) bytes (Some at) → HasNoEnd (take at bytes)
+none_before bytes at found = λ k d lt is.
+    let below : k < at = omega (arith, length-take at bytes) in
+    let within : k < length bytes = omega (arith, found.0.high) in
+    found.0.before k (omega arith) below (eq-eqb _ _ (get_or_default bytes k 0 d within ∙ sym (get_or-take at bytes k d below) ∙ is))
+
+-- whether a line ends, from whether a line feed was found
+pub holds_end : (bytes : List ℕ) (found : Option ℕ) → IsFirstByte (is_byte 10) bytes found → HoldsEnd (is_some found) bytes
+holds_end bytes None none = none_found bytes none
+holds_end bytes (Some at) found = λ none. none at 0 found.0.high (eqb-true _ _ found.1)
+
+-- what is left of a part of a list without some of its front
+pub advanced : (xs : List ℕ) (a e n : ℕ) → n ≤ length (slice_range xs a e) → slice_range xs (a + n) e ≡ drop n (slice_range xs a e)
+advanced xs a e n few =
+    let whole : n + (e - (a + n)) ≡ e - a = omega (arith, length-take (e - a) (drop a xs)) in
+    ap (take (e - (a + n))) (sym (drop-drop n a xs))
+    ∙ sym (drop-take n (e - (a + n)) (drop a xs))
+    ∙ ap (λ k. drop n (take k (drop a xs))) whole

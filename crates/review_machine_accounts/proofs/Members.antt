@@ -1,16 +1,15 @@
 -- What changes in a group, and the row of a key after it.
-use denote.Ref.{Bor}
-use Rattle.std.proofs.Common.{◌≡◌, ℕ, ◌+◌, ◌<◌, ◌==◌, List, [], ◌∷◌, ◌++◌, length, get_or, take, map, Bool, true, false, cond, not, ◌&&◌, ◌||◌, refl, sym, ap, ◌∙◌, ⊎_elim, Option, Some, None, eqb-true, eq-eqb, arith}
+use Rattle.std.proofs.Common.{Bor, ◌≡◌, ℕ, ◌+◌, ◌<◌, ◌==◌, List, [], ◌∷◌, ◌++◌, length, get_or, take, map, Bool, true, false, cond, not, ◌&&◌, ◌||◌, refl, sym, ap, ◌∙◌, ⊎_elim, Option, Some, None, eqb-true, eq-eqb, arith, filter, nat_cmp, is_some, bytes_eq}
 use Rattle.std.proofs.lemmas.Bool.{cases_Bool, and_parts, and_from, Decides.nat_tests}
 use Rattle.std.proofs.lemmas.List.{take_more, map-append, Elements.filter-append}
 use Rattle.std.proofs.lemmas.Map.Keys.{IsDistinct-head, IsDistinct-tail, IsDistinct-from_sorted}
 use Rattle.std.proofs.lemmas.{Map.Made.IsDistinct-keys_filter, Map.Text.is_eq-slice_cmp, Slice.Eq.bytes_eq-Decides}
 use Rattle.std.specs.{BTreeMap.is_at, Cmp.tied_then, Cmp.unsigned_tied, Cmp.Lexicographic.slice_cmp}
-use Rattle.std.specs.List.{filter, list_any, AllByRecursion, IsDistinct, Sorted.IsStrictlySortedBy}
-use Rattle.std.specs.Map.{keys_of, Iter.deref_pair}
-use Rattle.std.specs.{Ordering.nat_cmp, Ordering.eq_by_cmp, Prelude.is_some, Str.bytes_eq}
-use Rattle.review_table.specs.{Rows.after_row_edit, Rows.row_edit_of, Rows.row_in, declared.table.RowEdit.RowEdit}
-use Rattle.review_machine_rows.specs.{Decisions.NamesOnce, Rows.MemberRow, Rows.member_change, Rows.member_cmp}
+use Rattle.std.specs.List.{list_any, AllByRecursion, IsDistinct, Sorted.IsStrictlySortedBy}
+use Rattle.std.specs.{Map.keys_of, Map.Iter.deref_pair, Ordering.eq_by_cmp}
+use Rattle.review_table.specs.Rows.{NamesOnce, after_row_edit, row_edit_of, row_in}
+use Rattle.review_table.specs.declared.table.RowEdit.{RowEdit}
+use Rattle.review_machine_rows.specs.Rows.{MemberRow, member_change, member_cmp}
 use Rattle.review_machine_rows.specs.declared.rows.MemberKey.{MemberKey as Member}
 use Rattle.review_machine_accounts.specs.inner.Words.{added, dropped, leaves, is_held, member_of}
 

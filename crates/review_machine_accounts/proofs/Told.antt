@@ -1,21 +1,201 @@
--- What rows that agree with a history tell of it, look-up by look-up.
-use Rattle.std.proofs.Common.{◌≡◌, ℕ, ◌<◌, ◌≤◌, zero, suc, List, [], ◌∷◌, length, Option, Some, None, Bool, true, false, cond, ◌||◌, refl, sym, ap, ◌∙◌, ◌⊎◌, ⊎_elim, arith}
-use Rattle.std.proofs.lemmas.{Bool.cases_Bool, Bool.cases_lt, Slice.Eq.bytes_eq-Decides}
-use Rattle.std.specs.{List.list_any, Ordering.nat_cmp}
-use Rattle.std.specs.{Prelude.is_some, Prelude.IsSome, Prelude.nat_lt, Prelude.option_map, Str.bytes_eq}
+-- What rows that agree with a history tell of it.
+use Rattle.std.proofs.Common.{◌≡◌, ℕ, ◌+◌, ◌<◌, ◌≤◌, ◌==◌, List, [], ◌∷◌, Option, Some, None, Bool, true, false, cond, ◌&&◌, ◌||◌, refl, sym, ap, ◌∙◌, ⊎_elim, arith, eq-eqb, leb-true, is_some, IsSome, nat_le, option_map, bytes_eq, zero, suc, length, ◌⊎◌, nat_cmp, nat_lt, length-append, ◌++◌, subst, MatchOption}
+use Rattle.std.proofs.lemmas.Bool.{cases_Bool, cases_lt, and_parts, Decides.nat_tests}
+use Rattle.std.{proofs.lemmas.Slice.Eq.bytes_eq-Decides, specs.List.list_any}
+use Rattle.review_names.specs.Names.{admin_name}
 use Rattle.review_table.specs.Rows.{row_in}
-use Rattle.review_words.specs.History.{Entry, account_count, name_taken, is_account, is_listed, is_project, bases, is_base, least_open}
-use Rattle.review_machine_rows.proofs.{Asked.found_of, Lined.there_is}
-use Rattle.review_machine_rows.proofs.Placing.{past_end, some_at, nothing_at_zero}
-use Rattle.review_machine_rows.specs.Changes.{Reading, own_of}
-use Rattle.review_machine_rows.specs.Known.{known, Agrees, IsKnown, is_so, is_there, number_of, holder_of, members_of, commits_of, at_place, IsBaseOrNot, count_of, most}
-use Rattle.review_machine_rows.specs.Rows.{MemberRow, FileRow, BaseRow, member_row}
-use Rattle.review_machine_rows.specs.View.{view, fact, counted}
+use Rattle.review_words.specs.History.{Entry, accepted, counted, named, is_named, account_count, name_of, name_taken, is_account, is_listed, is_project, bases, is_base, least_open, base_count, with_base, base_counted}
+use Rattle.review_words.specs.declared.command.Command.{Command}
+use Rattle.review_words.specs.declared.command.Command.TheVariants.{CreateAccount, PutGroup, PutProject, RecordBase, CloseEpoch, CreateChange, OnChange, Submit}
+use Rattle.review_words.specs.declared.{command.Query.Query, reply.Answer.Answer}
+use Rattle.review_words.specs.declared.reply.Refusal.{Refusal, TheVariants.UnknownCaller}
+use Rattle.review_words.specs.declared.reply.Reply.TheVariants.{Done, Refused}
+use Rattle.review_machine_rows.proofs.Asked.{found_of, all_asked}
+use Rattle.review_machine_rows.proofs.Joins.{past_end, some_at, nothing_at_zero}
+use Rattle.review_machine_rows.{proofs.Lined.there_is, specs.Answer.first_refusal}
+use Rattle.review_machine_rows.specs.{Changes.Reading, Changes.own_of, Changes.is_known, Changes.is_sent, Files.File}
+use Rattle.review_machine_rows.specs.Known.{IsFoundByName, IsLast, known, Agrees, IsKnown, is_so, is_there, number_of, holder_of, members_of, commits_of, at_place, IsBaseOrNot, count_of, most}
+use Rattle.review_machine_rows.specs.Questions.{IsQueryAnswerBy, IsToldTo, query_checks, query_refused_by}
+use Rattle.review_machine_rows.specs.Rows.{AccountKey, AccountRow, MemberRow, FileRow, BaseRow, member_row}
+use Rattle.review_machine_rows.specs.{Steps.OfQuery, View.fact, View.view, View.counted as counted_in, View.AreEnough}
 use Rattle.review_machine_rows.specs.declared.rows.{Base.Base, BranchKey.BranchKey as Branch, Counted.Counted}
 use Rattle.review_machine_rows.specs.declared.rows.{Rows.Rows, StoredFile.StoredFile}
-use Rattle.review_machine_accounts.proofs.Settings.{account_is, found_taken, last_is}
-use Rattle.review_machine_accounts.specs.inner.Words.{is_held, member_of}
+use Rattle.review_machine_laws.proofs.Sent.{sent_is}
+use Rattle.review_machine_accounts.specs.{Commits.known_in, inner.Words.is_held, inner.Words.member_of}
 use Rattle.review_machine_rows.specs.declared.rows.Want.TheVariants as want
+use Rattle.review_words.specs.declared.command.Query.TheVariants as asked
+
+-- ==== accounts and their names in a history
+
+some_cond : {X : Type 0} (b : Bool) (x : X) (o : Option X) → is_some (cond b (Some x) o) ≡ (b || is_some o)
+some_cond true x o = refl
+some_cond false x o = refl
+
+or_false : (b : Bool) → (b || false) ≡ b
+or_false true = refl
+or_false false = refl
+
+-- one more account
+one_more : (n c : ℕ) → ((n == c + 1) || (nat_le 1 n && nat_le n c)) ≡ (nat_le 1 n && nat_le n (c + 1))
+one_more n c = grind (arith, nat_tests)
+
+first_account : (n : ℕ) → (n == 1) ≡ (nat_le 1 n && nat_le n 1)
+first_account n = grind (arith, nat_tests)
+
+named_step : (o : Option Command) (n c : ℕ) (before : Option (List ℕ)) → is_some before ≡ (nat_le 1 n && nat_le n c) →
+    is_some (named o n (c + 1) before) ≡ (nat_le 1 n && nat_le n (counted o c))
+named_step (Some (CreateAccount name)) n c before e = some_cond (n == c + 1) name before ∙ (ap (λ b. (n == c + 1) || b) e ∙ one_more n c)
+named_step (Some (PutGroup group members)) n c before e = e
+named_step (Some (PutProject project file)) n c before e = e
+named_step (Some (RecordBase project branch commit)) n c before e = e
+named_step (Some (CloseEpoch epoch)) n c before e = e
+named_step (Some (CreateChange new)) n c before e = e
+named_step (Some (OnChange change command)) n c before e = e
+named_step (Some (Submit change)) n c before e = e
+named_step None n c before e = e
+
+-- an account has a name
+pub named_account : (h : List Entry) (n : ℕ) → is_some (name_of h n) ≡ is_account h n
+named_account [] n = some_cond (n == 1) admin_name None ∙ (or_false (n == 1) ∙ first_account n)
+named_account (e ∷ h) n = named_step (accepted e) n (account_count h) (name_of h n) (named_account h n)
+
+pub some_account : (h : List Entry) → 1 ≤ account_count h
+some_account [] = omega arith
+some_account (e ∷ h) = step (accepted e) (account_count h) (some_account h)
+  where
+    step : (o : Option Command) (n : ℕ) → 1 ≤ n → 1 ≤ counted o n
+    step (Some (CreateAccount name)) n p = omega arith
+    step (Some (PutGroup group members)) n p = p
+    step (Some (PutProject project file)) n p = p
+    step (Some (RecordBase project branch commit)) n p = p
+    step (Some (CloseEpoch epoch)) n p = p
+    step (Some (CreateChange new)) n p = p
+    step (Some (OnChange change command)) n p = p
+    step (Some (Submit change)) n p = p
+    step None n p = p
+
+-- the next number has no name yet
+pub next_unnamed : (h : List Entry) (n : ℕ) (name : List ℕ) → name_of h n ≡ Some name → (n == account_count h + 1) ≡ false
+next_unnamed h n name some =
+    let there : is_account h n ≡ true = sym (named_account h n) ∙ ap is_some some in
+    let p = and_parts (nat_le 1 n) (nat_le n (account_count h)) there in
+    le_ne n (account_count h) p.1
+  where
+    le_ne : (n c : ℕ) → nat_le n c ≡ true → (n == c + 1) ≡ false
+    le_ne n c t = grind (arith, nat_tests)
+
+-- a name that an account has is taken
+taken_step : (o : Option Command) (n next : ℕ) (name : List ℕ) (before : Option (List ℕ)) (was : Bool) → (before ≡ Some name → was ≡ true) →
+    named o n next before ≡ Some name → is_named o name was ≡ true
+taken_step (Some (CreateAccount given)) n next name before was taken some =
+    ⊎_elim
+    (λ (t : (n == next) ≡ true).
+    let is : Some given ≡ Some name = sym (ap (λ b. cond b (Some given) before) t) ∙ some in
+    let same : given ≡ name = cc in
+    ap (λ b. b || was) ((bytes_eq-Decides given name).1 same))
+    (λ (f : (n == next) ≡ false).
+    let is : before ≡ Some name = sym (ap (λ b. cond b (Some given) before) f) ∙ some in
+    ap (λ b. bytes_eq given name || b) (taken is) ∙ or_true (bytes_eq given name))
+    (cases_Bool (n == next))
+  where
+    or_true : (b : Bool) → (b || true) ≡ true
+    or_true true = refl
+    or_true false = refl
+taken_step (Some (PutGroup group members)) n next name before was taken some = taken some
+taken_step (Some (PutProject project file)) n next name before was taken some = taken some
+taken_step (Some (RecordBase project branch commit)) n next name before was taken some = taken some
+taken_step (Some (CloseEpoch epoch)) n next name before was taken some = taken some
+taken_step (Some (CreateChange new)) n next name before was taken some = taken some
+taken_step (Some (OnChange change command)) n next name before was taken some = taken some
+taken_step (Some (Submit change)) n next name before was taken some = taken some
+taken_step None n next name before was taken some = taken some
+
+pub name_is_taken : (h : List Entry) (n : ℕ) (name : List ℕ) → name_of h n ≡ Some name → name_taken h name ≡ true
+name_is_taken [] n name some =
+    ⊎_elim
+    (λ (t : (n == 1) ≡ true).
+    let is : Some admin_name ≡ Some name = sym (ap (λ b. cond b (Some admin_name) None) t) ∙ some in
+    let same : admin_name ≡ name = cc in
+    (bytes_eq-Decides admin_name name).1 same)
+    (λ (f : (n == 1) ≡ false).
+    let is : None ≡ Some name = sym (ap (λ b. cond b (Some admin_name) None) f) ∙ some in absurd (cc))
+    (cases_Bool (n == 1))
+name_is_taken (e ∷ h) n name some = taken_step (accepted e) n (account_count h + 1) name (name_of h n) (name_taken h name) (name_is_taken h n name) some
+
+-- and a taken name is an account's
+free_step : (o : Option Command) (h : List Entry) (name : List ℕ) → (name_taken h name ≡ true → (n : ℕ) × (name_of h n ≡ Some name)) →
+    is_named o name (name_taken h name) ≡ true → (n : ℕ) × (named o n (account_count h + 1) (name_of h n) ≡ Some name)
+free_step (Some (CreateAccount given)) h name found taken =
+    ⊎_elim
+    (λ (t : bytes_eq given name ≡ true).
+    (account_count h + 1, ap (λ b. cond b (Some given) (name_of h (account_count h + 1))) (eq-eqb (account_count h + 1) (account_count h + 1) refl) ∙ ap Some ((bytes_eq-Decides given name).0 t)))
+    (λ (f : bytes_eq given name ≡ false).
+    let r = found (sym (ap (λ b. b || name_taken h name) f) ∙ taken) in
+    (r.0, ap (λ b. cond b (Some given) (name_of h r.0)) (next_unnamed h r.0 name r.1) ∙ r.1))
+    (cases_Bool (bytes_eq given name))
+free_step (Some (PutGroup group members)) h name found taken = found taken
+free_step (Some (PutProject project file)) h name found taken = found taken
+free_step (Some (RecordBase project branch commit)) h name found taken = found taken
+free_step (Some (CloseEpoch epoch)) h name found taken = found taken
+free_step (Some (CreateChange new)) h name found taken = found taken
+free_step (Some (OnChange change command)) h name found taken = found taken
+free_step (Some (Submit change)) h name found taken = found taken
+free_step None h name found taken = found taken
+
+pub taken_name_is : (h : List Entry) (name : List ℕ) → name_taken h name ≡ true → (n : ℕ) × (name_of h n ≡ Some name)
+taken_name_is [] name taken = (1, ap Some ((bytes_eq-Decides admin_name name).0 taken))
+taken_name_is (e ∷ h) name taken = free_step (accepted e) h name (taken_name_is h name) taken
+
+named_from : (o : Option (List ℕ)) (name : List ℕ) → option_map AccountRow o ≡ Some (AccountRow name) → o ≡ Some name
+named_from None name e = absurd (cc)
+named_from (Some x) name e = let same : x ≡ name = cc in ap Some same
+
+-- what was found by name tells whether it is taken
+pub found_taken : (reading : Reading) (h : List Entry) (name : List ℕ) (found : Option ℕ) → IsFoundByName (fact reading h) name found → is_some found ≡ name_taken h name
+found_taken reading h name (Some n) is = sym (name_is_taken h n name (named_from (name_of h n) name is))
+found_taken reading h name None none =
+    ⊎_elim
+    (λ (t : name_taken h name ≡ true). let r = taken_name_is h name t in absurd (none r.0 (ap (option_map AccountRow) r.1)))
+    (λ (f : name_taken h name ≡ false). sym f)
+    (cases_Bool (name_taken h name))
+
+some_mapped : {X Y : Type 0} (f : X → Y) (o : Option X) → is_some (option_map f o) ≡ is_some o
+some_mapped f None = refl
+some_mapped f (Some x) = refl
+
+account_fact : (reading : Reading) (h : List Entry) (n : ℕ) → is_some (fact reading h (AccountKey n)) ≡ is_account h n
+account_fact reading h n = some_mapped AccountRow (name_of h n) ∙ named_account h n
+
+-- the greatest number is that of the last account
+pub last_is : (reading : Reading) (h : List Entry) (last : ℕ) → IsLast AccountKey (fact reading h) last → last ≡ account_count h
+last_is reading h last l =
+    let some = some_account h in
+    let reached : account_count h ≤ last =
+    ⊎_elim (λ (lt : last < account_count h). absurd (not_above lt)) (λ (ge : account_count h ≤ last). ge) (cases_lt last (account_count h)) in
+    ⊎_elim
+    (λ (is_zero : last ≡ 0). absurd (omega arith))
+    (λ (there : IsSome (fact reading h (AccountKey last))).
+    let p = and_parts (nat_le 1 last) (nat_le last (account_count h)) (sym (account_fact reading h last) ∙ there) in
+    let below : last ≤ account_count h = leb-true last (account_count h) p.1 in
+    omega arith)
+    l.there
+  where
+    not_above : last < account_count h → ⊥
+    not_above lt =
+        let none = l.above (account_count h) lt in
+        let some = some_account h in
+        let there : is_some (fact reading h (AccountKey (account_count h))) ≡ true = account_fact reading h (account_count h) ∙ in_range (account_count h) some in
+        let bad : true ≡ false = sym there ∙ ap is_some none in
+        absurd (cc)
+      where
+        in_range : (c : ℕ) → 1 ≤ c → (nat_le 1 c && nat_le c c) ≡ true
+        in_range c p = grind (arith, nat_tests)
+
+-- the row of an account tells whether it is there
+pub account_is : (reading : Reading) (h : List Entry) (n : ℕ) (o : Option (List ℕ)) → option_map AccountRow o ≡ fact reading h (AccountKey n) → is_some o ≡ is_account h n
+account_is reading h n o e = sym (some_mapped AccountRow o) ∙ (ap is_some e ∙ account_fact reading h n)
+
+-- ==== what rows that agree with a history tell of it, look-up by look-up
 
 -- the rows agree with the history
 abbrev pub Agree : Reading → List Entry → Rows → Type 0
@@ -81,7 +261,7 @@ project_told reading h rows project agree there =
 
 -- whether there is room for one more
 pub room_told : (reading : Reading) (h : List Entry) (rows : Rows) (of : Counted) → Agree reading h rows → IsKnown rows (want.Room of) →
-    is_so (known rows (want.Room of)) ≡ nat_lt (counted h (count_of of)) (most (count_of of))
+    is_so (known rows (want.Room of)) ≡ nat_lt (counted_in h (count_of of)) (most (count_of of))
 room_told reading h rows of agree there =
     let r = found_of (view reading h) rows (want.Room of) agree there in
     ap is_so (r.1 ∙ ap Some r.2.1) ∙ sym r.2.2
@@ -179,3 +359,63 @@ pub bases_told : (reading : Reading) (h : List Entry) (rows : Rows) (key : Branc
 bases_told reading h rows key agree there =
     let r = found_of (view reading h) rows (want.Bases key) agree there in
     ap commits_of (r.1 ∙ ap Some r.2.1) ∙ same_list r.2.0 (bases h key.project key.branch) (λ n. sym (r.2.2 n))
+
+-- ==== what rows that agree with a history tell of a commit in a branch
+
+sent_told : (reading : Reading) (h : List Entry) (rows : Rows) (base : Base) → Agree reading h rows → IsKnown rows (want.ChangeOf base) →
+    is_some (holder_of (known rows (want.ChangeOf base))) ≡ is_sent reading h base.project base.branch base.commit
+sent_told reading h rows base agree there =
+    let r = found_of (view reading h) rows (want.ChangeOf base) agree there in
+    ap (λ o. is_some (holder_of o)) (r.1 ∙ ap Some r.2.1) ∙ sent_is reading h base r.2.0 r.2.2
+
+-- whether a commit is known in a branch
+pub known_told : (reading : Reading) (h : List Entry) (rows : Rows) (project branch commit : List ℕ) → Agree reading h rows →
+    IsKnown rows (want.Base (record { project = project; branch = branch; commit = commit })) → IsKnown rows (want.ChangeOf (record { project = project; branch = branch; commit = commit })) →
+    known_in rows project branch commit ≡ is_known reading h project branch commit
+known_told reading h rows project branch commit agree based sent =
+    λ i. base_told reading h rows (record { project = project; branch = branch; commit = commit }) agree based i
+    || sent_told reading h rows (record { project = project; branch = branch; commit = commit }) agree sent i
+
+-- ==== the bases of a branch among those of its project
+
+-- a branch has no more bases than its project
+pub branch_within : (h : List Entry) (project branch : List ℕ) → length (bases h project branch) ≤ base_count h project
+branch_within [] project branch = omega arith
+branch_within (e ∷ h) project branch = step (accepted e) (bases h project branch) (base_count h project) (branch_within h project branch)
+  where
+    more : (t u : Bool) (commit : List ℕ) (bs : List (List ℕ)) (n : ℕ) → length bs ≤ n → length (cond (t && u) (bs ++ commit ∷ []) bs) ≤ cond t (n + 1) n
+    more true true commit bs n le = let e = length-append bs (commit ∷ []) in omega arith
+    more true false commit bs n le = omega arith
+    more false u commit bs n le = le
+
+    step : (o : Option Command) (bs : List (List ℕ)) (n : ℕ) → length bs ≤ n → length (with_base o project branch bs) ≤ base_counted o project n
+    step (Some (RecordBase p b commit)) bs n le = more (bytes_eq p project) (bytes_eq b branch) commit bs n le
+    step (Some (CreateAccount name)) bs n le = le
+    step (Some (PutGroup group members)) bs n le = le
+    step (Some (PutProject p file)) bs n le = le
+    step (Some (CreateChange new)) bs n le = le
+    step (Some (OnChange change command)) bs n le = le
+    step (Some (Submit change)) bs n le = le
+    step (Some (CloseEpoch least)) bs n le = le
+    step None bs n le = le
+
+-- ==== what the loaded rows tell of who asks a question, and the answer from its checks
+
+-- whether the caller is an account
+pub asker_is : (reading : Reading) (file : Option File) (h : List Entry) (caller : ℕ) (query : Query) (rows : Rows) → AreEnough reading h caller (OfQuery query) file rows → is_there (known rows (want.Account caller)) ≡ is_account h caller
+asker_is reading file h caller (asked.Branch project branch) rows l = account_told reading h rows caller l.agree (all_asked file rows caller (OfQuery (asked.Branch project branch)) l.nothing_left).0
+asker_is reading file h caller (asked.OnChange n query) rows l = account_told reading h rows caller l.agree (all_asked file rows caller (OfQuery (asked.OnChange n query)) l.nothing_left).0
+
+-- a question that a check refuses, and one that none refuses
+pub refused_question : (reading : Reading) (h : List Entry) (caller : ℕ) (query : Query) (refusal : Refusal) → query_refused_by reading h caller query ≡ Some refusal → IsQueryAnswerBy reading h caller query (Refused refusal)
+refused_question reading h caller query refusal is =
+    subst (λ o. MatchOption o ((told : Answer) × IsToldTo reading h query told × (Refused refusal ≡ Done told)) (λ r. Refused refusal ≡ Refused r)) (sym is) refl
+
+pub told_question : (reading : Reading) (h : List Entry) (caller : ℕ) (query : Query) (told : Answer) → query_refused_by reading h caller query ≡ None → IsToldTo reading h query told → IsQueryAnswerBy reading h caller query (Done told)
+told_question reading h caller query told none is =
+    subst (λ o. MatchOption o ((x : Answer) × IsToldTo reading h query x × (Done told ≡ Done x)) (λ r. Done told ≡ Refused r)) (sym none) (told, is, refl)
+
+-- who is no account is refused, whatever the question
+pub unknown_asker : (reading : Reading) (h : List Entry) (caller : ℕ) (query : Query) → is_account h caller ≡ false → IsQueryAnswerBy reading h caller query (Refused UnknownCaller)
+unknown_asker reading h caller query none =
+    refused_question reading h caller query UnknownCaller (ap (λ a. cond a (first_refusal (query_checks reading h query)) (Some UnknownCaller)) none)

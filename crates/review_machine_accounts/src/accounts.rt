@@ -1,11 +1,11 @@
 //! Decisions on accounts and groups.
 ghost use Rattle.std.specs.{List.list_all, List.Sorted.IsStrictlySortedBy, Map.Iter.deref_pair, Ordering.nat_cmp};
 ghost use Rattle.std.specs.Prelude.{◌≡◌, ◌++◌, ◌∷◌, ◌+◌, ◌<◌, ◌≤◌, ℕ, List, Option, None, Some, [], IfOk, IfSome, IfErr, OnOk, is_some, map, true};
-ghost use Rattle.review_table.specs.Rows.{rows_of};
+ghost use Rattle.review_table.specs.Rows.{NamesOnce, rows_of};
 ghost use Rattle.review_words.specs.{History.Entry, History.is_account, Texts.IsStored};
 ghost use Rattle.review_words.specs.declared.command.Command.TheVariants.{CreateAccount, PutGroup};
 ghost use Rattle.review_words.specs.declared.reply.NotTaken.TheVariants.{Memory};
-ghost use Rattle.review_machine_rows.specs.{Changes.Reading, Decisions.NamesOnce, Decisions.NamesEachOnce, Files.File};
+ghost use Rattle.review_machine_rows.specs.{Changes.Reading, Decisions.NamesEachOnce, Files.File};
 ghost use Rattle.review_machine_rows.specs.Known.{known, is_there, members_of};
 ghost use Rattle.review_machine_rows.specs.{Rows.HasNoEffect, Rows.member_cmp, Steps.OfCommand};
 ghost use Rattle.review_machine_rows.specs.View.{AreEnough, IsDecided};

@@ -1,5 +1,3 @@
-mod Becoming
-mod Numbered
 mod Edited
 pub mod Ordered
 pub mod Shown

@@ -1,6 +1,5 @@
 -- The change that tables show.
-use Rattle.std.proofs.Common.{◌≡◌, ℕ, ℤ, cond, Option, Some, None, Result, Ok, Err, refl, sym, ap, subst, ◌∙◌}
-use Rattle.std.specs.{Ordering.nat_cmp, Prelude.IfErr, Prelude.option_map, Result.IsErr, Result.IsErrAnd}
+use Rattle.std.proofs.Common.{◌≡◌, ℕ, ℤ, cond, Option, Some, None, Result, Ok, Err, refl, sym, ap, subst, ◌∙◌, nat_cmp, IfErr, option_map, IsErr, IsErrAnd}
 use Rattle.review_table.specs.Rows.{row_in, rows_of}
 use Rattle.review_core_rules.specs.Change.{of_number}
 use Rattle.review_core_rules.specs.Parts.{Part, TheHeader, PatchOf, VoteOf, RoleOf, CommentOf, AttentionOf, AHeader, APatch, AVote, ARole, AComment, AnAttentionEntry}

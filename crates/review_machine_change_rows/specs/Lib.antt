@@ -1,4 +1,3 @@
 pub mod Edits
-pub mod Same
 pub mod Tables
 pub mod inner

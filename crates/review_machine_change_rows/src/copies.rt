@@ -2,10 +2,10 @@
 ghost use Rattle.std.specs.{List.Sorted.IsStrictlySortedBy, Map.keys_of, Ordering.nat_cmp};
 ghost use Rattle.std.specs.Prelude.{◌≡◌, ℕ, IfOk};
 ghost use Rattle.review_table.specs.Rows.{row_in, rows_of};
-ghost use Rattle.review_core_rules.specs.{Seen.seen, Seen.vote_cmp, declared.rows.VoteKey.VoteKey};
+ghost use Rattle.review_core_rules.specs.{Seen.vote_cmp, declared.rows.VoteKey.VoteKey};
 
 use crate::rows::Copied;
-use review_core_rules::{AttentionEntry, ChangeRows, Comment, Header, PatchRow, Vote, VoteKey};
+use review_core_rules::{AttentionEntry, Comment, Header, PatchRow, Vote, VoteKey};
 use review_table::{BadRows, Key, Table};
 use review_words::{AccountNo, NewChange, NewPatch, Role};
 use std::alloc::{AllocError, Global};
@@ -43,24 +43,6 @@ pub struct Marks {
     pub votes: Table<VoteKey, Vote>,
     pub roles: Table<AccountNo, Role>,
     pub attention: Table<AccountNo, AttentionEntry>,
-}
-
-/// A change once more. An error where there was no memory for it.
-pub fn copied_change(alloc: Global, rows: &ChangeRows) -> Result<ChangeRows, AllocError>
-    ensures { IfOk result (λ c. seen c ≡ seen rows.now) }
-{
-    let marks = copied_marks(alloc, &rows.votes, &rows.roles, &rows.attention)?;
-    let header = copied_header(alloc, &rows.header)?;
-    let patches = copied_patches(alloc, &rows.patches)?;
-    let comments = copied_comments(alloc, &rows.comments)?;
-    Ok(ChangeRows {
-        header,
-        patches,
-        votes: marks.votes,
-        roles: marks.roles,
-        comments,
-        attention: marks.attention,
-    })
 }
 
 /// The votes, roles and attention set of a change once more. An error where there was no memory for them.
@@ -123,26 +105,6 @@ impl Copied for Comment {
     fn copied(&self, alloc: Global) -> Result<Comment, AllocError> {
         self.copy(alloc)
     }
-}
-
-fn copied_patches(alloc: Global, patches: &[PatchRow]) -> Result<Vec<PatchRow>, AllocError>
-    ensures { IfOk result (λ v. v.items ≡ patches.now) }
-{
-    let mut copies = Vec::new(alloc);
-    for patch in patches {
-        copies.push(copied_patch_row(alloc, patch)?)?;
-    }
-    Ok(copies)
-}
-
-fn copied_comments(alloc: Global, comments: &[Comment]) -> Result<Vec<Comment>, AllocError>
-    ensures { IfOk result (λ v. v.items ≡ comments.now) }
-{
-    let mut copies = Vec::with_capacity(alloc, comments.len())?;
-    for comment in comments {
-        copies.push(comment.copy(alloc)?)?;
-    }
-    Ok(copies)
 }
 
 /// A table once more: at each key it has the same row. An error where there was no memory for it.

@@ -1,155 +1,125 @@
 //! What turns one change into another, row by row.
-ghost use Rattle.std.specs.{Ordering.nat_cmp, Prelude.◌≡◌, Prelude.ℕ, Prelude.[], Prelude.IfOk, Prelude.None};
+ghost use Rattle.std.specs.Prelude.{◌≡◌, ◌+◌, ◌≤◌, IfOk, None, length};
 ghost use Rattle.review_names.specs.Forms.{most_comments, most_patches};
-ghost use Rattle.review_table.specs.Rows.{after_row_edit, changed, row_in, rows_of};
-ghost use Rattle.review_core_rules.specs.{Change.of_number, Parts.Part, Parts.part_row};
-ghost use Rattle.review_core_rules.specs.{Seen.of_account, Seen.seen, Seen.vote_cmp, declared.rows.VoteKey.VoteKey};
-ghost use Rattle.review_machine_rows.specs.{Decisions.NamesOnce, Decisions.NamesRowsOnce, Rows.part_change};
-ghost use Rattle.review_machine_change_rows.specs.Edits.{GoesOn};
+ghost use Rattle.review_table.specs.Rows.{after_row_edit};
+ghost use Rattle.review_core_rules.specs.EditedChanges.{IsBare, after_edits};
+ghost use Rattle.review_core_rules.specs.{Parts.Part, Parts.part_row, Seen.seen, Sound.IsSound};
+ghost use Rattle.review_machine_rows.specs.{Decisions.NamesRowsOnce, Rows.part_change};
+ghost use Rattle.review_machine_change_rows.specs.Edits.{HasNoted, puts_after};
 
-use crate::copies::{copied_header, copied_patch_row};
-use crate::differences::difference;
-use review_core_rules::{AttentionEntry, ChangeRows, Comment, PatchRow, Vote, VoteKey};
+use review_core_rules::{ChangeRows, Comment, EditedChange, PatchRow};
 use review_machine_rows::ChangeEdit;
-use review_table::{RowEdit, Table};
-use review_words::{AccountNo, ChangeNo, CommentNo, PatchNo, Role};
+use review_table::RowEdit;
+use review_words::{ChangeNo, CommentNo, PatchNo};
 use std::alloc::{AllocError, Global};
 
-/// What turns the rows that a change keeps by accounts into others: its votes, roles and attention set.
-#[derive(Drop)]
-struct MarkChanges {
-    votes: Vec<RowEdit<VoteKey, Vote>>,
-    roles: Vec<RowEdit<AccountNo, Role>>,
-    attention: Vec<RowEdit<AccountNo, AttentionEntry>>,
-}
-
-/// What turns a change into one that goes on from it: its patch sets and comments are the old ones and more.
+/// What turns the rows of a change in the making into that change: what was noted beside them.
 pub fn edit_of(
     alloc: Global,
     change: ChangeNo,
-    old: &ChangeRows,
-    new: &ChangeRows,
+    edited: EditedChange,
 ) -> Result<ChangeEdit, AllocError>
-    requires patches { GoesOn most_patches old.now.patches.items new.now.patches.items }
-    requires comments { GoesOn most_comments old.now.comments.items new.now.comments.items }
+    requires sound { IsSound (after_edits edited) }
     ensures change { IfOk result (λ e. e.change ≡ change) }
-    ensures becomes { IfOk result (λ e. (part : Part) → after_row_edit (part_change e part) (part_row (seen old.now) part) ≡ part_row (seen new.now) part) }
+    ensures becomes { IfOk result (λ e. (part : Part) → after_row_edit (part_change e part) (part_row (seen edited.entry.rows.now) part) ≡ part_row (after_edits edited.entry) part) }
+    ensures noted { IfOk result (HasNoted edited.entry) }
     ensures once { IfOk result NamesRowsOnce }
 {
-    let marks = mark_changes(alloc, old, new)?;
-    let header = copied_header(alloc, &new.header)?;
-    let patches = more_patches(alloc, &old.patches, &new.patches)?;
-    let comments = more_comments(alloc, &old.comments, &new.comments)?;
+    let EditedChange {
+        rows,
+        header,
+        patches,
+        votes,
+        roles,
+        comments,
+        attention,
+        ..
+    } = edited;
+    let patches = more_patches(alloc, rows.patches.len(), patches)?;
+    let votes = votes.into_edits(alloc)?;
+    let roles = roles.into_edits(alloc)?;
+    let comments = more_comments(alloc, rows.comments.len(), comments)?;
+    let attention = attention.into_edits(alloc)?;
     Ok(ChangeEdit {
         change,
         header,
         patches,
-        votes: marks.votes,
-        roles: marks.roles,
-        comments,
-        attention: marks.attention,
-    })
-}
-
-// What turns the votes, roles and attention set of a change into those of another.
-fn mark_changes(
-    alloc: Global,
-    old: &ChangeRows,
-    new: &ChangeRows,
-) -> Result<MarkChanges, AllocError>
-    ensures votes { IfOk result (λ m. (q : VoteKey) → changed vote_cmp m.votes.items q (row_in vote_cmp (rows_of old.now.votes) q) ≡ row_in vote_cmp (rows_of new.now.votes) q) }
-    ensures roles { IfOk result (λ m. (u : ℕ) → changed nat_cmp m.roles.items u (of_account old.now.roles u) ≡ of_account new.now.roles u) }
-    ensures attention { IfOk result (λ m. (u : ℕ) → changed nat_cmp m.attention.items u (of_account old.now.attention u) ≡ of_account new.now.attention u) }
-    ensures votes_once { IfOk result (λ m. NamesOnce vote_cmp m.votes.items) }
-    ensures roles_once { IfOk result (λ m. NamesOnce nat_cmp m.roles.items) }
-    ensures attention_once { IfOk result (λ m. NamesOnce nat_cmp m.attention.items) }
-{
-    let votes = difference(alloc, &old.votes, &new.votes)?;
-    let roles = difference(alloc, &old.roles, &new.roles)?;
-    let attention = difference(alloc, &old.attention, &new.attention)?;
-    Ok(MarkChanges {
         votes,
         roles,
+        comments,
         attention,
     })
 }
 
-/// What makes a change where there was none.
+/// What makes a change, which has patch sets alone, where there was none.
 pub fn edit_of_new(
     alloc: Global,
     change: ChangeNo,
-    new: &ChangeRows,
+    new: ChangeRows,
 ) -> Result<ChangeEdit, AllocError>
-    requires patches { GoesOn most_patches [] new.now.patches.items }
-    requires comments { GoesOn most_comments [] new.now.comments.items }
+    requires bare { IsBare new }
+    requires patches { length new.patches.items ≤ most_patches }
     ensures change { IfOk result (λ e. e.change ≡ change) }
-    ensures becomes { IfOk result (λ e. (part : Part) → after_row_edit (part_change e part) None ≡ part_row (seen new.now) part) }
+    ensures becomes { IfOk result (λ e. (part : Part) → after_row_edit (part_change e part) None ≡ part_row (seen new) part) }
     ensures once { IfOk result NamesRowsOnce }
 {
-    let bare = bare_rows(alloc, new)?;
-    edit_of(alloc, change, &bare, new)
-}
-
-// Rows with a change's header alone.
-fn bare_rows(alloc: Global, new: &ChangeRows) -> Result<ChangeRows, AllocError>
-    ensures header { IfOk result (λ r. r.header ≡ new.now.header) }
-    ensures patches { IfOk result (λ r. r.patches.items ≡ []) }
-    ensures votes { IfOk result (λ r. r.votes ≡ []) }
-    ensures roles { IfOk result (λ r. r.roles ≡ []) }
-    ensures comments { IfOk result (λ r. r.comments.items ≡ []) }
-    ensures attention { IfOk result (λ r. r.attention ≡ []) }
-{
-    let header = copied_header(alloc, &new.header)?;
-    Ok(ChangeRows {
+    let ChangeRows {
         header,
-        patches: Vec::new(alloc),
-        votes: Table::new(alloc),
-        roles: Table::new(alloc),
+        patches,
+        ..
+    } = new;
+    let patches = more_patches(alloc, 0, patches)?;
+    Ok(ChangeEdit {
+        change,
+        header,
+        patches,
+        votes: Vec::new(alloc),
+        roles: Vec::new(alloc),
         comments: Vec::new(alloc),
-        attention: Table::new(alloc),
+        attention: Vec::new(alloc),
     })
 }
 
+// Patch sets under the numbers after so many.
 fn more_patches(
     alloc: Global,
-    old: &[PatchRow],
-    new: &[PatchRow],
+    before: usize,
+    patches: Vec<PatchRow>,
 ) -> Result<Vec<RowEdit<PatchNo, PatchRow>>, AllocError>
-    requires { GoesOn most_patches old.now new.now }
-    ensures becomes { IfOk result (λ d. (n : ℕ) → changed nat_cmp d.items n (of_number old.now n) ≡ of_number new.now n) }
-    ensures once { IfOk result (λ d. NamesOnce nat_cmp d.items) }
+    requires { before + length patches.items ≤ most_patches }
+    ensures { IfOk result (λ edits. edits.items ≡ puts_after before patches.items) }
 {
-    let mut more = Vec::new(alloc);
-    for index in old.len()..new.len() {
-        let Some(key) = PatchNo::from_number(index as u64 + 1) else {
+    let mut edits = Vec::with_capacity(alloc, patches.len())?;
+    for patch in patches {
+        let Some(key) = PatchNo::from_number((before + edits.len() + 1) as u64) else {
             unreachable!()
         };
-        more.push(RowEdit {
+        edits.push(RowEdit {
             key,
-            row: Some(copied_patch_row(alloc, &new[index])?),
+            row: Some(patch),
         })?;
     }
-    Ok(more)
+    Ok(edits)
 }
 
+// Comments under the numbers after so many.
 fn more_comments(
     alloc: Global,
-    old: &[Comment],
-    new: &[Comment],
+    before: usize,
+    comments: Vec<Comment>,
 ) -> Result<Vec<RowEdit<CommentNo, Comment>>, AllocError>
-    requires { GoesOn most_comments old.now new.now }
-    ensures becomes { IfOk result (λ d. (n : ℕ) → changed nat_cmp d.items n (of_number old.now n) ≡ of_number new.now n) }
-    ensures once { IfOk result (λ d. NamesOnce nat_cmp d.items) }
+    requires { before + length comments.items ≤ most_comments }
+    ensures { IfOk result (λ edits. edits.items ≡ puts_after before comments.items) }
 {
-    let mut more = Vec::new(alloc);
-    for index in old.len()..new.len() {
-        let Some(key) = CommentNo::from_number(index as u64 + 1) else {
+    let mut edits = Vec::with_capacity(alloc, comments.len())?;
+    for comment in comments {
+        let Some(key) = CommentNo::from_number((before + edits.len() + 1) as u64) else {
             unreachable!()
         };
-        more.push(RowEdit {
+        edits.push(RowEdit {
             key,
-            row: Some(new[index].copy(alloc)?),
+            row: Some(comment),
         })?;
     }
-    Ok(more)
+    Ok(edits)
 }

@@ -1,5 +1,5 @@
-//! Rows of changes copied and compared; the edit that turns one change into another, row by row ([`edit_of`]); the change that tables show
-//! ([`change_rows`]). Where one vote differs, the edit has the header and that vote.
+//! Rows of changes copied; the edit that makes of a change what was noted beside its rows ([`edit_of`]); the change that tables show
+//! ([`change_rows`]). Where one vote was noted, the edit has the header and that vote.
 //!
 //! - **Proved**: a copy is the same; an edit makes exactly the rows of the new change; tables with a gap are told so.
 //! - **Assumed**: nothing beyond the kit.
@@ -8,15 +8,13 @@
 #![tactic(auto)]
 
 pub mod copies;
-pub mod differences;
 pub mod edits;
 pub mod loading;
 pub mod rows;
 pub mod tables;
 
-pub use copies::{copied_change, copied_header, copied_new, copied_patch, copied_table};
-pub use differences::difference;
+pub use copies::{copied_header, copied_new, copied_patch, copied_table};
 pub use edits::{edit_of, edit_of_new};
 pub use loading::{ChangeFault, change_rows};
-pub use rows::{Copied, Row};
+pub use rows::Copied;
 pub use tables::{ChangeTables, copied_tables};

@@ -45,8 +45,8 @@ impl From<ChangeFault> for ShelfFault {
     }
 }
 
-/// The change that tables show, or why they show none: where their patch sets or comments have a gap, or there was no memory for it.
-pub fn change_rows(alloc: Global, tables: ChangeTables) -> Result<ChangeRows, ChangeFault>
+// The rows of a change in their order, or why tables show none.
+fn ordered(alloc: Global, tables: ChangeTables) -> Result<ChangeRows, ChangeFault>
     ensures shown { IfOk result (λ rows. Show tables (seen rows)) }
     ensures fault { IfErr result (HaveFault tables) }
 {
@@ -68,6 +68,21 @@ pub fn change_rows(alloc: Global, tables: ChangeTables) -> Result<ChangeRows, Ch
         comments,
         attention,
     })
+}
+
+fn boxed(alloc: Global, rows: ChangeRows) -> Result<Box<ChangeRows>, AllocError>
+    ensures { IfOk result (λ boxed. boxed.value ≡ rows) }
+{
+    Ok(Box::new(alloc, rows)?)
+}
+
+/// The change that tables show, in a box, or why they show none: where their patch sets or comments have a gap, or there was no memory for it.
+pub fn change_rows(alloc: Global, tables: ChangeTables) -> Result<Box<ChangeRows>, ChangeFault>
+    ensures shown { IfOk result (λ rows. Show tables (seen rows.value)) }
+    ensures fault { IfErr result (HaveFault tables) }
+{
+    let rows = ordered(alloc, tables)?;
+    Ok(boxed(alloc, rows)?)
 }
 
 fn patches_in_order(

@@ -13,7 +13,6 @@ use Rattle.review_machine_rows.specs.{Files.File, Known.known, Known.is_so, Know
 use Rattle.review_machine_rows.specs.declared.rows.{ChangeEdit.ChangeEdit, Delta.Delta, Rows.Rows}
 use Rattle.review_machine_changes.specs.declared.edits.Checked.{Checked, TheVariants.Passes, TheVariants.Fails}
 use Rattle.review_machine_rows.specs.declared.rows.Want.TheVariants as want
-use Rattle.review_file_rules.specs.declared.parts.Right.TheVariants as right
 pub use Rattle.review_machine_accounts.specs.Commits.{known_in}
 
 -- whether an account is known to be in a group
@@ -56,5 +55,5 @@ setting_in file rows = record { file = file; groups = group_list rows.groups }
 
 -- the checks of a request come to this, where the first that fails refuses so and its change is this one
 abbrev pub IsChecked : Option Refusal → Change → Checked → Type 0
-IsChecked why c (Passes file) = (why ≡ None) × (seen file.rows ≡ c)
+IsChecked why c (Passes file) = (why ≡ None) × (seen file.rows.now ≡ c)
 IsChecked why c (Fails refusal) = why ≡ Some refusal

@@ -13,9 +13,9 @@ ghost use Rattle.review_machine_rows.specs.{Steps.OfCommand, View.AreEnough, Vie
 ghost use Rattle.review_machine_changes.specs.inner.Facts.{create_checks};
 ghost use Rattle.review_machine_rows.specs.declared.rows.Want.TheVariants as want;
 
-use crate::edits::edited;
+use crate::edits::delta_of;
 use crate::facts::has_right;
-use review_core::ChangeFile;
+use review_core::begun;
 use review_file::{ProjectFile, Right};
 use review_file_rules::one_effective_file;
 use review_machine_accounts::{branch_of, is_known, refused};
@@ -104,8 +104,8 @@ fn begun_edit(
     ensures once { IfOk result NamesRowsOnce }
 {
     let new = copied_new(alloc, new)?;
-    let file = ChangeFile::begin(alloc, new, caller, request)?;
-    edit_of_new(alloc, change, file.rows())
+    let rows = begun(alloc, new, caller, request)?;
+    edit_of_new(alloc, change, rows)
 }
 
 /// A new change for a branch, with its first patch set; the caller is its owner. Refused for a project or a branch that isn't there, for
@@ -133,7 +133,7 @@ pub fn create_change(
     let change = next_change(rows.number(&Want::LastChange));
     let request = rows.number(&Want::Requests).saturating_add(1);
     let edit = begun_edit(alloc, change, new, caller, request)?;
-    let delta = edited(alloc, edit)?;
+    let delta = delta_of(alloc, edit)?;
     let patch = patch_of(1);
     Ok((delta, Reply::Done(Answer::Change { change, patch })))
 }

@@ -1,28 +1,25 @@
 //! The change that a command names, and what it makes of it.
 ghost use Rattle.std.specs.Prelude.{◌≡◌, ◌⊎◌, IfOk, IfErr};
-ghost use Rattle.review_names.specs.Forms.{most_comments, most_patches};
 ghost use Rattle.review_words.specs.declared.reply.NotTaken.TheVariants.{Damaged, Memory};
-ghost use Rattle.review_core_rules.specs.{Seen.seen, Sound.IsSound};
+ghost use Rattle.review_core_rules.specs.{EditedChanges.after_edits, Seen.seen, Sound.IsSound};
 ghost use Rattle.review_machine_rows.specs.Decisions.{NamesEachOnce, NamesRowsOnce};
-ghost use Rattle.review_machine_change_rows.specs.Edits.{GoesOn};
 ghost use Rattle.review_machine_changes.specs.Facts.{EditsChange, IsChecked, MakesChange};
 
 use review_core::{ChangeFile, RowsFault};
-use review_core_rules::ChangeRows;
+use review_core_rules::{ChangeRows, EditedChange};
 use review_machine_accounts::nothing;
-use review_machine_change_rows::{copied_change, edit_of};
+use review_machine_change_rows::edit_of;
 use review_machine_rows::{ChangeEdit, Delta};
 use review_words::{ChangeNo, NotTaken, Refusal};
 use std::alloc::{AllocError, Global};
 
 /// The change of rows that were loaded. Damaged only where they don't fit together.
-pub fn change_file(alloc: Global, found: &ChangeRows) -> Result<ChangeFile, NotTaken>
-    ensures file { IfOk result (λ f. seen f.rows ≡ seen found.now) }
+pub fn change_file<'r>(alloc: Global, found: &'r ChangeRows) -> Result<ChangeFile<'r>, NotTaken>
+    ensures file { IfOk result (λ f. seen f.rows.now ≡ seen found.now) }
     ensures sound { IfOk result (λ f. IsSound (seen found.now)) }
     ensures cause { IfErr result (λ e. (e ≡ Memory) ⊎ ((e ≡ Damaged) × (IsSound (seen found.now) → ⊥))) }
 {
-    let copy = copied_change(alloc, found)?;
-    match ChangeFile::from_rows(alloc, copy) {
+    match ChangeFile::from_rows(alloc, found) {
         Ok(file) => Ok(told_sound(file)),
         Err(RowsFault::Broken) => Err(NotTaken::Damaged),
         Err(RowsFault::Memory) => Err(NotTaken::Memory),
@@ -30,9 +27,9 @@ pub fn change_file(alloc: Global, found: &ChangeRows) -> Result<ChangeFile, NotT
 }
 
 /// The change as it is, of which it is said here that it is sound.
-fn told_sound(file: ChangeFile) -> ChangeFile
-    ensures same { result.rows ≡ file.rows }
-    ensures sound { IsSound (seen file.rows) }
+fn told_sound<'r>(file: ChangeFile<'r>) -> ChangeFile<'r>
+    ensures same { result.rows ≡ file.entry.rows }
+    ensures sound { IsSound (seen file.entry.rows.now) }
 {
     let _rows = file.rows();
     file
@@ -40,16 +37,16 @@ fn told_sound(file: ChangeFile) -> ChangeFile
 
 /// What the checks of a request come to.
 #[derive(Drop)]
-pub enum Checked {
+pub enum Checked<'r> {
     /// None fails, and the change is this.
-    Passes(ChangeFile),
+    Passes(ChangeFile<'r>),
     /// The first that fails refuses so.
     Fails(Refusal),
 }
 
 /// What checks come to, by the refusal of the first that fails.
-pub fn checked_by(file: ChangeFile, refusal: Option<Refusal>) -> Checked
-    ensures { IsChecked refusal (seen file.rows) result }
+pub fn checked_by<'r>(file: ChangeFile<'r>, refusal: Option<Refusal>) -> Checked<'r>
+    ensures { IsChecked refusal (seen file.entry.rows.now) result }
 {
     match refusal {
         Some(refusal) => Checked::Fails(refusal),
@@ -58,7 +55,7 @@ pub fn checked_by(file: ChangeFile, refusal: Option<Refusal>) -> Checked
 }
 
 /// The delta of one edit.
-pub fn edited(alloc: Global, edit: ChangeEdit) -> Result<Delta, AllocError>
+pub fn delta_of(alloc: Global, edit: ChangeEdit) -> Result<Delta, AllocError>
     ensures edits { IfOk result (EditsChange edit) }
     ensures once { IfOk result (λ delta. NamesRowsOnce edit → NamesEachOnce delta) }
 {
@@ -67,18 +64,12 @@ pub fn edited(alloc: Global, edit: ChangeEdit) -> Result<Delta, AllocError>
     Ok(delta)
 }
 
-/// The delta that turns a change into one that goes on from it.
-pub fn turned(
-    alloc: Global,
-    change: ChangeNo,
-    found: &ChangeRows,
-    new: ChangeFile,
-) -> Result<Delta, AllocError>
-    requires patches { GoesOn most_patches found.now.patches.items new.rows.patches.items }
-    requires comments { GoesOn most_comments found.now.comments.items new.rows.comments.items }
-    ensures made { IfOk result (MakesChange change (seen found.now) (seen new.rows)) }
+/// The delta that turns a change into what was made of it.
+pub fn turned(alloc: Global, change: ChangeNo, edited: EditedChange) -> Result<Delta, AllocError>
+    requires { IsSound (after_edits edited) }
+    ensures made { IfOk result (MakesChange change (seen edited.entry.rows.now) (after_edits edited.entry)) }
     ensures once { IfOk result NamesEachOnce }
 {
-    let edit = edit_of(alloc, change, found, new.rows())?;
-    edited(alloc, edit)
+    let edit = edit_of(alloc, change, edited)?;
+    delta_of(alloc, edit)
 }

@@ -181,7 +181,7 @@ fn restore_refusal(
 }
 
 fn call_refusal(rows: &Rows, file: &ChangeFile, account: AccountNo) -> Option<Refusal>
-    ensures { result ≡ first_refusal (call_list rows.now account (seen file.now.rows)) }
+    ensures { result ≡ first_refusal (call_list rows.now account (seen file.now.rows.now)) }
 {
     if !rows.is_there(&Want::Account(account)) {
         return Some(Refusal::NoAccount);
@@ -223,7 +223,7 @@ pub fn plain_refusal(
     command: &ChangeCommand,
     file: &ChangeFile,
 ) -> Result<Option<Refusal>, AllocError>
-    ensures { IfOk result (λ r. r ≡ first_refusal (plain_list (option_copied effective.entry) rows.now caller command.now (seen file.now.rows))) }
+    ensures { IfOk result (λ r. r ≡ first_refusal (plain_list (option_copied effective.entry) rows.now caller command.now (seen file.now.rows.now))) }
 {
     let change = file.rows();
     match command {

@@ -3,7 +3,8 @@ ghost use Rattle.std.specs.Prelude.{◌≡◌, ◌⊎◌, ◌<◌, List, IfOk, I
 ghost use Rattle.review_words.specs.History.{Entry, is_account};
 ghost use Rattle.review_words.specs.{Texts.IsStored, declared.command.Command.TheVariants.OnChange};
 ghost use Rattle.review_words.specs.declared.reply.NotTaken.TheVariants.{Damaged, Memory};
-ghost use Rattle.review_core_rules.specs.{Change.after_plain, Seen.seen, Sound.IsSound, Sound.fits};
+ghost use Rattle.review_core_rules.specs.{Change.after_plain, EditedChanges.Makes, Seen.seen};
+ghost use Rattle.review_core_rules.specs.Sound.{IsSound, fits};
 ghost use Rattle.review_machine_rows.specs.{Answer.first_refusal, Answer.most_requests, Changes.Reading};
 ghost use Rattle.review_machine_rows.specs.Decisions.{IsUndecided, NamesEachOnce};
 ghost use Rattle.review_machine_rows.specs.{Rows.HasNoEffect, Steps.OfCommand, View.AreEnough, View.IsDecided};
@@ -15,7 +16,7 @@ use crate::refusing::plain_refusal;
 use crate::reviewing::review;
 use crate::uploading::upload;
 use review_core::ChangeFile;
-use review_core_rules::ChangeRows;
+use review_core_rules::{ChangeRows, EditedChange};
 use review_file::ProjectFile;
 use review_file_rules::one_effective_file;
 use review_machine_accounts::refused;
@@ -92,20 +93,20 @@ fn request(
     }
     let checked = plain_checked(alloc, effective, rows, caller, command, found)?;
     match checked {
-        Checked::Passes(file) => Ok(done(alloc, rows, caller, change, found, file, command)?),
+        Checked::Passes(file) => Ok(done(alloc, rows, caller, change, &file, command)?),
         Checked::Fails(refusal) => Ok(refused(alloc, refusal)),
     }
 }
 
 /// What the checks of a request on a change come to. Damaged only where the change isn't sound.
-fn plain_checked(
+fn plain_checked<'r>(
     alloc: Global,
     effective: Option<&ProjectFile>,
     rows: &Rows,
     caller: AccountNo,
     command: &ChangeCommand,
-    found: &ChangeRows,
-) -> Result<Checked, NotTaken>
+    found: &'r ChangeRows,
+) -> Result<Checked<'r>, NotTaken>
     ensures checked { IfOk result (IsChecked (first_refusal (plain_list (option_copied effective.entry) rows.now caller command.now (seen found.now))) (seen found.now)) }
     ensures cause { IfErr result (λ e. (e ≡ Memory) ⊎ ((e ≡ Damaged) × (IsSound (seen found.now) → ⊥))) }
 {
@@ -115,16 +116,16 @@ fn plain_checked(
 }
 
 /// What a request makes of a change.
-fn applied(
+fn applied<'r>(
     alloc: Global,
-    file: ChangeFile,
+    file: &ChangeFile<'r>,
     command: &ChangeCommand,
     caller: AccountNo,
     request: u64,
-) -> Result<ChangeFile, AllocError>
+) -> Result<EditedChange<'r>, AllocError>
     requires plain { is_plain command.now ≡ true }
-    requires fits { fits command.now (seen file.rows) ≡ true }
-    ensures { IfOk result (λ new. seen new.rows ≡ after_plain command.now caller request (seen file.rows)) }
+    requires fits { fits command.now (seen file.now.rows.now) ≡ true }
+    ensures { IfOk result (Makes file.now.rows.now (after_plain command.now caller request (seen file.now.rows.now))) }
 {
     match command {
         ChangeCommand::AddReviewer { account, role } => {
@@ -133,15 +134,15 @@ fn applied(
         ChangeCommand::RemoveReviewer { account } => {
             file.without_reviewer(alloc, *account, caller, request)
         }
-        ChangeCommand::SetWip => Ok(file.wip(alloc, caller, request)),
+        ChangeCommand::SetWip => file.wip(alloc, caller, request),
         ChangeCommand::SetReady => file.ready(alloc, caller, request),
-        ChangeCommand::Abandon => Ok(file.abandon(alloc, caller, request)),
-        ChangeCommand::Restore => Ok(file.restore(caller, request)),
+        ChangeCommand::Abandon => file.abandon(alloc, caller, request),
+        ChangeCommand::Restore => file.restore(alloc, caller, request),
         ChangeCommand::AddAttention { account, reason } => {
             file.attend(alloc, *account, reason, caller, request)
         }
         ChangeCommand::RemoveAttention { account, reason } => {
-            Ok(file.unattend(*account, reason, caller, request))
+            file.unattend(alloc, *account, reason, caller, request)
         }
         ChangeCommand::Upload(_) => unreachable!(),
         ChangeCommand::Review(_) => unreachable!(),
@@ -152,20 +153,18 @@ fn applied(
 fn delta_by(
     alloc: Global,
     change: ChangeNo,
-    found: &ChangeRows,
-    file: ChangeFile,
+    file: &ChangeFile,
     command: &ChangeCommand,
     caller: AccountNo,
     request: u64,
 ) -> Result<Delta, AllocError>
-    requires same { seen file.rows ≡ seen found.now }
     requires plain { is_plain command.now ≡ true }
-    requires fits { fits command.now (seen found.now) ≡ true }
-    ensures made { IfOk result (MakesChange change (seen found.now) (after_plain command.now caller request (seen found.now))) }
+    requires fits { fits command.now (seen file.now.rows.now) ≡ true }
+    ensures made { IfOk result (MakesChange change (seen file.now.rows.now) (after_plain command.now caller request (seen file.now.rows.now))) }
     ensures once { IfOk result NamesEachOnce }
 {
-    let new = applied(alloc, file, command, caller, request)?;
-    turned(alloc, change, found, new)
+    let edited = applied(alloc, file, command, caller, request)?;
+    turned(alloc, change, edited)
 }
 
 /// The answer to a request that no check refuses, and what it changes.
@@ -174,20 +173,18 @@ fn done(
     rows: &Rows,
     caller: AccountNo,
     change: ChangeNo,
-    found: &ChangeRows,
-    file: ChangeFile,
+    file: &ChangeFile,
     command: &ChangeCommand,
 ) -> Result<(Delta, Reply), AllocError>
-    requires same { seen file.rows ≡ seen found.now }
     requires plain { is_plain command.now ≡ true }
-    requires fits { fits command.now (seen found.now) ≡ true }
-    ensures made { IfOk result (λ r. IsPlainlyDone change command.now caller rows.now (seen found.now) r.0 r.1) }
+    requires fits { fits command.now (seen file.now.rows.now) ≡ true }
+    ensures made { IfOk result (λ r. IsPlainlyDone change command.now caller rows.now (seen file.now.rows.now) r.0 r.1) }
     ensures stored { IfOk result (λ r. IsStored r.1) }
     ensures refused { IfOk result (λ r. HasNoEffect r.1 r.0) }
     ensures epoch { IfOk result (λ r. r.0.least_epoch ≡ None) }
     ensures once { IfOk result (λ r. NamesEachOnce r.0) }
 {
     let request = rows.number(&Want::Requests).saturating_add(1);
-    let delta = delta_by(alloc, change, found, file, command, caller, request)?;
+    let delta = delta_by(alloc, change, file, command, caller, request)?;
     Ok((delta, Reply::Done(Answer::Nothing)))
 }

@@ -214,19 +214,17 @@ fn comment_of(number: usize) -> CommentNo
 fn with_review(
     alloc: Global,
     change: ChangeNo,
-    found: &ChangeRows,
-    file: ChangeFile,
+    file: &ChangeFile,
     review: &Review,
     caller: AccountNo,
     request: u64,
 ) -> Result<Delta, AllocError>
-    requires same { seen file.rows ≡ seen found.now }
-    requires fits { fits (ReviewOf review.now) (seen found.now) ≡ true }
-    ensures made { IfOk result (MakesChange change (seen found.now) (after_plain (ReviewOf review.now) caller request (seen found.now))) }
+    requires { fits (ReviewOf review.now) (seen file.now.rows.now) ≡ true }
+    ensures made { IfOk result (MakesChange change (seen file.now.rows.now) (after_plain (ReviewOf review.now) caller request (seen file.now.rows.now))) }
     ensures once { IfOk result NamesEachOnce }
 {
-    let new = file.with_review(alloc, review, caller, request)?;
-    turned(alloc, change, found, new)
+    let edited = file.with_review(alloc, review, caller, request)?;
+    turned(alloc, change, edited)
 }
 
 /// What an account says of a patch set of a change: a message, values on labels, comments. Refused for a change or a patch set that isn't
@@ -255,20 +253,20 @@ pub fn review(
     };
     let checked = review_checked(alloc, effective, rows, caller, review, found)?;
     match checked {
-        Checked::Passes(file) => Ok(reviewed(alloc, rows, caller, change, found, file, review)?),
+        Checked::Passes(file) => Ok(reviewed(alloc, rows, caller, change, &file, review)?),
         Checked::Fails(refusal) => Ok(refused(alloc, refusal)),
     }
 }
 
 /// What the checks of a review of a change come to. Damaged only where the change isn't sound, or there is no file to judge values by.
-fn review_checked(
+fn review_checked<'r>(
     alloc: Global,
     effective: Option<&ProjectFile>,
     rows: &Rows,
     caller: AccountNo,
     review: &Review,
-    found: &ChangeRows,
-) -> Result<Checked, NotTaken>
+    found: &'r ChangeRows,
+) -> Result<Checked<'r>, NotTaken>
     ensures checked { IfOk result (IsChecked (first_refusal (review_list (option_copied effective.entry) rows.now caller review.now (seen found.now))) (seen found.now)) }
     ensures judged { IfOk result (λ r. LacksFile (option_copied effective.entry) review.now.labels → is_within (current (seen found.now)) (reviewed review.now (seen found.now)) ≡ false) }
     ensures cause { IfErr result (λ e. (e ≡ Memory) ⊎ ((e ≡ Damaged) × ((IsSound (seen found.now) → ⊥) ⊎ LacksFile (option_copied effective.entry) review.now.labels))) }
@@ -284,20 +282,19 @@ fn reviewed(
     rows: &Rows,
     caller: AccountNo,
     change: ChangeNo,
-    found: &ChangeRows,
-    file: ChangeFile,
+    file: &ChangeFile,
     review: &Review,
 ) -> Result<(Delta, Reply), AllocError>
-    requires same { seen file.rows ≡ seen found.now }
-    requires fits { fits (ReviewOf review.now) (seen found.now) ≡ true }
-    ensures made { IfOk result (λ r. IsReviewed change review.now caller rows.now (seen found.now) r.0 r.1) }
+    requires { fits (ReviewOf review.now) (seen file.now.rows.now) ≡ true }
+    ensures made { IfOk result (λ r. IsReviewed change review.now caller rows.now (seen file.now.rows.now) r.0 r.1) }
     ensures stored { IfOk result (λ r. IsStored r.1) }
     ensures refused { IfOk result (λ r. HasNoEffect r.1 r.0) }
     ensures epoch { IfOk result (λ r. r.0.least_epoch ≡ None) }
     ensures once { IfOk result (λ r. NamesEachOnce r.0) }
 {
-    let numbers = new_numbers(alloc, found.comments.len(), said_count(review))?;
+    let stored = file.rows().comments.len();
+    let numbers = new_numbers(alloc, stored, said_count(review))?;
     let request = rows.number(&Want::Requests).saturating_add(1);
-    let delta = with_review(alloc, change, found, file, review, caller, request)?;
+    let delta = with_review(alloc, change, file, review, caller, request)?;
     Ok((delta, Reply::Done(Answer::Reviewed(numbers))))
 }

@@ -6,7 +6,8 @@ ghost use Rattle.review_words.specs.declared.command.ChangeCommand.TheVariants.{
 ghost use Rattle.review_words.specs.declared.{command.Command.TheVariants.OnChange, reply.Answer.TheVariants.Patch};
 ghost use Rattle.review_words.specs.declared.reply.NotTaken.TheVariants.{Damaged, Memory};
 ghost use Rattle.review_core_rules.specs.Change.{after, carried, copying, current, is_lost};
-ghost use Rattle.review_core_rules.specs.{Counts.AreMany, Seen.seen, Sound.IsSound, Sound.fits, Votes.voted};
+ghost use Rattle.review_core_rules.specs.{Counts.AreMany, EditedChanges.Makes, Seen.seen, Sound.IsSound, Sound.fits};
+ghost use Rattle.review_core_rules.specs.Votes.{voted};
 ghost use Rattle.review_machine_rows.specs.{Answer.first_refusal, Answer.most_requests, Changes.Reading};
 ghost use Rattle.review_machine_rows.specs.Decisions.{IsUndecided, NamesEachOnce};
 ghost use Rattle.review_machine_rows.specs.{Rows.HasNoEffect, Steps.OfCommand, View.AreEnough, View.IsDecided};
@@ -17,7 +18,7 @@ ghost use Rattle.review_file_rules.specs.declared.parts.Right.TheVariants as rig
 use crate::edits::{Checked, change_file, checked_by, turned};
 use crate::facts::{has_right, is_open};
 use review_core::{ChangeFile, Copied};
-use review_core_rules::{ChangeRows, Header};
+use review_core_rules::{ChangeRows, EditedChange, Header};
 use review_file::{ProjectFile, Right};
 use review_file_rules::{groups_suffice, one_effective_file};
 use review_machine_accounts::{is_known, refused};
@@ -130,21 +131,21 @@ pub fn upload(
     let checked = upload_checked(alloc, project, rows, caller, patch, found)?;
     match checked {
         Checked::Passes(file) => {
-            Ok(uploaded(alloc, project, rows, caller, change, found, file, patch)?)
+            Ok(uploaded(alloc, project, rows, caller, change, &file, patch)?)
         }
         Checked::Fails(refusal) => Ok(refused(alloc, refusal)),
     }
 }
 
 /// What the checks of a new patch set of a change come to. Damaged only where the change isn't sound.
-fn upload_checked(
+fn upload_checked<'r>(
     alloc: Global,
     project: &ProjectFile,
     rows: &Rows,
     caller: AccountNo,
     patch: &NewPatch,
-    found: &ChangeRows,
-) -> Result<Checked, NotTaken>
+    found: &'r ChangeRows,
+) -> Result<Checked<'r>, NotTaken>
     ensures checked { IfOk result (IsChecked (first_refusal (upload_list project.now rows.now caller patch.now (seen found.now))) (seen found.now)) }
     ensures cause { IfErr result (λ e. (e ≡ Memory) ⊎ ((e ≡ Damaged) × (IsSound (seen found.now) → ⊥))) }
 {
@@ -154,19 +155,19 @@ fn upload_checked(
 }
 
 /// A change with a new patch set, and the numbers of votes that were copied to it and that weren't.
-fn with_patch(
+fn with_patch<'r>(
     alloc: Global,
     project: &ProjectFile,
     rows: &Rows,
     caller: AccountNo,
-    file: ChangeFile,
+    file: &ChangeFile<'r>,
     patch: &NewPatch,
     request: u64,
-) -> Result<(ChangeFile, Copied), AllocError>
-    requires { fits (UploadOf patch.now) (seen file.rows) ≡ true }
-    ensures change { IfOk result (λ r. seen r.0.rows ≡ after (setting_in project.now rows.now) (UploadOf patch.now) caller request (seen file.rows)) }
-    ensures copied { IfOk result (λ r. AreMany (λ l u. voted (carried (copying (setting_in project.now rows.now) (UploadOf patch.now) caller (seen file.rows)) (seen file.rows) l u)) r.1.copied) }
-    ensures outdated { IfOk result (λ r. AreMany (λ l u. is_lost (copying (setting_in project.now rows.now) (UploadOf patch.now) caller (seen file.rows)) (seen file.rows) u l) r.1.outdated) }
+) -> Result<(EditedChange<'r>, Copied), AllocError>
+    requires { fits (UploadOf patch.now) (seen file.now.rows.now) ≡ true }
+    ensures change { IfOk result (λ r. Makes file.now.rows.now (after (setting_in project.now rows.now) (UploadOf patch.now) caller request (seen file.now.rows.now)) r.0) }
+    ensures copied { IfOk result (λ r. AreMany (λ l u. voted (carried (copying (setting_in project.now rows.now) (UploadOf patch.now) caller (seen file.now.rows.now)) (seen file.now.rows.now) l u)) r.1.copied) }
+    ensures outdated { IfOk result (λ r. AreMany (λ l u. is_lost (copying (setting_in project.now rows.now) (UploadOf patch.now) caller (seen file.now.rows.now)) (seen file.now.rows.now) u l) r.1.outdated) }
 {
     let patch = copied_patch(alloc, patch)?;
     file.with_patch_set(alloc, patch, caller, project, &rows.groups, request)
@@ -179,21 +180,20 @@ fn uploaded(
     rows: &Rows,
     caller: AccountNo,
     change: ChangeNo,
-    found: &ChangeRows,
-    file: ChangeFile,
+    file: &ChangeFile,
     patch: &NewPatch,
 ) -> Result<(Delta, Reply), AllocError>
-    requires same { seen file.rows ≡ seen found.now }
-    requires fits { fits (UploadOf patch.now) (seen found.now) ≡ true }
-    ensures made { IfOk result (λ r. IsUploaded project.now change patch.now caller rows.now (seen found.now) r.0 r.1) }
+    requires { fits (UploadOf patch.now) (seen file.now.rows.now) ≡ true }
+    ensures made { IfOk result (λ r. IsUploaded project.now change patch.now caller rows.now (seen file.now.rows.now) r.0 r.1) }
     ensures stored { IfOk result (λ r. IsStored r.1) }
     ensures refused { IfOk result (λ r. HasNoEffect r.1 r.0) }
     ensures epoch { IfOk result (λ r. r.0.least_epoch ≡ None) }
     ensures once { IfOk result (λ r. NamesEachOnce r.0) }
 {
     let request = rows.number(&Want::Requests).saturating_add(1);
-    let (new, counts) = with_patch(alloc, project, rows, caller, file, patch, request)?;
-    let delta = turned(alloc, change, found, new)?;
-    let answer = patch_answer(change, next_patch(found.patches.len()), counts);
+    let (edited, counts) = with_patch(alloc, project, rows, caller, file, patch, request)?;
+    let next = next_patch(file.rows().patches.len());
+    let delta = turned(alloc, change, edited)?;
+    let answer = patch_answer(change, next, counts);
     Ok((delta, Reply::Done(answer)))
 }

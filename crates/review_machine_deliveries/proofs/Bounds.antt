@@ -1,15 +1,14 @@
--- How many votes a change of a history has at most.
-use Rattle.std.proofs.Common.{◌≡◌, ℕ, ℤ, pos, zero, suc, ◌+◌, ◌*◌, ◌==◌, ◌<◌, ◌≤◌, List, [], ◌∷◌, ◌++◌, length, Option, Some, None, Bool, true, false, cond, not, ◌&&◌, ◌||◌, Less, Equal, Greater, nat_cmp, refl, sym, ap, ◌∙◌, ⊎_elim, arith, eq-eqb, length-append}
-use Rattle.std.proofs.lemmas.Bool.{and_parts, and_from, cases_Bool, cases_lt, ltb-true, ltb-false, leb-true}
-use Rattle.std.{proofs.lemmas.List.length-map, specs.Cmp.Lexicographic.slice_cmp}
-use Rattle.std.specs.{List.list_any, Option.option_map_or, Ordering.int_eq, Ordering.match_ordering}
-use Rattle.std.specs.Prelude.{is_some, nat_le, nat_lt, find, filter, fold, codes}
-use Rattle.std.specs.{Str.bytes_eq, declared.cmp.Ordering.Ordering}
+-- How many votes a change of a history has: they are counted, accounts gave them, and there is a most.
+use Rattle.std.proofs.Common.{◌≡◌, ℕ, ◌+◌, ◌==◌, ◌≤◌, List, [], ◌∷◌, length, Bool, true, false, cond, ◌&&◌, ◌||◌, refl, sym, ap, ◌∙◌, ⊎_elim, arith, eqb-true, eq-eqb, bytes_eq, ℤ, pos, Option, Some, None, subst, leb-true, le-leb, nat_le, option_map, zero, suc, ◌*◌, ◌<◌, ◌++◌, not, Less, Equal, Greater, nat_cmp, length-append, ltb-true, ltb-false, int_eq, is_some, nat_lt, find, filter, fold, codes}
+use Rattle.std.proofs.lemmas.{Bool.and_parts, Bool.and_from, Bool.cases_Bool, Bool.cases_lt, List.length-map}
+use Rattle.std.{proofs.lemmas.Slice.Eq.bytes_eq-Decides, specs.Cmp.Lexicographic.slice_cmp}
+use Rattle.std.specs.{List.list_any, Option.option_map_or, Ordering.match_ordering, declared.cmp.Ordering.Ordering}
 use Rattle.toml.specs.Data.{Data, table}
 use Rattle.review_names.specs.Forms.{is_label}
 use Rattle.review_file_document.specs.{Document.members_at, Limits.most_parts}
-use Rattle.review_words.specs.History.{Entry, if_done, account_count, counted, is_account}
-use Rattle.review_words.specs.declared.{changes.Given.Given, changes.NewPatch.NewPatch, command.Command.Command}
+use Rattle.review_words.specs.History.{Entry, accepted, if_done, account_count, counted, is_account}
+use Rattle.review_words.specs.declared.changes.{Given.Given, NewPatch.NewPatch, Review.Review as ReviewOf}
+use Rattle.review_words.specs.declared.command.{ChangeCommand.ChangeCommand, Command.Command}
 use Rattle.review_words.specs.declared.command.Command.TheVariants.{CreateAccount, PutGroup, PutProject, RecordBase, CloseEpoch, CreateChange, OnChange, Submit}
 use Rattle.review_words.specs.declared.reply.{Answer.Answer, Refusal.TheVariants.UnknownCaller, Reply.Reply}
 use Rattle.review_words.specs.declared.reply.Reply.TheVariants.{Done, Refused, IdentityReused, EpochClosed, NotTaken}
@@ -17,17 +16,209 @@ use Rattle.review_expr.specs.declared.expr.Expr.{Expr}
 use Rattle.review_file_rules.specs.Expressions.{EachTo, IsLabel}
 use Rattle.review_file_rules.specs.Inherited.{inherited_labels, put_by}
 use Rattle.review_file_rules.specs.{Spelled.label_in, Spelled.named, Spelled.spelled, View.FileView, View.LabelView}
-use Rattle.review_core_rules.specs.Change.{Change, carried, copying, current, is_lost}
-use Rattle.review_core_rules.specs.{Counts.AreMany, Counts.has_vote, Votes.voted, declared.rows.VoteKey.VoteKey}
+use Rattle.review_core_rules.specs.Change.{Change, Copying, Setting, after, begun, carried, copying, current, given_or, reviewed, is_lost}
+use Rattle.review_core_rules.specs.Counts.{AreApart, AreMany, has_vote}
+use Rattle.review_core_rules.specs.{Votes.voted, declared.rows.VoteKey.VoteKey}
 use Rattle.review_machine_rows.proofs.Readings.{IsDoneBy, done_of}
-use Rattle.review_machine_rows.specs.Answer.{IsAnswerBy, IsHistory, IsUploadAnswer, checks, is_value_of}
-use Rattle.review_machine_rows.specs.Changes.{Reading, Reads, change, effective_of, file_of, own_of, setting_of, texts_of}
+use Rattle.review_machine_rows.specs.Answer.{IsAnswerBy, IsHistory, checks, IsUploadAnswer, is_value_of}
+use Rattle.review_machine_rows.specs.Changes.{Reading, Reads, change, change_by, change_count, setting_of, submitted, effective_of, file_of, own_of, texts_of}
 use Rattle.review_machine_rows.specs.{Files.IsRead, Lines.line_of, Lines.most_depth, Lines.with_above}
 use Rattle.review_machine_rows.specs.declared.rows.StoredFile.{StoredFile}
-use Rattle.review_machine_laws.proofs.{Effective.line_read, SoundChanges.all_pass, SoundChanges.done_passes}
-use Rattle.review_machine_laws.proofs.StandingVotes.{votes_stand}
-use Rattle.review_machine_deliveries.proofs.{Named.AreReadRight, OneFile.spelled_once, Voted.have_voters, Votes.no_more}
+use Rattle.review_machine_laws.proofs.Changes.{joining_keeps, all_pass, done_passes}
+use Rattle.review_machine_laws.proofs.{Histories.line_read, SoundProjects.votes_stand}
+use Rattle.review_machine_deliveries.proofs.Files.{AreReadRight, spelled_once}
 use Rattle.review_words.specs.declared.command.ChangeCommand.TheVariants as on
+
+-- ==== counting votes: lists that are apart and have the same votes are of one length
+
+-- the key is that of an account on a label
+abbrev is_vote : VoteKey → ℕ → List ℕ → Bool
+is_vote k u l = bytes_eq k.label l && (k.account == u)
+
+-- the list without the first of these votes
+abbrev without : ℕ → List ℕ → List VoteKey → List VoteKey
+without u l [] = []
+without u l (k ∷ ks) = cond (is_vote k u l) ks (k ∷ without u l ks)
+
+without_long : (u : ℕ) (l : List ℕ) (ks : List VoteKey) → has_vote ks u l ≡ true → length (without u l ks) + 1 ≡ length ks
+without_long u l [] there = absurd (cc)
+without_long u l (k ∷ ks) there =
+    ⊎_elim
+    (λ (t : is_vote k u l ≡ true).
+    let now : length (without u l (k ∷ ks)) ≡ length ks = ap (λ b. length (cond b ks (k ∷ without u l ks))) t in omega arith)
+    (λ (f : is_vote k u l ≡ false).
+    let rest : has_vote ks u l ≡ true = sym (ap (λ b. b || has_vote ks u l) f) ∙ there in
+    let before = without_long u l ks rest in
+    let now : length (without u l (k ∷ ks)) ≡ length (k ∷ without u l ks) = ap (λ b. length (cond b ks (k ∷ without u l ks))) f in
+    omega arith)
+    (cases_Bool (is_vote k u l))
+
+or_or : (b c : Bool) → c ≡ true → (b || c) ≡ true
+or_or true c t = refl
+or_or false c t = t
+
+-- two votes of one key
+same_vote : (k : VoteKey) (u v : ℕ) (l m : List ℕ) → is_vote k u l ≡ true → is_vote k v m ≡ true → (u ≡ v) × (l ≡ m)
+same_vote k u v l m one other =
+    let a = and_parts (bytes_eq k.label l) (k.account == u) one in
+    let b = and_parts (bytes_eq k.label m) (k.account == v) other in
+    (sym (eqb-true k.account u a.1) ∙ eqb-true k.account v b.1, sym ((bytes_eq-Decides k.label l).0 a.0) ∙ (bytes_eq-Decides k.label m).0 b.0)
+
+-- another vote stays
+without_other : (u v : ℕ) (l m : List ℕ) (ks : List VoteKey) → ((u ≡ v) × (l ≡ m) → ⊥) → has_vote ks v m ≡ true → has_vote (without u l ks) v m ≡ true
+without_other u v l m [] other there = there
+without_other u v l m (k ∷ ks) other there =
+    ⊎_elim
+    (λ (t : is_vote k u l ≡ true).
+    let not_here : is_vote k v m ≡ false =
+    ⊎_elim (λ (s : is_vote k v m ≡ true). absurd (other (same_vote k u v l m t s))) (λ (f : is_vote k v m ≡ false). f) (cases_Bool (is_vote k v m)) in
+    ap (λ b. has_vote (cond b ks (k ∷ without u l ks)) v m) t ∙ (sym (ap (λ b. b || has_vote ks v m) not_here) ∙ there))
+    (λ (f : is_vote k u l ≡ false).
+    ap (λ b. has_vote (cond b ks (k ∷ without u l ks)) v m) f
+    ∙ ⊎_elim
+    (λ (s : is_vote k v m ≡ true). ap (λ b. b || has_vote (without u l ks) v m) s)
+    (λ (n : is_vote k v m ≡ false).
+    or_or (is_vote k v m) (has_vote (without u l ks) v m) (without_other u v l m ks other (sym (ap (λ b. b || has_vote ks v m) n) ∙ there)))
+    (cases_Bool (is_vote k v m)))
+    (cases_Bool (is_vote k u l))
+
+own_vote : (k : VoteKey) → is_vote k k.account k.label ≡ true
+own_vote k = and_from (bytes_eq k.label k.label) (k.account == k.account) ((bytes_eq-Decides k.label k.label).1 refl) (eq-eqb k.account k.account refl)
+
+-- A list of votes that are apart is no longer than one that has them all.
+pub no_more : (ks js : List VoteKey) → AreApart ks → ((u : ℕ) (l : List ℕ) → has_vote ks u l ≡ true → has_vote js u l ≡ true) → length ks ≤ length js
+no_more [] js apart within = omega arith
+no_more (k ∷ ks) js apart within =
+    let here : has_vote js k.account k.label ≡ true = within k.account k.label (ap (λ b. b || has_vote ks k.account k.label) (own_vote k)) in
+    let rest = no_more ks (without k.account k.label js) apart.1 (λ u l there.
+    without_other k.account u k.label l js (λ same.
+    let bad : true ≡ false = sym there ∙ ((λ i. has_vote ks (sym same.0 i) (sym same.1 i)) ∙ apart.0) in absurd (cc))
+    (within u l (or_or (is_vote k u l) (has_vote ks u l) there))) in
+    let long = without_long k.account k.label js here in
+    omega arith
+
+-- a test holds for one number of pairs
+pub one_count : (test : List ℕ → ℕ → Bool) (n m : ℕ) → AreMany test n → AreMany test m → n ≡ m
+one_count test n m a b =
+    let x = no_more a.keys b.keys a.apart (λ u l there. b.each l u ∙ (sym (a.each l u) ∙ there)) in
+    let y = no_more b.keys a.keys b.apart (λ u l there. a.each l u ∙ (sym (b.each l u) ∙ there)) in
+    let p = a.count in
+    let q = b.count in
+    omega arith
+
+-- ==== whose votes a change has: accounts vote
+
+-- ---- accounts stay
+
+more_accounts : (n m u : ℕ) → n ≤ m → (nat_le 1 u && nat_le u n) ≡ true → (nat_le 1 u && nat_le u m) ≡ true
+more_accounts n m u grows is =
+    let p = and_parts (nat_le 1 u) (nat_le u n) is in
+    let below : u ≤ n = leb-true u n p.1 in
+    and_from (nat_le 1 u) (nat_le u m) p.0 (le-leb u m (omega arith))
+
+accounts_stay : (o : Option Command) (n u : ℕ) → (nat_le 1 u && nat_le u n) ≡ true → (nat_le 1 u && nat_le u (counted o n)) ≡ true
+accounts_stay None n u is = is
+accounts_stay (Some (CreateAccount name)) n u is = more_accounts n (n + 1) u (omega arith) is
+accounts_stay (Some (PutGroup group members)) n u is = is
+accounts_stay (Some (PutProject project text)) n u is = is
+accounts_stay (Some (RecordBase project branch commit)) n u is = is
+accounts_stay (Some (CreateChange new)) n u is = is
+accounts_stay (Some (OnChange m command)) n u is = is
+accounts_stay (Some (Submit m)) n u is = is
+accounts_stay (Some (CloseEpoch epoch)) n u is = is
+
+-- ---- votes
+
+-- accounts voted on a change
+abbrev pub HasVoters : List Entry → Change → Type 0
+HasVoters h c = (n : ℕ) (l : List ℕ) (u : ℕ) → voted (c.vote n l u) ≡ true → is_account h u ≡ true
+
+voters_stay : (e : Entry) (h : List Entry) (c : Change) → HasVoters h c → HasVoters (e ∷ h) c
+voters_stay e h c has n l u is = accounts_stay (accepted e) (account_count h) u (has n l u is)
+
+-- a vote after an Upload was there before
+uploaded_vote : (k : Copying) (b : Bool) (c : Change) (n : ℕ) (l : List ℕ) (u : ℕ) → voted (cond b (carried k c l u) (c.vote n l u)) ≡ true → (m : ℕ) × (voted (c.vote m l u) ≡ true)
+uploaded_vote k false c n l u is = (n, is)
+uploaded_vote k true c n l u is = (current c, copied (k.copies l u (c.vote (current c) l u)) is)
+  where
+    copied : (b : Bool) → voted (cond b (c.vote (current c) l u) (pos 0)) ≡ true → voted (c.vote (current c) l u) ≡ true
+    copied true is = is
+    copied false is = absurd (cc)
+
+uploaded : (h : List Entry) (s : Setting) (p : NewPatch) (caller request : ℕ) (c : Change) → HasVoters h c → HasVoters h (after s (on.Upload p) caller request c)
+uploaded h s p caller request c has n l u is = let v = uploaded_vote (copying s (on.Upload p) caller c) (current c + 1 == n) c n l u is in has v.0 l u v.1
+
+-- a vote that a review gave is its author's, and others were there before
+review_voter : (b t : Bool) (x y : ℤ) {A : Type 0} → (t ≡ true → A) → (voted y ≡ true → A) → voted (cond (b && t) x y) ≡ true → A
+review_voter true true x y here there is = here refl
+review_voter true false x y here there is = there is
+review_voter false t x y here there is = there is
+
+was_reviewed : (h : List Entry) (s : Setting) (caller request : ℕ) (r : ReviewOf) (c : Change) → is_account h caller ≡ true → HasVoters h c → HasVoters h (after s (on.Review r) caller request c)
+was_reviewed h s caller request r c account has n l u is =
+    review_voter (reviewed r c == n) (caller == u) (given_or r.labels l (c.vote n l u)) (c.vote n l u) (λ same. subst (λ x. is_account h x ≡ true) (eqb-true caller u same) account) (has n l u) is
+
+-- a vote that wasn't taken away was there before
+left_vote : (b : Bool) (v : ℤ) → voted (cond b (pos 0) v) ≡ true → voted v ≡ true
+left_vote true v is = absurd (cc)
+left_vote false v is = is
+
+-- after a request of an account on a change accounts voted on it: but for an Upload and a Review each vote was there before
+voters_after : (h : List Entry) (s : Setting) (caller request : ℕ) (command : ChangeCommand) (c : Change) → is_account h caller ≡ true → HasVoters h c → HasVoters h (after s command caller request c)
+voters_after h s caller request (on.Upload patch) c account has n l u is = uploaded h s patch caller request c has n l u is
+voters_after h s caller request (on.Review review) c account has n l u is = was_reviewed h s caller request review c account has n l u is
+voters_after h s caller request (on.AddReviewer v role) c account has n l u is = has n l u is
+voters_after h s caller request (on.RemoveReviewer v) c account has n l u is = has n l u (left_vote ((current c == n) && (v == u)) (c.vote n l u) is)
+voters_after h s caller request on.SetWip c account has n l u is = has n l u is
+voters_after h s caller request on.SetReady c account has n l u is = has n l u is
+voters_after h s caller request on.Abandon c account has n l u is = has n l u is
+voters_after h s caller request on.Restore c account has n l u is = has n l u is
+voters_after h s caller request (on.AddAttention v reason) c account has n l u is = has n l u is
+voters_after h s caller request (on.RemoveAttention v reason) c account has n l u is = has n l u is
+
+-- what becomes of a change that a request names, or that is made
+by_choice : (Is : Change → Type 0) (b : Bool) (o : Option Change) (f : Change → Change) (c : Change) → ((x : Change) → o ≡ Some x → Is x) → ((x : Change) → Is x → Is (f x)) → cond b (option_map f o) o ≡ Some c → Is c
+by_choice Is true None f c before then is = absurd (cc)
+by_choice Is true (Some x) f c before then is = let same : f x ≡ c = cc in subst Is same (then x (before x refl))
+by_choice Is false o f c before then is = before c is
+
+by_making : (Is : Change → Type 0) (b : Bool) (o : Option Change) (new c : Change) → ((x : Change) → o ≡ Some x → Is x) → Is new → cond b (Some new) o ≡ Some c → Is c
+by_making Is true o new c before begins is = let same : new ≡ c = cc in subst Is same begins
+by_making Is false o new c before begins is = before c is
+
+voters_done : (reading : Reading) (h : List Entry) (caller n : ℕ) (c : Change) (command : Command) (a : Answer) → IsAnswerBy reading h caller command (Done a) →
+    ((x : Change) → change reading h n ≡ Some x → HasVoters h x) → change_by reading h caller (Some command) n (change reading h n) ≡ Some c → HasVoters h c
+voters_done reading h caller n c (CreateAccount name) a answer before is = before c is
+voters_done reading h caller n c (PutGroup group members) a answer before is = before c is
+voters_done reading h caller n c (PutProject project text) a answer before is = before c is
+voters_done reading h caller n c (RecordBase project branch commit) a answer before is = before c is
+voters_done reading h caller n c (CloseEpoch epoch) a answer before is = before c is
+voters_done reading h caller n c (CreateChange new) a answer before is =
+    by_making (HasVoters h) (change_count h + 1 == n) (change reading h n) (begun new caller (length h + 1)) c before (λ m l u none. absurd (cc)) is
+voters_done reading h caller n c (OnChange m command) a answer before is =
+    let account = (all_pass ((is_account h caller, UnknownCaller) ∷ checks reading h caller (OnChange m command)) (done_passes reading h caller (OnChange m command) a answer)).0 in
+    by_choice (HasVoters h) (m == n) (change reading h n) (λ x. after (setting_of reading h x.project) command caller (length h + 1) x) c before
+    (λ x has. voters_after h (setting_of reading h x.project) caller (length h + 1) command x account has) is
+voters_done reading h caller n c (Submit m) a answer before is = before c is
+
+-- one entry more
+voters_step : (reading : Reading) (h : List Entry) (caller n : ℕ) (c : Change) (command : Command) (reply : Reply) → IsDoneBy reading h caller command reply →
+    ((x : Change) → change reading h n ≡ Some x → HasVoters h x) → change_by reading h caller (if_done reply command) n (change reading h n) ≡ Some c → HasVoters h c
+voters_step reading h caller n c command (Done a) answer before is = voters_done reading h caller n c command a answer before is
+voters_step reading h caller n c command (Refused r) answer before is = before c is
+voters_step reading h caller n c command IdentityReused answer before is = before c is
+voters_step reading h caller n c command EpochClosed answer before is = before c is
+voters_step reading h caller n c command (NotTaken cause) answer before is = before c is
+
+-- whose votes a change of a history has
+pub have_voters : (reading : Reading) (h : List Entry) (n : ℕ) (c : Change) → Reads reading h → IsHistory h → change reading h n ≡ Some c → HasVoters h c
+have_voters reading [] n c reads history is = absurd (cc)
+have_voters reading (e ∷ h) n c reads history is =
+    joining_keeps (HasVoters (e ∷ h)) (λ place request x has. has) h (submitted (accepted e) e.reply) n (change_by reading h e.identity.caller (accepted e) n (change reading h n)) c
+    (λ x there. voters_stay e h x
+    (voters_step reading h e.identity.caller n x e.command e.reply (done_of e h history reading reads.1) (λ y was. have_voters reading h n y reads.1 history.3 was) there)) is
+
+-- ==== how many votes a change of a history has at most
 
 -- ---- the votes that there can be
 

@@ -1,29 +1,83 @@
--- Identities in histories, and the tables of a history with one more entry.
-use Rattle.std.proofs.Common.{◌≡◌, ℕ, ◌+◌, ◌≤◌, List, [], ◌∷◌, ◌++◌, length, Option, Some, None, true, false, cond, refl, sym, ap, ◌∙◌, subst, ⊎_elim, inl, inr, arith, eqb-true, eq-eqb, ◌==◌, ◌&&◌, Bool}
+-- Histories with one more delivery: identities, tables, and what an answer rests on.
+use Rattle.std.proofs.Common.{◌++◌, ◌∷◌, ◌||◌, ℕ, Bool, true, false, List, [], if◌then◌else◌, arith, ◌≡◌, ◌+◌, ◌≤◌, length, Option, Some, None, cond, refl, sym, ap, ◌∙◌, subst, ⊎_elim, inl, inr, eqb-true, eq-eqb, ◌==◌, ◌&&◌, MatchOption, nat_le, nat_lt, unwrap_or, bytes_eq, ◌<◌, Result, Ok, Err}
 use Rattle.std.proofs.lemmas.{Bool.and_parts, Bool.and_from, Bool.cases_Bool, Slice.Eq.bytes_eq-Decides}
-use Rattle.std.specs.{Prelude.MatchOption, Prelude.nat_le, Prelude.nat_lt, Prelude.unwrap_or, Str.bytes_eq}
-use Rattle.review_words.specs.History.{Entry, Identity, stored, is_same, entry_of, latest, may_follow, version_of, is_closed, least_open}
+use Rattle.review_words.specs.History.{Entry, entry_of, is_closed, Identity, stored, is_same, latest, may_follow, version_of, least_open, if_done}
 use Rattle.review_words.specs.{Texts.content_text, Texts.reply_text, Texts.IsStored, declared.changes.NewPatch.NewPatch}
 use Rattle.review_words.specs.declared.command.{ChangeCommand.ChangeCommand, Command.Command}
 use Rattle.review_words.specs.declared.command.Command.TheVariants.{CreateAccount, PutGroup, PutProject, RecordBase, CloseEpoch, CreateChange, OnChange, Submit}
-use Rattle.review_words.specs.declared.command.Delivery.TheVariants.{Write}
-use Rattle.review_words.specs.declared.reply.{Answer.TheVariants.Nothing, Refusal.Refusal, Reply.Reply}
+use Rattle.review_words.specs.declared.command.Delivery.{Delivery, TheVariants.Write, TheVariants.Read}
+use Rattle.review_words.specs.declared.reply.{Answer.TheVariants.Nothing, NotTaken.NotTaken as Cause}
+use Rattle.review_words.specs.declared.reply.NotTaken.TheVariants.{Memory, Store, Damaged, Pattern, Full}
+use Rattle.review_words.specs.declared.reply.{Refusal.Refusal, Reply.Reply}
 use Rattle.review_words.specs.declared.reply.Reply.TheVariants.{Done, Refused, IdentityReused, EpochClosed, NotTaken}
 use Rattle.review_core_rules.specs.Change.{Change}
-use Rattle.review_machine_rows.proofs.{Asked.requests_are, Epochs.closed_stays, Epochs.own_open, Readings.reading_of}
-use Rattle.review_machine_rows.proofs.Requested.{IsToldDone, sent_or_done}
+use Rattle.review_machine_rows.proofs.Asked.{requests_are}
+use Rattle.review_machine_rows.proofs.Readings.{closed_stays, own_open, reading_of, IsToldDone, sent_or_done}
 use Rattle.review_machine_rows.specs.Answer.{IsHistory, IsAnswer, IsAnswerBy, IsAnswerAt, epoch_checks, IsOf, IsOutcome, IsRequestOutcome, IsUploadAnswer, file_checks, first_refusal, refused_by, refused_or, most_requests}
 use Rattle.review_machine_rows.specs.Changes.{Reading, Reads, change}
-use Rattle.review_machine_rows.specs.{Decisions.IsDoneOrRefused, Files.File, Known.Agrees, Known.known, Known.number_of}
-use Rattle.review_machine_rows.specs.Rows.{AnswerRow, Stored, Answered, Tables, ClosedEpochs, after, count_after, is_below}
-use Rattle.review_machine_rows.specs.Shelf.{IsCommitted, Answers, Shows, Views}
-use Rattle.review_machine_rows.specs.{Steps.Topic, Steps.OfCommand, Submits.IsSubmitAnswer, Submits.checked_reply}
+use Rattle.review_machine_rows.specs.{Decisions.IsDoneOrRefused, Decisions.RestsOn, Files.File}
+use Rattle.review_machine_rows.specs.Known.{Agrees, known, number_of}
+use Rattle.review_machine_rows.specs.Rows.{AnswerRow, Stored, Answered, Tables, ClosedEpochs, after, count_after, is_below, Key, Count, HasNoEffect, new_least, is_above}
+use Rattle.review_machine_rows.specs.Shelf.{IsCommitted, Answers, Shows, Views, LeavesBy, IsCounted, cause_of}
+use Rattle.review_machine_rows.specs.Steps.{Topic, OfCommand, OfQuery}
+use Rattle.review_machine_rows.specs.Submits.{IsSubmitAnswer, checked_reply}
 use Rattle.review_machine_rows.specs.View.{AreEnough, IsView, IsViewBy, IsDecidedAt, view, fact, stored_answer, kept_answer, answer_row}
 use Rattle.review_machine_rows.specs.declared.rows.{Delta.Delta, Rows.Rows, Want.TheVariants.Requests}
+use Rattle.review_machine_rows.specs.declared.shelf.ShelfFault.{ShelfFault}
 use Rattle.review_machine_deliveries.proofs.Stored.{entry_stored}
+use Rattle.review_machine_deliveries.specs.Formed.{AllFormed, AreFormed, HasForm, IsFormed}
 use Rattle.review_machine_deliveries.specs.Gathered.{IsAllAsked}
-use Rattle.review_machine_deliveries.specs.Replies.{IsTold, IsToldWhere, with_entries as hist}
+use Rattle.review_machine_deliveries.specs.Replies.{arrivals_after, first_arrivals, has_identity, history_after, taken, with_entries, with_taken, IsTold, IsToldWhere, with_entries as hist, StoresOnce, IsFoundOrStored, StoresRequest, next_row, KeepsRows, KeepsUntaken, CountsReply, HasStored, HasTexts, HasOtherContent}
+use Rattle.review_machine_deliveries.specs.{declared.deliveries.Decided.Decided, inner.Deciding.WasDecided}
+use Rattle.review_machine_deliveries.specs.inner.Words.{IsToldAgain, reply_of}
 use Rattle.review_words.specs.declared.command.ChangeCommand.TheVariants as on
+use Rattle.review_words.specs.declared.command.Query.TheVariants as asked
+use Rattle.review_machine_rows.specs.declared.shelf.ShelfFault.TheVariants as fault
+
+-- ==== histories of requests whose identities have their forms go on as such
+
+-- an entry of the latest version
+pub formed_entry : (caller epoch : ℕ) (id : List ℕ) (command : Command) (reply : Reply) (h : List Entry) → HasForm (record { caller = caller; epoch = epoch; id = id }) → AreFormed h → AreFormed (entry_of caller epoch id command reply ∷ h)
+formed_entry caller epoch id command reply h form formed = (form, record { epoch = λ early. absurd (omega (arith, early)); closes_none = λ early. absurd (omega (arith, early)) }, formed)
+
+taken_formed : (d : Delivery) (r : Reply) (es : List Entry) → IsFormed d → AreFormed es → AreFormed (with_taken d r es)
+taken_formed (Read caller query) r es form formed = formed
+taken_formed (Write caller epoch id command) (NotTaken cause) es form formed = formed
+taken_formed (Write caller epoch id command) (Done a) es form formed = formed_entry caller epoch id command (Done a) es form formed
+taken_formed (Write caller epoch id command) (Refused r) es form formed = formed_entry caller epoch id command (Refused r) es form formed
+taken_formed (Write caller epoch id command) IdentityReused es form formed = formed_entry caller epoch id command IdentityReused es form formed
+taken_formed (Write caller epoch id command) EpochClosed es form formed = formed_entry caller epoch id command EpochClosed es form formed
+
+all_taken_formed : (ds : List Delivery) (rs : List Reply) → AllFormed ds → AreFormed (taken ds rs)
+all_taken_formed [] rs all = tt
+all_taken_formed (d ∷ ds) [] all = tt
+all_taken_formed (d ∷ ds) (r ∷ rs) all = taken_formed d r (taken ds rs) all.0 (all_taken_formed ds rs all.1)
+
+first_formed : (h0 earlier es : List Entry) → AreFormed es → AreFormed (arrivals_after h0 earlier es)
+first_formed h0 earlier [] formed = tt
+first_formed h0 earlier (e ∷ es) formed = either (has_identity h0 e || has_identity earlier e) (first_formed h0 (e ∷ earlier) es formed.2)
+  where
+    either : (b : Bool) → AreFormed (arrivals_after h0 (e ∷ earlier) es) → AreFormed (if b then arrivals_after h0 (e ∷ earlier) es else e ∷ arrivals_after h0 (e ∷ earlier) es)
+    either true later = later
+    either false later = (formed.0, formed.1, later)
+
+entries_formed : (h0 es : List Entry) → AreFormed h0 → AreFormed es → AreFormed (with_entries h0 es)
+entries_formed h0 [] before formed = before
+entries_formed h0 (e ∷ es) before formed = either (is_closed h0 e.identity.epoch) (entries_formed h0 es before formed.2) (entries_formed (e ∷ h0) es (formed.0, formed.1, before) formed.2)
+  where
+    either : (b : Bool) → AreFormed (with_entries h0 es) → AreFormed (with_entries (e ∷ h0) es) → AreFormed (if b then with_entries h0 es else with_entries (e ∷ h0) es)
+    either true passed stored = passed
+    either false passed stored = stored
+
+-- the history after deliveries of requests of their forms
+pub history_formed : (ds : List Delivery) (rs : List Reply) (h : List Entry) → AllFormed ds → AreFormed h → AreFormed (history_after h ds rs)
+history_formed ds rs h all formed = entries_formed h (first_arrivals h (taken ds rs)) formed (first_formed h [] (taken ds rs) (all_taken_formed ds rs all))
+
+pub all_formed-append : (ds es : List Delivery) → AllFormed ds → AllFormed es → AllFormed (ds ++ es)
+all_formed-append [] es one two = two
+all_formed-append (d ∷ ds) es one two = (one.0, all_formed-append ds es one.1 two)
+
+-- ==== identities in histories, and the tables of a history with one more entry
 
 pub same_from : (a b : Identity) → is_same a b ≡ true → a ≡ b
 same_from a b t =
@@ -282,3 +336,149 @@ requests_told h tables caller command file rows history v found asked =
     let r = reading_of h history in
     let enough = enough_shown r.0 h tables caller (OfCommand command) file rows r.1 v found asked in
     requests_are (view r.0 h) file rows caller command enough.agree asked.0
+
+-- ==== what answers rest on
+
+-- a history has all that an answer rests on
+pub rests_on : (h : List Entry) (topic : Topic) → IsHistory h → RestsOn topic h
+rests_on h (OfQuery (asked.Branch project branch)) hist = hist
+rests_on h (OfQuery (asked.OnChange change query)) hist = tt
+rests_on h (OfCommand (CreateAccount name)) hist = tt
+rests_on h (OfCommand (PutGroup group members)) hist = tt
+rests_on h (OfCommand (PutProject project text)) hist = tt
+rests_on h (OfCommand (RecordBase project branch commit)) hist = tt
+rests_on h (OfCommand (CloseEpoch epoch)) hist = tt
+rests_on h (OfCommand (CreateChange new)) hist = tt
+rests_on h (OfCommand (OnChange change command)) hist = tt
+rests_on h (OfCommand (Submit change)) hist = hist
+
+-- ==== what a delivery does to any tables whatever
+
+kept : (reply : Reply) (delta : Delta) (t u : Tables) → HasNoEffect reply delta → ((k : Key) → u.row k ≡ after delta k (t.row k)) → ((c : Count) → u.count c ≡ count_after delta t.row c (t.count c)) → KeepsRows reply t u
+kept (Refused r) delta t u none rows counts = (λ k. rows k ∙ none.rows k (t.row k), λ c. counts c ∙ none.counts t.row c (t.count c))
+kept (Done a) delta t u none rows counts = tt
+kept IdentityReused delta t u none rows counts = tt
+kept EpochClosed delta t u none rows counts = tt
+kept (NotTaken cause) delta t u none rows counts = tt
+
+-- what is stored is not given up at once
+own_stays : (i j : Identity) (b : Bool) (x y : Option Stored) → (is_same i j ≡ true → b ≡ false) → cond b None (cond (is_same i j) x y) ≡ cond (is_same i j) x (cond b None y)
+own_stays i j b x y own = at b (is_same i j) own
+  where
+    at : (b c : Bool) → (c ≡ true → b ≡ false) → cond b None (cond c x y) ≡ cond c x (cond b None y)
+    at true true up = absurd (let e = up refl in cc)
+    at true false up = refl
+    at false c up = refl
+
+-- the epoch of the request stays open
+still_open : (o : Option ℕ) (least epoch : ℕ) → is_below o epoch ≡ false → nat_lt epoch least ≡ false → nat_lt epoch (unwrap_or o least) ≡ false
+still_open None least epoch own opened = opened
+still_open (Some n) least epoch own opened = own
+
+-- a first arrival whose request was stored
+stored_request : (i : Identity) (command : Command) (reply : Reply) (delta : Delta) (row : AnswerRow) (t u : Tables) → Answers t i None → HasNoEffect reply delta → delta.least_epoch ≡ new_least (if_done reply command) →
+    is_below delta.least_epoch i.epoch ≡ false → is_above delta.least_epoch (t.count ClosedEpochs) ≡ true → t.requests < most_requests → IsCommitted t delta row u → row ≡ next_row i command reply t.requests → StoresRequest i command reply t u
+stored_request i command reply delta row t u none quiet closes own above room c same = record {
+  was_new = none;
+  room = room;
+  stands = (ap (nat_lt i.epoch) least ∙ still_open closed (t.count ClosedEpochs) i.epoch open_for_own none.0, answer_is i ∙ ap (λ b. cond b (Some (Answered (next_row i command reply t.requests))) (cond (is_below closed i.epoch) None (t.answer i))) (same_to i i refl));
+  requests = c.requests;
+  others = λ j other. answer_is j ∙ ap (λ b. cond b (Some (Answered (next_row i command reply t.requests))) (cond (is_below closed j.epoch) None (t.answer j))) other;
+  least = least;
+  rises = ap (λ o. is_above o (t.count ClosedEpochs)) (sym closes) ∙ above;
+  rows = kept reply delta t u quiet c.row_is c.count_is;
+  version = c.version;
+}
+  where
+    closed : Option ℕ
+    closed = new_least (if_done reply command)
+
+    open_for_own : is_below closed i.epoch ≡ false
+    open_for_own = ap (λ o. is_below o i.epoch) (sym closes) ∙ own
+
+    least : u.count ClosedEpochs ≡ unwrap_or closed (t.count ClosedEpochs)
+    least = c.count_is ClosedEpochs ∙ ap (λ o. unwrap_or o (t.count ClosedEpochs)) closes
+
+    answer_is : (j : Identity) → u.answer j ≡ cond (is_same i j) (Some (Answered (next_row i command reply t.requests))) (cond (is_below closed j.epoch) None (t.answer j))
+    answer_is j =
+        c.answer_is j ∙ (λ k. cond (is_below (closes k) j.epoch) None (cond (is_same (same k).identity j) (Some (Answered (same k))) (t.answer j)))
+        ∙ own_stays i j (is_below closed j.epoch) (Some (Answered (next_row i command reply t.requests))) (t.answer j)
+        (λ here. ap (λ n. is_below closed n) (λ k. (sym (same_from i j here) k).epoch) ∙ open_for_own)
+
+pub stored_shown : (i : Identity) (command : Command) (d : Decided) (row : AnswerRow) (old mid new : Option Tables) → mid ≡ old → Shows old (λ t. Answers t i None) → WasDecided i.caller i.epoch command old d →
+    Shows mid (λ t. Shows new (IsCommitted t d.delta row)) → row ≡ answer_row (record { identity = i; version = latest; command = command; reply = d.reply }) d.request → IsFoundOrStored i command d.reply old new
+stored_shown i command d row old mid new stays none by c is = inr (both old new none by (subst (λ (m : Option Tables). Shows m (λ t. Shows new (IsCommitted t d.delta row))) stays c))
+  where
+    both : (old new : Option Tables) → Shows old (λ t. Answers t i None) → WasDecided i.caller i.epoch command old d → Shows old (λ t. Shows new (IsCommitted t d.delta row)) →
+        Shows old (λ t. Shows new (StoresRequest i command d.reply t))
+    both None new none by c = absurd c
+    both (Some t) None none by c = absurd c
+    both (Some t) (Some u) none by c =
+        let number : d.request ≡ t.requests + 1 = by.request.0 in
+        let most : d.request ≤ most_requests = by.request.1 in
+        stored_request i command d.reply d.delta row t u none by.refused by.closes by.own by.raises (omega arith) c
+        (is ∙ ap (answer_row (record { identity = i; version = latest; command = command; reply = d.reply })) by.request.0)
+
+pub stores_once : (caller epoch : ℕ) (id : List ℕ) (command : Command) (reply : Reply) (old new : Option Tables) →
+    IsFoundOrStored (record { caller = caller; epoch = epoch; id = id }) command reply old new → StoresOnce (Write caller epoch id command) reply old new
+stores_once caller epoch id command (Done a) old new x = x
+stores_once caller epoch id command (Refused r) old new x = x
+stores_once caller epoch id command IdentityReused old new x = tt
+stores_once caller epoch id command EpochClosed old new x = tt
+stores_once caller epoch id command (NotTaken c) old new x = tt
+
+-- the row that an identity has
+has_stored : (i : Identity) (row : AnswerRow) (IsSo : AnswerRow → Type 0) (tables : Option Tables) → Shows tables (λ t. Answers t i (Some (Answered row))) → IsSo row → HasStored i tables IsSo
+has_stored i row IsSo None there so = absurd there
+has_stored i row IsSo (Some t) there so = (row, there, so)
+
+-- a request whose identity is stored
+pub repeated : (caller epoch : ℕ) (id : List ℕ) (command : Command) (result : Result Reply Cause) (row : AnswerRow) (old new : Option Tables) →
+    Shows old (λ t. Answers t (record { caller = caller; epoch = epoch; id = id }) (Some (Answered row))) → IsToldAgain row (content_text command) result → new ≡ old →
+    StoresOnce (Write caller epoch id command) (reply_of result) old new
+repeated caller epoch id command (Ok reply) row old new there (inl told) stays =
+    stores_once caller epoch id command reply old new (inl (has_stored (record { caller = caller; epoch = epoch; id = id }) row (HasTexts command reply) old there (told.0, sym told.2), stays))
+repeated caller epoch id command (Ok reply) row old new there (inr told) stays = subst (λ r. StoresOnce (Write caller epoch id command) r old new) (sym told.1) tt
+repeated caller epoch id command (Err cause) row old new there told stays = tt
+
+-- a reply that is stored is no clash
+pub decided_keeps : (caller epoch : ℕ) (id : List ℕ) (command : Command) (reply : Reply) (old new : Option Tables) → IsStored reply → KeepsUntaken (Write caller epoch id command) reply old new
+decided_keeps caller epoch id command (Done a) old new s = tt
+decided_keeps caller epoch id command (Refused r) old new s = tt
+decided_keeps caller epoch id command IdentityReused old new s = absurd s
+decided_keeps caller epoch id command EpochClosed old new s = absurd s
+decided_keeps caller epoch id command (NotTaken c) old new s = absurd s
+
+pub repeat_keeps : (caller epoch : ℕ) (id : List ℕ) (command : Command) (result : Result Reply Cause) (row : AnswerRow) (old new : Option Tables) →
+    Shows old (λ t. Answers t (record { caller = caller; epoch = epoch; id = id }) (Some (Answered row))) → IsToldAgain row (content_text command) result → new ≡ old →
+    KeepsUntaken (Write caller epoch id command) (reply_of result) old new
+repeat_keeps caller epoch id command (Ok reply) row old new there (inl told) stays = decided_keeps caller epoch id command reply old new told.1
+repeat_keeps caller epoch id command (Ok reply) row old new there (inr told) stays =
+    subst (λ r. KeepsUntaken (Write caller epoch id command) r old new) (sym told.1)
+    (has_stored (record { caller = caller; epoch = epoch; id = id }) row (HasOtherContent command) old there told.0, stays)
+repeat_keeps caller epoch id command (Err Memory) row old new there told stays = (tt, stays)
+repeat_keeps caller epoch id command (Err Damaged) row old new there told stays = (tt, stays)
+repeat_keeps caller epoch id command (Err Store) row old new there told stays = absurd told
+repeat_keeps caller epoch id command (Err Pattern) row old new there told stays = absurd told
+repeat_keeps caller epoch id command (Err Full) row old new there told stays = absurd told
+
+-- what a fault of the shelf leaves
+pub fault_keeps : (caller epoch : ℕ) (id : List ℕ) (command : Command) (f : ShelfFault) (old new : Option Tables) → LeavesBy (cause_of f) old new →
+    KeepsUntaken (Write caller epoch id command) (NotTaken (cause_of f)) old new
+fault_keeps caller epoch id command fault.Memory old new stays = (tt, stays)
+fault_keeps caller epoch id command fault.Store old new stays = (tt, stays)
+fault_keeps caller epoch id command fault.Damaged old new stays = (tt, stays)
+
+-- an answer that is stored says nothing of faults
+pub stored_counts : (reply : Reply) (before after : ℕ) → IsStored reply → after ≡ before → CountsReply reply before after
+stored_counts (Done a) before after s same = same
+stored_counts (Refused r) before after s same = same
+stored_counts IdentityReused before after s same = absurd s
+stored_counts EpochClosed before after s same = absurd s
+stored_counts (NotTaken c) before after s same = absurd s
+
+-- a fault that a call of the shelf counted
+pub fault_counts : (f : ShelfFault) (before after : ℕ) → IsCounted f before after → CountsReply (NotTaken (cause_of f)) before after
+fault_counts fault.Memory before after c = c
+fault_counts fault.Store before after c = c
+fault_counts fault.Damaged before after c = c

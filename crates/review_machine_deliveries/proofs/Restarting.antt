@@ -1,20 +1,18 @@
 -- A run that begins again.
-use mathlib.Core.List.{append_assoc}
-use Rattle.std.proofs.Common.{◌≡◌, ◌⊎◌, ℕ, zero, suc, ◌<◌, take, drop, get_or, List, [], ◌∷◌, ◌++◌, length, Option, Some, None, Bool, true, false, cond, ◌||◌, refl, sym, ap, ◌∙◌, subst, inl, inr, ⊎_elim, arith}
-use Rattle.std.proofs.lemmas.{Bool.cases_Bool, List.length-take-le}
-use Rattle.std.specs.Prelude.{is_some, MatchOption}
+use Rattle.std.proofs.Common.{append_assoc, ◌≡◌, ◌⊎◌, ℕ, zero, suc, ◌<◌, take, drop, get_or, List, [], ◌∷◌, ◌++◌, length, Option, Some, None, Bool, true, false, cond, ◌||◌, refl, sym, ap, ◌∙◌, subst, inl, inr, ⊎_elim, arith, length-take-le, is_some, MatchOption}
+use Rattle.std.proofs.lemmas.Bool.{cases_Bool}
 use Rattle.review_words.specs.History.{Entry, Identity, IsFirst, stored, is_same, entry_of, is_closed}
 use Rattle.review_words.specs.declared.command.{Command.Command, Delivery.Delivery}
 use Rattle.review_words.specs.declared.command.Delivery.TheVariants.{Write, Read}
 use Rattle.review_words.specs.declared.reply.Reply.{Reply}
 use Rattle.review_words.specs.declared.reply.Reply.TheVariants.{Done, Refused, IdentityReused, EpochClosed, NotTaken}
-use Rattle.review_machine_rows.proofs.{Epochs.closed_stays, Epochs.open_before, Readings.reading_of}
+use Rattle.review_machine_rows.proofs.Readings.{closed_stays, open_before, reading_of}
 use Rattle.review_machine_rows.specs.Answer.{IsHistory, IsAnswer}
 use Rattle.review_machine_rows.specs.{Decisions.IsDoneOrRefused, Rows.Tables, View.IsView}
-use Rattle.review_machine_deliveries.proofs.Going.{HasSince, since_start, since_old, since_new, since_closed, dropped, added, each_way, with_taken-append, first-append, history_after-append}
 use Rattle.review_machine_deliveries.proofs.Histories.{answer_given, earlier, told_where, where_told, stored_stays, stored_here, stored_there, same_to, passed_over}
-use Rattle.review_machine_deliveries.proofs.{Outcomes.one_answer_in, Readable.HasReading, Readable.read_on}
-use Rattle.review_machine_deliveries.proofs.Served.{new_history, same_history, closed_history, same_command}
+use Rattle.review_machine_deliveries.proofs.Outcomes.{one_answer_in}
+use Rattle.review_machine_deliveries.proofs.Ran.{HasSince, since_start, since_old, since_new, since_closed, dropped, added, each_way, with_taken-append, first-append, history_after-append}
+use Rattle.review_machine_deliveries.proofs.Served.{HasReading, read_on, new_history, same_history, closed_history, same_command}
 use Rattle.review_machine_deliveries.proofs.Submits.{OneStanding}
 use Rattle.review_machine_deliveries.specs.Replies.{IsTold, IsRight, AreRight, IsToldOfStored, history_after, with_entries as hist, has_identity, first_arrivals as first, arrivals_after as first_after, taken, with_taken, HasEffect}
 use Rattle.review_machine_deliveries.specs.Restart.{IsFree, RefusesBadValue, IsSettled, AreSettled, WasTaken, WereTaken, AgreeFor, AgreeOnWrites, AgreesAgain, AgreeAfter, AgreesWhereOpen, AgreeWhereOpen, RunsAsFrom, RestartIsRun, RestartAfterCut, RestartAfterStop, RestartCompletes, RestartKeepsHistory, RepliesFollowHistory}

@@ -1,32 +1,32 @@
--- What one delivery does.
-use Rattle.std.proofs.Common.{◌≡◌, ℕ, ◌+◌, ◌<◌, List, [], ◌∷◌, ◌++◌, length, Option, Some, None, Bool, true, false, cond, ◌||◌, refl, sym, ap, ◌∙◌, subst, inl, inr, ⊎_elim, ◌⊎◌, Result, Ok, Err}
+-- What one delivery does, and that its history has a reading.
+use Rattle.std.proofs.Common.{◌≡◌, ℕ, ◌+◌, ◌<◌, List, [], ◌∷◌, ◌++◌, length, Option, Some, None, Bool, true, false, cond, ◌||◌, refl, sym, ap, ◌∙◌, subst, inl, inr, ⊎_elim, ◌⊎◌, Result, Ok, Err, is_some, IfOk, IfErr, nat_lt, IsErr, IsErrAnd, bytes_eq, MatchOption}
 use Rattle.std.proofs.lemmas.{Bool.cases_Bool, Slice.Eq.bytes_eq-Decides}
-use Rattle.std.specs.Prelude.{is_some, IfOk, IfErr, nat_lt}
-use Rattle.std.specs.{Result.IsErr, Result.IsErrAnd, Str.bytes_eq}
-use Rattle.review_words.specs.History.{Entry, Identity, IsFirst, stored, entry_of, is_closed}
+use Rattle.review_words.specs.History.{Entry, Identity, IsFirst, stored, entry_of, is_closed, accepted}
 use Rattle.review_words.specs.{Texts.content_text, Texts.reply_text, Texts.IsStored, declared.command.Command.Command}
+use Rattle.review_words.specs.declared.command.Command.TheVariants.{CreateAccount, PutGroup, PutProject, RecordBase, CloseEpoch, CreateChange, OnChange, Submit}
 use Rattle.review_words.specs.declared.command.Delivery.{Delivery, TheVariants.Write, TheVariants.Read}
-use Rattle.review_words.specs.declared.{command.Query.Query, reply.NotTaken.NotTaken as Cause}
+use Rattle.review_words.specs.declared.{command.Query.Query, reply.Answer.Answer, reply.NotTaken.NotTaken as Cause}
 use Rattle.review_words.specs.declared.reply.NotTaken.TheVariants.{Memory, Store, Damaged, Pattern, Full}
-use Rattle.review_words.specs.declared.reply.Reply.{Reply}
+use Rattle.review_words.specs.declared.reply.{Refusal.Refusal, Refusal.TheVariants.BadFile, Reply.Reply}
 use Rattle.review_words.specs.declared.reply.Reply.TheVariants.{Done, Refused, IdentityReused, EpochClosed, NotTaken}
-use Rattle.review_words_texts.proofs.Fields.{content_text-injective, reply_text-injective}
-use Rattle.review_machine_rows.proofs.Readings.{reading_of}
-use Rattle.review_machine_rows.specs.Answer.{IsHistory, IsAnswer, most_requests}
-use Rattle.review_machine_rows.specs.Changes.{Reading, Reads}
+use Rattle.review_words_texts.proofs.Fields.{content_text_injective, reply_text_injective}
+use Rattle.review_machine_rows.proofs.Readings.{reading_of, IsDoneBy, done_by}
+use Rattle.review_machine_rows.specs.Answer.{IsHistory, IsAnswer, most_requests, IsAnswerBy, IsFaultAnswer, IsFileAnswer, refused_by}
+use Rattle.review_machine_rows.specs.Changes.{Reading, Reads, IsReadRight}
 use Rattle.review_machine_rows.specs.Decisions.{IsUnshown, IsDoneOrRefused, RestsOn}
-use Rattle.review_machine_rows.specs.{Files.File, Known.Agrees, Questions.IsQueryAnswer, Questions.IsQueryAnswerBy}
+use Rattle.review_machine_rows.specs.{Files.File, Files.IsRead, Known.Agrees}
+use Rattle.review_machine_rows.specs.Questions.{IsQueryAnswer, IsQueryAnswerBy}
 use Rattle.review_machine_rows.specs.Rows.{AnswerRow, Answered, Tables, ClosedEpochs}
 use Rattle.review_machine_rows.specs.Shelf.{Answers, IsCommitted, Shown, Shows, Views, LeavesBy, StopLeavesOwnTables, AddsNoStop, IsCounted, Blames, cause_of, IsClosedIn}
 use Rattle.review_machine_rows.specs.{Steps.OfQuery, View.AreEnough, View.IsView, View.IsDecidedAt, View.answer_row}
 use Rattle.review_machine_rows.specs.declared.{rows.Delta.Delta, rows.Rows.Rows, shelf.ShelfFault.ShelfFault}
-use Rattle.review_machine_deliveries.proofs.Formed.{formed_entry}
-use Rattle.review_machine_deliveries.proofs.Histories.{answers_are, passed_over, told_where, where_told, latest_follows, recalled, not_recalled, view_grows, answer_given, stored_given, enough_shown, stored_stays, stored_here, same_to}
-use Rattle.review_machine_deliveries.proofs.Resting.{rests_on}
+use Rattle.review_machine_deliveries.proofs.Histories.{formed_entry, answers_are, passed_over, told_where, where_told, latest_follows, recalled, not_recalled, view_grows, answer_given, stored_given, enough_shown, stored_stays, stored_here, same_to, answer_given_in, rests_on}
 use Rattle.review_machine_deliveries.specs.{Formed.IsFormed, Gathered.IsAllAsked, Gathered.IsUngathered}
 use Rattle.review_machine_deliveries.specs.Replies.{history_after, has_identity, with_entries as hist, IsRight, IsTold, IsToldOfStored, IsServed, IsLawful, IsNew, HasEffect, StopGoesOnFrom, StopHasEntry, IsEntered, GoesOn, KeepsUntaken, CountsReply}
 use Rattle.review_machine_deliveries.specs.inner.Words.{IsToldAgain, reply_of}
 use Rattle.review_machine_rows.specs.declared.shelf.ShelfFault.TheVariants as fault
+
+-- ==== what one delivery does
 
 -- a new identity of an open epoch adds its entry, an old one nothing, and one of a closed epoch nothing
 pub new_history : (h : List Entry) (caller epoch : ℕ) (id : List ℕ) (command : Command) (reply : Reply) → IsDoneOrRefused reply → IsFirst h (record { caller = caller; epoch = epoch; id = id }) →
@@ -213,8 +213,8 @@ repeat_served h row caller epoch id command result old new hist v there told sta
 
     again : (result : Result Reply Cause) → IsFound → IsToldAgain row (content_text command) result → Views h new.tables → IsServed h (Write caller epoch id command) (reply_of result) old new
     again (Ok reply) r (inl told) v =
-        let command_is : command ≡ r.0.command = content_text-injective command r.0.command (sym told.0 ∙ r.2) in
-        let reply_is : reply ≡ r.0.reply = reply_text-injective reply r.0.reply told.1 r.4 (told.2 ∙ r.3) in
+        let command_is : command ≡ r.0.command = content_text_injective command r.0.command (sym told.0 ∙ r.2) in
+        let reply_is : reply ≡ r.0.reply = reply_text_injective reply r.0.reply told.1 r.4 (told.2 ∙ r.3) in
         old_served h caller epoch id command reply r.0 old new hist v r.5 r.1 (inl (stored_given reply told.1)) (record { equal = λ _. reply_is; other = λ no. absurd (no command_is) }) quiet adds
     again (Ok reply) r (inr told) v =
         old_served h caller epoch id command reply r.0 old new hist v r.5 r.1 (inr told.1) (record { equal = λ e. absurd (told.0 (r.2 ∙ ap content_text (sym e))); other = λ _. told.1 }) quiet adds
@@ -263,7 +263,7 @@ leaves_since h d reply old new form history s since t x =
 pub same_command : (a b : Command) → (a ≡ b) ⊎ (a ≡ b → ⊥)
 same_command a b =
     ⊎_elim
-    (λ (t : bytes_eq (content_text a) (content_text b) ≡ true). inl (content_text-injective a b ((bytes_eq-Decides (content_text a) (content_text b)).0 t)))
+    (λ (t : bytes_eq (content_text a) (content_text b) ≡ true). inl (content_text_injective a b ((bytes_eq-Decides (content_text a) (content_text b)).0 t)))
     (λ (f : bytes_eq (content_text a) (content_text b) ≡ false).
     inr (λ e. let t = (bytes_eq-Decides (content_text a) (content_text b)).1 (ap content_text e) in absurd (cc)))
     (cases_Bool (bytes_eq (content_text a) (content_text b)))
@@ -411,3 +411,80 @@ unread_keeps caller query Store old new why left = left
 unread_keeps caller query Damaged old new why left = left
 unread_keeps caller query Pattern old new why left = left
 unread_keeps caller query Full old new why left = absurd why
+
+-- ==== a list of answered entries, however long, has a reading
+
+-- something is read of each text that was put, which is right
+abbrev pub HasReading : List Entry → Type 0
+HasReading h = (reading : Reading) × Reads reading h
+
+-- what is read, with the file of one text more
+abbrev with_file : Reading → List ℕ → File → Reading
+with_file reading text file t = cond (bytes_eq t text) file (reading t)
+
+read_here : (reading : Reading) (text : List ℕ) (file : File) → IsRead text file → IsRead text (with_file reading text file text)
+read_here reading text file is = subst (IsRead text) (sym (ap (λ b. cond b file (reading text)) ((bytes_eq-Decides text text).1 refl))) is
+
+read_there : (reading : Reading) (text : List ℕ) (file : File) → IsRead text file → (t : List ℕ) → IsRead t (reading t) → IsRead t (with_file reading text file t)
+read_there reading text file is t right =
+    ⊎_elim
+    (λ (same : bytes_eq t text ≡ true). subst (λ x. IsRead x (with_file reading text file x)) (sym ((bytes_eq-Decides t text).0 same)) (read_here reading text file is))
+    (λ (other : bytes_eq t text ≡ false). subst (IsRead t) (sym (ap (λ b. cond b file (reading t)) other)) right)
+    (cases_Bool (bytes_eq t text))
+
+right_there : (reading : Reading) (text : List ℕ) (file : File) → IsRead text file → (o : Option Command) → IsReadRight reading o → IsReadRight (with_file reading text file) o
+right_there reading text file is None right = tt
+right_there reading text file is (Some (CreateAccount name)) right = tt
+right_there reading text file is (Some (PutGroup group members)) right = tt
+right_there reading text file is (Some (PutProject project t)) right = read_there reading text file is t right
+right_there reading text file is (Some (RecordBase project branch commit)) right = tt
+right_there reading text file is (Some (CloseEpoch epoch)) right = tt
+right_there reading text file is (Some (CreateChange new)) right = tt
+right_there reading text file is (Some (OnChange n command)) right = tt
+right_there reading text file is (Some (Submit n)) right = tt
+
+reads_there : (reading : Reading) (text : List ℕ) (file : File) → IsRead text file → (h : List Entry) → Reads reading h → Reads (with_file reading text file) h
+reads_there reading text file is [] reads = tt
+reads_there reading text file is (e ∷ h) reads = (right_there reading text file is (accepted e) reads.0, reads_there reading text file is h reads.1)
+
+-- an answer that is no refusal is given where no check refuses
+not_fault : {A : Type 0} (o : Option Refusal) (a : Answer) → MatchOption o A (λ r. Done a ≡ Refused r) → A
+not_fault None a outcome = outcome
+not_fault (Some r) a refused = absurd (cc)
+
+-- the file that an accepted PutProject puts
+put_file : (reading : Reading) (h : List Entry) (caller : ℕ) (project text : List ℕ) (a : Answer) → IsAnswerBy reading h caller (PutProject project text) (Done a) → (f : File) × IsRead text f
+put_file reading h caller project text a answer =
+    ⊎_elim (λ (fault : IsFaultAnswer text (Done a)). let e : Done a ≡ Refused (BadFile fault.0) = fault.2 in absurd (cc)) (λ (file : IsFileAnswer reading h project text (Done a)). (file.0, file.1))
+    (not_fault (refused_by reading h caller (PutProject project text)) a answer)
+
+-- one answered entry more
+read_more : (h : List Entry) (caller epoch : ℕ) (id : List ℕ) (command : Command) (reply : Reply) (reading : Reading) → Reads reading h → IsDoneBy reading h caller command reply → HasReading (entry_of caller epoch id command reply ∷ h)
+read_more h caller epoch id command (Refused r) reading reads answer = (reading, (tt, reads))
+read_more h caller epoch id command IdentityReused reading reads answer = (reading, (tt, reads))
+read_more h caller epoch id command EpochClosed reading reads answer = (reading, (tt, reads))
+read_more h caller epoch id command (NotTaken cause) reading reads answer = (reading, (tt, reads))
+read_more h caller epoch id (CreateAccount name) (Done a) reading reads answer = (reading, (tt, reads))
+read_more h caller epoch id (PutGroup group members) (Done a) reading reads answer = (reading, (tt, reads))
+read_more h caller epoch id (PutProject project text) (Done a) reading reads answer =
+    let put = put_file reading h caller project text a answer in
+    (with_file reading text put.0, (read_here reading text put.0 put.1, reads_there reading text put.0 put.1 h reads))
+read_more h caller epoch id (RecordBase project branch commit) (Done a) reading reads answer = (reading, (tt, reads))
+read_more h caller epoch id (CloseEpoch least) (Done a) reading reads answer = (reading, (tt, reads))
+read_more h caller epoch id (CreateChange new) (Done a) reading reads answer = (reading, (tt, reads))
+read_more h caller epoch id (OnChange n command) (Done a) reading reads answer = (reading, (tt, reads))
+read_more h caller epoch id (Submit n) (Done a) reading reads answer = (reading, (tt, reads))
+
+-- the list after a delivery that was told what is right
+pub read_on : (h : List Entry) (d : Delivery) (reply : Reply) → HasReading h → IsTold h d reply → HasReading (history_after h (d ∷ []) (reply ∷ []))
+read_on h (Read caller query) reply reading told = reading
+read_on h (Write caller epoch id command) reply reading told = at (is_closed h epoch) (stored h (record { caller = caller; epoch = epoch; id = id })) refl refl
+  where
+    at : (b : Bool) (o : Option Entry) → is_closed h epoch ≡ b → stored h (record { caller = caller; epoch = epoch; id = id }) ≡ o → HasReading (history_after h (Write caller epoch id command ∷ []) (reply ∷ []))
+    at true o closed is = subst HasReading (sym (closed_history h caller epoch id command reply closed)) reading
+    at false (Some e) opened some = subst HasReading (sym (same_history h caller epoch id command reply e some)) reading
+    at false None opened none =
+        let answer : IsAnswer h caller epoch command reply = told_where h caller epoch id command reply false None opened none told in
+        let by = answer reading.0 reading.1 in
+        subst HasReading (sym (new_history h caller epoch id command reply (answer_given_in reading.0 h caller epoch command reply by) (none, opened)))
+        (read_more h caller epoch id command reply reading.0 reading.1 (done_by reading.0 h caller epoch command reply by))

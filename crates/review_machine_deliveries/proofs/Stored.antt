@@ -1,9 +1,7 @@
 -- Each answer of a history is stored with numbers of their forms.
-use Rattle.std.proofs.Common.{◌≡◌, ◌⊎◌, ℕ, suc, ◌+◌, ◌<◌, ◌≤◌, List, [], ◌∷◌, ◌++◌, length, Option, Some, None, Bool, true, false, cond, refl, sym, ap, ◌∙◌, subst, ⊎_elim, inl, inr, arith}
-use Rattle.std.proofs.lemmas.Bool.{cases_Bool, ltb-true, leb-true}
-use Rattle.std.proofs.lemmas.List.Elements.{All-head, All-tail}
-use Rattle.std.specs.{Bool.MatchBool, List.All, List.AllByRecursion}
-use Rattle.std.specs.Prelude.{MatchOption, nat_lt, option_map, map, ◌&&◌}
+use Rattle.std.proofs.Common.{◌≡◌, ◌⊎◌, ℕ, suc, ◌+◌, ◌<◌, ◌≤◌, List, [], ◌∷◌, ◌++◌, length, Option, Some, None, Bool, true, false, cond, refl, sym, ap, ◌∙◌, subst, ⊎_elim, inl, inr, arith, ltb-true, leb-true, MatchBool, All, MatchOption, nat_lt, option_map, map, ◌&&◌}
+use Rattle.std.proofs.lemmas.{Bool.cases_Bool, List.Elements.All-head, List.Elements.All-tail}
+use Rattle.std.specs.List.{AllByRecursion}
 use Rattle.review_names.specs.Forms.{is_label, most_changes, most_comments, most_patches}
 use Rattle.review_words.specs.History.{Entry, is_account, account_count}
 use Rattle.review_words.specs.Texts.{IsStored, IsChangeNumber, IsCommentNumber}
@@ -15,7 +13,7 @@ use Rattle.review_words.specs.declared.reply.{Answer.TheVariants.Nothing, Answer
 use Rattle.review_words.specs.declared.reply.Refusal.TheVariants.{BadFile, UnknownCaller, ChainOutdated, ChainAbandoned, ChainWip, ChainTooLong, RequirementUnsatisfied}
 use Rattle.review_words.specs.declared.reply.Reply.{Reply, TheVariants.Done, TheVariants.Refused}
 use Rattle.review_words.specs.declared.shown.ShownRequirement.{ShownRequirement}
-use Rattle.review_chain.{proofs.Fronts.chain_ready, specs.Walks.IsReady}
+use Rattle.review_chain.{proofs.Walking.chain_ready, specs.Walks.IsReady}
 use Rattle.review_chain.specs.declared.{links.Link.Link, walks.ChainFault.ChainFault}
 use Rattle.review_chain.specs.declared.walks.ChainFault.TheVariants.{Outdated, Abandoned, Wip, TooLong, Broken, Unknown, Memory as FaultMemory}
 use Rattle.review_expr_judging.specs.declared.facts.ChangeFacts.{ChangeFacts}
@@ -29,9 +27,9 @@ use Rattle.review_machine_rows.specs.Answer.{IsHistory, IsAnswer, IsAnswerBy, Is
 use Rattle.review_machine_rows.specs.Changes.{Reading, Reads, change, change_count, file_of, setting_of, texts_of}
 use Rattle.review_machine_rows.specs.{Lines.most_depth, Links.link_for}
 use Rattle.review_machine_rows.specs.Submits.{IsSubmitAnswer, branch_after, checked_reply, judged_after, refusal_of}
-use Rattle.review_machine_laws.proofs.{Counted.change_bound, Effective.line_read}
-use Rattle.review_machine_laws.proofs.SoundChanges.{Passes, all_pass, later_pass}
-use Rattle.review_machine_deliveries.proofs.{Bounds.votes_bound, Named.HasName, Named.effective_names}
+use Rattle.review_machine_laws.proofs.Changes.{change_bound, Passes, all_pass, later_pass}
+use Rattle.review_machine_laws.proofs.Histories.{line_read}
+use Rattle.review_machine_deliveries.proofs.{Bounds.votes_bound, Files.HasName, Files.effective_names}
 use Rattle.review_words.specs.declared.command.ChangeCommand.TheVariants as on
 use Rattle.review_expr.specs.declared.expr.Facts.TheVariants as facts
 

@@ -1,6 +1,5 @@
 -- One answer to a submit.
-use Rattle.std.proofs.Common.{◌≡◌, ◌∙◌, ℕ, List, [], ◌∷◌, Option, Some, None, sym, ap, subst, inl, inr}
-use Rattle.std.specs.Prelude.{MatchOption}
+use Rattle.std.proofs.Common.{◌≡◌, ◌∙◌, ℕ, List, [], ◌∷◌, Option, Some, None, sym, ap, subst, inl, inr, MatchOption}
 use Rattle.review_words.specs.{History.Entry, declared.reply.Refusal.Refusal, declared.reply.Reply.Reply}
 use Rattle.review_words.specs.declared.{reply.Reply.TheVariants.Refused, shown.ShownRequirement.ShownRequirement}
 use Rattle.review_chain.proofs.Walking.{one_walk, one_end, chain_meets, bad_meets}

@@ -1,24 +1,234 @@
--- Which changes joined a branch: those for it that are merged, each once.
-use Rattle.std.proofs.Common.{◌≡◌, ◌⊎◌, inl, inr, ℕ, ◌+◌, ◌==◌, List, [], ◌∷◌, ◌++◌, Option, Some, None, Bool, true, false, cond, ◌&&◌, refl, sym, ap, subst, ◌∙◌, ◌<◌, ◌≤◌, length, arith}
-use Rattle.std.proofs.lemmas.Bool.{and_parts, and_from, leb-true, Decides.nat_tests}
-use Rattle.std.proofs.lemmas.List.{append-nil, Elements.All-from_recursion}
+-- Which changes joined a branch, and at which places.
+use Rattle.std.proofs.Common.{◌≡◌, ℕ, List, ◌∷◌, Option, Some, None, refl, subst, inl, inr, MatchOption, ◌⊎◌, ◌+◌, ◌==◌, [], ◌++◌, length, Bool, true, false, cond, ◌&&◌, sym, ap, ◌∙◌, ⊎_elim, arith, eqb-true, append-nil, is_some, option_map, bytes_eq, ◌<◌, ◌≤◌, leb-true, All, Contains, nat_le, ◌||◌}
+use Rattle.std.proofs.lemmas.Bool.{not-true, and_right, and_parts, and_from, Decides.nat_tests}
+use Rattle.std.proofs.lemmas.List.{Elements.All-from_recursion, Folds.list_any-append}
 use Rattle.std.proofs.lemmas.Map.{Keys.IsDistinct-cons, Steps.length-le_from_distinct_below}
-use Rattle.std.specs.{List.All, List.AllByRecursion, List.Contains, List.IsDistinct, Prelude.is_some, Prelude.nat_le}
-use Rattle.review_words.specs.{History.Entry, History.accepted, History.if_done, declared.command.Command.Command}
-use Rattle.review_words.specs.declared.command.Command.TheVariants.{CreateAccount, PutGroup, PutProject, RecordBase, CloseEpoch, CreateChange, OnChange, Submit}
-use Rattle.review_words.specs.declared.reply.{Answer.Answer, Reply.Reply}
+use Rattle.std.specs.{List.AllByRecursion, List.IsDistinct, List.list_any, Option.option_or, Option.option_map_or}
+use Rattle.review_words.specs.History.{Entry, is_account, if_done, accepted, bases, is_base, with_base}
+use Rattle.review_words.specs.declared.command.{ChangeCommand.ChangeCommand, Command.Command}
+use Rattle.review_words.specs.declared.command.Command.TheVariants.{Submit, CreateAccount, PutGroup, PutProject, RecordBase, CloseEpoch, CreateChange, OnChange}
+use Rattle.review_words.specs.declared.reply.Answer.{Answer, TheVariants.Submitted}
+use Rattle.review_words.specs.declared.reply.{Refusal.Refusal, Refusal.TheVariants.UnknownCaller, Reply.Reply}
 use Rattle.review_words.specs.declared.reply.Reply.TheVariants.{Done, Refused, IdentityReused, EpochClosed, NotTaken}
 use Rattle.review_words.specs.declared.shown.State.{State, TheVariants.New, TheVariants.Merged, TheVariants.Abandoned}
-use Rattle.review_chain.proofs.Fronts.{chain_distinct}
-use Rattle.review_core_rules.specs.Change.{Change}
-use Rattle.review_machine_rows.{proofs.Readings.IsDoneBy, proofs.Readings.done_of, specs.Answer.IsHistory}
-use Rattle.review_machine_rows.specs.Changes.{Reading, Reads, change, change_count, is_for, is_made_for, joined, joined_by, joined_in, place_in}
-use Rattle.review_machine_rows.specs.Submits.{branch_after, is_merged}
-use Rattle.review_machine_laws.proofs.{AcceptedSubmits.submit_accepted, Linked.for_branch, Linked.is_for_branch}
-use Rattle.review_machine_laws.proofs.{Made.made_for, Placed.not_placed, Placed.placed, Placed.unmerged}
-use Rattle.review_machine_laws.proofs.Places.{all_placed, any_of, contained_get, contains_placed, distinct_append, each_weaker, get_placed}
-use Rattle.review_machine_laws.proofs.There.{change_there, is_up_to}
+use Rattle.review_chain.proofs.Walking.{chain_ready, chain_distinct}
+use Rattle.review_chain.specs.{Walks.IsReady, declared.links.Link.Link}
+use Rattle.review_core_rules.specs.Change.{Change, after, begun, is_open, state_by, commit, of_number, parent, patches_by}
+use Rattle.review_core_rules.specs.{Facts.IsFirstUnsatisfied, declared.rows.PatchRow.PatchRow}
+use Rattle.review_machine_rows.proofs.Readings.{IsDoneBy, done_of}
+use Rattle.review_machine_rows.specs.Answer.{IsAnswerBy, IsOutcome, checks, of_change, refused_by, submit_checks, IsHistory, request_checks}
+use Rattle.review_machine_rows.specs.Changes.{Reading, change, Reads, change_by, change_count, is_for, is_made_for, joined, joined_by, joined_in, joining, joining_at, place_in, setting_of, submitted}
+use Rattle.review_machine_rows.specs.Submits.{IsOf, IsSubmitAnswer, checked_reply, judged_after, branch_after, is_merged}
+use Rattle.review_machine_laws.proofs.Changes.{made_for, Passes, all_pass, done_passes, checks_pass, change_there, is_up_to}
+use Rattle.review_machine_laws.proofs.Linked.{for_branch, is_for_branch, linked}
+use Rattle.review_machine_laws.proofs.Places.{at_place, place_behind, all_placed, any_of, contained_get, contains_placed, distinct_append, each_weaker, get_placed}
 use Rattle.review_machine_laws.specs.{Accepted.IsAccepted, Joined.HasJoined, Places.place_of}
+use Rattle.review_words.specs.declared.command.ChangeCommand.TheVariants as on
+
+-- ==== what an accepted submit joins
+
+none_found : (chain : List ℕ) (found : Option (ℕ × List ℕ)) (a : Answer) → Done a ≡ checked_reply chain found → (found ≡ None) × (a ≡ Submitted chain)
+none_found chain None a is = let same : a ≡ Submitted chain = cc in (refl, same)
+none_found chain (Some found) a is = absurd (cc)
+
+accepted_of : (reading : Reading) (h : List Entry) (caller m : ℕ) (o : Option Change) (a : Answer) → change reading h m ≡ o → AllByRecursion Passes (of_change (submit_checks reading h caller) o) →
+    IsOf (λ c. IsSubmitAnswer reading h m c (Done a)) o → IsAccepted reading h m a
+accepted_of reading h caller m None a there pass told = absurd told
+accepted_of reading h caller m (Some c) a there pass (inl bad) = let e : Done a ≡ Refused bad.refusal = bad.reply_is in absurd (cc)
+accepted_of reading h caller m (Some c) a there pass (inr good) =
+    let none = none_found good.chain good.found a good.reply_is in
+    record {
+      of = c;
+      there = there;
+      was_open = pass.1.0;
+      was_ready = not-true c.wip pass.1.1.0;
+      chain = good.chain;
+      is_chain = good.is_chain;
+      satisfied = subst (IsFirstUnsatisfied (judged_after reading h) good.chain) none.0 good.checked;
+      told = none.1;
+    }
+
+-- an answer that is no refusal is given where no check refuses
+not_refused : {A : Type 0} (o : Option Refusal) (a : Answer) → MatchOption o A (λ r. Done a ≡ Refused r) → A
+not_refused None a outcome = outcome
+not_refused (Some r) a refused = absurd (cc)
+
+pub submit_accepted : (reading : Reading) (h : List Entry) (caller m : ℕ) (a : Answer) → IsAnswerBy reading h caller (Submit m) (Done a) → IsAccepted reading h m a
+submit_accepted reading h caller m a answer =
+    let none = done_passes reading h caller (Submit m) a answer in
+    let pass = (all_pass ((is_account h caller, UnknownCaller) ∷ checks reading h caller (Submit m)) none).1 in
+    accepted_of reading h caller m (change reading h m) a refl pass (not_refused {A = IsOutcome reading h caller (Submit m) (Done a)} (refused_by reading h caller (Submit m)) a answer)
+
+-- ==== the place of a change in the list of those that joined its branch is its place
+
+-- a change that isn't merged has none
+pub not_placed : (project branch : List ℕ) (c : Change) → is_merged c.state ≡ false → place_of project branch (Some c) ≡ None
+not_placed project branch c free =
+    ap (λ b. cond b (Some c.place) None) (and_right (is_for project branch c) (is_merged c.state) free)
+
+-- ---- requests on a change keep its place
+
+open_unmerged : (s : State) → is_open s ≡ true → is_merged s ≡ false
+open_unmerged New e = refl
+open_unmerged Merged e = absurd (cc)
+open_unmerged Abandoned e = absurd (cc)
+
+pub merged_stays : (reading : Reading) (h : List Entry) (caller : ℕ) (command : ChangeCommand) (c : Change) → AllByRecursion Passes (request_checks reading h caller command c) →
+    is_merged (state_by command c.state) ≡ is_merged c.state
+merged_stays reading h caller (on.Upload patch) c pass = refl
+merged_stays reading h caller (on.Review review) c pass = refl
+merged_stays reading h caller (on.AddReviewer account role) c pass = refl
+merged_stays reading h caller (on.RemoveReviewer account) c pass = refl
+merged_stays reading h caller on.SetWip c pass = refl
+merged_stays reading h caller on.SetReady c pass = refl
+merged_stays reading h caller on.Abandon c pass = sym (open_unmerged c.state pass.1.0)
+merged_stays reading h caller on.Restore c pass = sym (not-true (is_merged c.state) pass.1.0)
+merged_stays reading h caller (on.AddAttention account reason) c pass = refl
+merged_stays reading h caller (on.RemoveAttention account reason) c pass = refl
+
+named_place : (project branch : List ℕ) (b : Bool) (o : Option Change) (f : Change → Change) → (b ≡ true → (x : Change) → o ≡ Some x → place_of project branch (Some (f x)) ≡ place_of project branch (Some x)) →
+    place_of project branch (cond b (option_map f o) o) ≡ place_of project branch o
+named_place project branch true None f keeps = refl
+named_place project branch true (Some x) f keeps = keeps refl x refl
+named_place project branch false o f keeps = refl
+
+made_place : (project branch : List ℕ) (b : Bool) (o : Option Change) (new : Change) → is_merged new.state ≡ false → (b ≡ true → o ≡ None) → place_of project branch (cond b (Some new) o) ≡ place_of project branch o
+made_place project branch true o new free none = not_placed project branch new free ∙ ap (place_of project branch) (sym (none refl))
+made_place project branch false o new free none = refl
+
+none_from : {X : Type 0} (o : Option X) → is_some o ≡ false → o ≡ None
+none_from None e = refl
+none_from (Some x) e = absurd (cc)
+
+past : (c : ℕ) → is_up_to c (c + 1) ≡ false
+past c = grind (arith, nat_tests)
+
+-- the next number is that of no change
+pub none_next : (reading : Reading) (h : List Entry) (n : ℕ) → (change_count h + 1 == n) ≡ true → change reading h n ≡ None
+none_next reading h n next =
+    none_from (change reading h n) (change_there reading h n ∙ (ap (is_up_to (change_count h)) (sym (eqb-true (change_count h + 1) n next)) ∙ past (change_count h)))
+
+place_stays : (reading : Reading) (h : List Entry) (caller : ℕ) (command : Command) (a : Answer) (project branch : List ℕ) (n : ℕ) → IsAnswerBy reading h caller command (Done a) →
+    place_of project branch (change_by reading h caller (Some command) n (change reading h n)) ≡ place_of project branch (change reading h n)
+place_stays reading h caller (CreateAccount name) a project branch n answer = refl
+place_stays reading h caller (PutGroup group members) a project branch n answer = refl
+place_stays reading h caller (PutProject named text) a project branch n answer = refl
+place_stays reading h caller (RecordBase named on commit) a project branch n answer = refl
+place_stays reading h caller (CloseEpoch epoch) a project branch n answer = refl
+place_stays reading h caller (CreateChange new) a project branch n answer =
+    made_place project branch (change_count h + 1 == n) (change reading h n) (begun new caller (length h + 1)) refl (none_next reading h n)
+place_stays reading h caller (OnChange m command) a project branch n answer =
+    named_place project branch (m == n) (change reading h n) (λ x. after (setting_of reading h x.project) command caller (length h + 1) x)
+    (λ same x there.
+    let pass = checks_pass reading h caller (request_checks reading h caller command) (change reading h m) x (ap (change reading h) (eqb-true m n same) ∙ there) (done_passes reading h caller (OnChange m command) a answer) in
+    ap (λ b. cond (is_for project branch x && b) (Some x.place) None) (merged_stays reading h caller command x pass))
+place_stays reading h caller (Submit m) a project branch n answer = refl
+
+-- ---- a submit gives the next places
+
+-- a change for the branch that isn't merged
+pub record IsUnmerged (reading : Reading) (h : List Entry) (project branch : List ℕ) (n : ℕ) : Type 0 where
+  pub of : Change
+  pub there : change reading h n ≡ Some of
+  pub is_for_it : is_for project branch of ≡ true
+  pub unmerged : is_merged of.state ≡ false
+
+linked_unmerged : (reading : Reading) (h : List Entry) (project branch : List ℕ) (n : ℕ) → IsReady (branch_after reading h project branch) n → IsUnmerged reading h project branch n
+linked_unmerged reading h project branch n r =
+    let l = linked project branch (change reading h n) r.link r.there in
+    record { of = l.of; there = l.there; is_for_it = is_for_branch project branch l.of l.for_project l.for_branch; unmerged = ap is_merged (ap (λ (x : Link). x.state) l.link_is ∙ r.is_open) }
+
+-- each change of an accepted chain is for its branch, and wasn't merged
+pub unmerged : (reading : Reading) (h : List Entry) (m : ℕ) (a : Answer) (s : IsAccepted reading h m a) (n k : ℕ) → place_in s.chain n ≡ Some k → IsUnmerged reading h s.of.project s.of.branch n
+unmerged reading h m a s n k is =
+    ⊎_elim
+    (λ (last : n ≡ m). record {
+      of = s.of;
+      there = ap (change reading h) last ∙ s.there;
+      is_for_it = is_for_branch s.of.project s.of.branch s.of refl refl;
+      unmerged = open_unmerged s.of.state s.was_open;
+    })
+    (linked_unmerged reading h s.of.project s.of.branch n)
+    (at_place (λ d. (d ≡ m) ⊎ IsReady (branch_after reading h s.of.project s.of.branch) d) s.chain n k (chain_ready (branch_after reading h s.of.project s.of.branch) s.chain m s.is_chain) is)
+
+-- two changes for one branch are for the same branches
+same_branches : (project branch : List ℕ) (c x : Change) → is_for c.project c.branch x ≡ true → is_for project branch c ≡ is_for project branch x
+same_branches project branch c x e =
+    let to = for_branch c.project c.branch x e in
+    λ i. bytes_eq (sym to.0 i) project && bytes_eq (sym to.1 i) branch
+
+or_none : (o : Option ℕ) → option_or o None ≡ o
+or_none None = refl
+or_none (Some k) = refl
+
+placed_at : (h : List Entry) (project branch : List ℕ) (x : Change) (chain : List ℕ) (n k : ℕ) (b : Bool) → is_for project branch x ≡ b → place_in chain n ≡ Some k →
+    option_map (λ j. length (joined h project branch) + j) (place_in (cond b chain []) n) ≡ cond (b && true) (Some (length (joined h x.project x.branch) + k)) None
+placed_at h project branch x chain n k true same is =
+    let to = for_branch project branch x same in
+    ap (option_map (λ j. length (joined h project branch) + j)) is ∙ (λ i. Some (length (joined h (sym to.0 i) (sym to.1 i)) + k))
+placed_at h project branch x chain n k false other is = refl
+
+submit_places : (reading : Reading) (h : List Entry) (m : ℕ) (a : Answer) (s : IsAccepted reading h m a) (project branch : List ℕ) (n : ℕ) →
+    place_in (joined h project branch) n ≡ place_of project branch (change reading h n) →
+    place_in (joined h project branch ++ cond (is_made_for h project branch m) s.chain []) n ≡ place_of project branch (joining h s.chain n (change reading h n))
+submit_places reading h m a s project branch n before = by (place_in s.chain n) refl
+  where
+    none_either : (b : Bool) → place_in s.chain n ≡ None → place_in (cond b s.chain []) n ≡ None
+    none_either true none = none
+    none_either false none = refl
+
+    behind : place_in (joined h project branch ++ cond (is_made_for h project branch m) s.chain []) n
+        ≡ option_or (place_in (joined h project branch) n) (option_map (λ j. length (joined h project branch) + j) (place_in (cond (is_made_for h project branch m) s.chain []) n))
+    behind = place_behind (joined h project branch) (cond (is_made_for h project branch m) s.chain []) n
+
+    by : (o : Option ℕ) → place_in s.chain n ≡ o →
+        place_in (joined h project branch ++ cond (is_made_for h project branch m) s.chain []) n ≡ place_of project branch (joining h s.chain n (change reading h n))
+    by None none =
+        behind
+        ∙ (ap (λ o. option_or (place_in (joined h project branch) n) (option_map (λ j. length (joined h project branch) + j) o)) (none_either (is_made_for h project branch m) none)
+        ∙ (or_none (place_in (joined h project branch) n) ∙ (before ∙ ap (λ o. place_of project branch (joining_at h o (change reading h n))) (sym none))))
+    by (Some k) some =
+        let u = unmerged reading h m a s n k some in
+        let same = made_for reading h m s.of project branch s.there ∙ same_branches project branch s.of u.of u.is_for_it in
+        behind
+        ∙ (ap (λ o. option_or o (option_map (λ j. length (joined h project branch) + j) (place_in (cond (is_made_for h project branch m) s.chain []) n)))
+        (before ∙ (ap (place_of project branch) u.there ∙ not_placed project branch u.of u.unmerged))
+        ∙ (ap (λ b. option_map (λ j. length (joined h project branch) + j) (place_in (cond b s.chain []) n)) same
+        ∙ (placed_at h project branch u.of s.chain n k (is_for project branch u.of) refl some
+        ∙ ap (place_of project branch) (sym (ap (λ o. joining_at h o (change reading h n)) some ∙ ap (joining_at h (Some k)) u.there)))))
+
+-- ---- one entry more
+
+step : (reading : Reading) (h : List Entry) (caller : ℕ) (command : Command) (reply : Reply) (project branch : List ℕ) (n : ℕ) → IsDoneBy reading h caller command reply →
+    place_in (joined h project branch) n ≡ place_of project branch (change reading h n) →
+    place_in (joined h project branch ++ joined_by h (if_done reply command) reply project branch) n
+    ≡ place_of project branch (joining h (submitted (if_done reply command) reply) n (change_by reading h caller (if_done reply command) n (change reading h n)))
+step reading h caller command (Refused r) project branch n answer before = ap (λ l. place_in l n) (append-nil (joined h project branch)) ∙ before
+step reading h caller command IdentityReused project branch n answer before = ap (λ l. place_in l n) (append-nil (joined h project branch)) ∙ before
+step reading h caller command EpochClosed project branch n answer before = ap (λ l. place_in l n) (append-nil (joined h project branch)) ∙ before
+step reading h caller command (NotTaken cause) project branch n answer before = ap (λ l. place_in l n) (append-nil (joined h project branch)) ∙ before
+step reading h caller (Submit m) (Done a) project branch n answer before =
+    let s = submit_accepted reading h caller m a answer in
+    let chain : joined_in (Done a) ≡ s.chain = ap (λ x. joined_in (Done x)) s.told in
+    ap (λ l. place_in (joined h project branch ++ cond (is_made_for h project branch m) l []) n) chain
+    ∙ (submit_places reading h m a s project branch n before ∙ ap (λ l. place_of project branch (joining h l n (change reading h n))) (sym chain))
+step reading h caller (CreateAccount name) (Done a) project branch n answer before = ap (λ l. place_in l n) (append-nil (joined h project branch)) ∙ before
+step reading h caller (PutGroup group members) (Done a) project branch n answer before = ap (λ l. place_in l n) (append-nil (joined h project branch)) ∙ before
+step reading h caller (PutProject named text) (Done a) project branch n answer before = ap (λ l. place_in l n) (append-nil (joined h project branch)) ∙ before
+step reading h caller (RecordBase named on commit) (Done a) project branch n answer before = ap (λ l. place_in l n) (append-nil (joined h project branch)) ∙ before
+step reading h caller (CloseEpoch epoch) (Done a) project branch n answer before = ap (λ l. place_in l n) (append-nil (joined h project branch)) ∙ before
+step reading h caller (CreateChange new) (Done a) project branch n answer before =
+    ap (λ l. place_in l n) (append-nil (joined h project branch)) ∙ (before ∙ sym (place_stays reading h caller (CreateChange new) a project branch n answer))
+step reading h caller (OnChange m command) (Done a) project branch n answer before =
+    ap (λ l. place_in l n) (append-nil (joined h project branch)) ∙ (before ∙ sym (place_stays reading h caller (OnChange m command) a project branch n answer))
+
+-- the place of a change among those that joined a branch is the place that it has
+pub placed : (reading : Reading) (h : List Entry) (project branch : List ℕ) (n : ℕ) → IsHistory h → Reads reading h → place_in (joined h project branch) n ≡ place_of project branch (change reading h n)
+placed reading [] project branch n history reads = refl
+placed reading (e ∷ h) project branch n history reads =
+    step reading h e.identity.caller e.command e.reply project branch n (done_of e h history reading reads.1) (placed reading h project branch n history.3 reads.1)
+
+-- ==== which changes joined a branch: those for it that are merged, each once
 
 pub state_merged : (s : State) → is_merged s ≡ true → s ≡ Merged
 state_merged New e = absurd (cc)
@@ -170,3 +380,110 @@ joined_few reading h project branch history reads =
     few (joined h project branch) (change_count h) (joined_distinct reading h project branch history reads)
     (all_placed (λ n. is_up_to (change_count h) n ≡ true) (joined h project branch)
     (λ n place is. sym (change_there reading h n) ∙ ap is_some (joined_placed reading h project branch n place history reads is).has_joined.there))
+
+-- ==== what an entry keeps: the bases of branches, and the patch sets of merged changes
+
+-- ---- bases
+
+one_more_base : (b : Bool) (x commit : List ℕ) (xs : List (List ℕ)) → list_any (λ base. bytes_eq base x) xs ≡ true → list_any (λ base. bytes_eq base x) (cond b (xs ++ commit ∷ []) xs) ≡ true
+one_more_base true x commit xs is = list_any-append (λ base. bytes_eq base x) xs (commit ∷ []) ∙ ap (λ b. b || list_any (λ base. bytes_eq base x) (commit ∷ [])) is
+one_more_base false x commit xs is = is
+
+base_stays : (o : Option Command) (project branch x : List ℕ) (xs : List (List ℕ)) → list_any (λ base. bytes_eq base x) xs ≡ true → list_any (λ base. bytes_eq base x) (with_base o project branch xs) ≡ true
+base_stays None project branch x xs is = is
+base_stays (Some (CreateAccount name)) project branch x xs is = is
+base_stays (Some (PutGroup group members)) project branch x xs is = is
+base_stays (Some (PutProject named text)) project branch x xs is = is
+base_stays (Some (RecordBase named on commit)) project branch x xs is = one_more_base (bytes_eq named project && bytes_eq on branch) x commit xs is
+base_stays (Some (CreateChange new)) project branch x xs is = is
+base_stays (Some (OnChange m command)) project branch x xs is = is
+base_stays (Some (Submit m)) project branch x xs is = is
+base_stays (Some (CloseEpoch least)) project branch x xs is = is
+
+-- a base of a branch stays one
+pub base_kept : (e : Entry) (h : List Entry) (project branch x : List ℕ) → is_base h project branch x ≡ true → is_base (e ∷ h) project branch x ≡ true
+base_kept e h project branch x is = base_stays (accepted e) project branch x (bases h project branch) is
+
+-- ---- patch sets
+
+-- a change is still there, with the same patch sets
+pub record KeepsPatches (c : Change) (o : Option Change) : Type 0 where
+  pub of : Change
+  pub there : o ≡ Some of
+  pub patches : of.patches ≡ c.patches
+
+-- where changes join, each keeps its patch sets
+joining_patches : (h : List Entry) (place : Option ℕ) (o : Option Change) (c : Change) → KeepsPatches c o → KeepsPatches c (joining_at h place o)
+joining_patches h None o c keeps = keeps
+joining_patches h (Some place) None c keeps = let e : None ≡ Some keeps.of = keeps.there in absurd (cc)
+joining_patches h (Some place) (Some x) c keeps = let same : x ≡ keeps.of = let e : Some x ≡ Some keeps.of = keeps.there in cc in record { of = _; there = refl; patches = ap (λ (y : Change). y.patches) same ∙ keeps.patches }
+
+not_open : (s : State) → s ≡ Merged → is_open s ≡ true → ⊥
+not_open New e o = absurd (cc)
+not_open Merged e o = absurd (let f : false ≡ true = o in cc)
+not_open Abandoned e o = absurd (let f : false ≡ true = o in cc)
+
+-- no patch set is sent for a merged change
+none_sent : (reading : Reading) (h : List Entry) (caller : ℕ) (command : ChangeCommand) (c : Change) → AllByRecursion Passes (request_checks reading h caller command c) → c.state ≡ Merged →
+    patches_by command caller c.patches ≡ c.patches
+none_sent reading h caller (on.Upload patch) c pass merged = absurd (not_open c.state merged pass.1.0)
+none_sent reading h caller (on.Review review) c pass merged = refl
+none_sent reading h caller (on.AddReviewer account role) c pass merged = refl
+none_sent reading h caller (on.RemoveReviewer account) c pass merged = refl
+none_sent reading h caller on.SetWip c pass merged = refl
+none_sent reading h caller on.SetReady c pass merged = refl
+none_sent reading h caller on.Abandon c pass merged = refl
+none_sent reading h caller on.Restore c pass merged = refl
+none_sent reading h caller (on.AddAttention account reason) c pass merged = refl
+none_sent reading h caller (on.RemoveAttention account reason) c pass merged = refl
+
+named_patches : (b : Bool) (o : Option Change) (f : Change → Change) (c : Change) → o ≡ Some c → (b ≡ true → (f c).patches ≡ c.patches) → KeepsPatches c (cond b (option_map f o) o)
+named_patches true o f c there keeps = record { of = f c; there = ap (option_map f) there; patches = keeps refl }
+named_patches false o f c there keeps = record { of = c; there = there; patches = refl }
+
+made_patches : (b : Bool) (o : Option Change) (new c : Change) → o ≡ Some c → (b ≡ true → o ≡ None) → KeepsPatches c (cond b (Some new) o)
+made_patches true o new c there none = let e : Some c ≡ None = sym there ∙ none refl in absurd (cc)
+made_patches false o new c there none = record { of = c; there = there; patches = refl }
+
+done_patches : (reading : Reading) (h : List Entry) (caller n : ℕ) (c : Change) (command : Command) (a : Answer) → IsAnswerBy reading h caller command (Done a) → change reading h n ≡ Some c → c.state ≡ Merged →
+    KeepsPatches c (change_by reading h caller (Some command) n (change reading h n))
+done_patches reading h caller n c (CreateAccount name) a answer there merged = record { of = c; there = there; patches = refl }
+done_patches reading h caller n c (PutGroup group members) a answer there merged = record { of = c; there = there; patches = refl }
+done_patches reading h caller n c (PutProject project text) a answer there merged = record { of = c; there = there; patches = refl }
+done_patches reading h caller n c (RecordBase project branch commit) a answer there merged = record { of = c; there = there; patches = refl }
+done_patches reading h caller n c (CloseEpoch epoch) a answer there merged = record { of = c; there = there; patches = refl }
+done_patches reading h caller n c (CreateChange new) a answer there merged =
+    made_patches (change_count h + 1 == n) (change reading h n) (begun new caller (length h + 1)) c there (none_next reading h n)
+done_patches reading h caller n c (OnChange m command) a answer there merged =
+    named_patches (m == n) (change reading h n) (λ x. after (setting_of reading h x.project) command caller (length h + 1) x) c there
+    (λ same.
+    let pass = checks_pass reading h caller (request_checks reading h caller command) (change reading h m) c (ap (change reading h) (eqb-true m n same) ∙ there) (done_passes reading h caller (OnChange m command) a answer) in
+    none_sent reading h caller command c pass merged)
+done_patches reading h caller n c (Submit m) a answer there merged = record { of = c; there = there; patches = refl }
+
+step_patches : (reading : Reading) (h : List Entry) (caller n : ℕ) (c : Change) (command : Command) (reply : Reply) → IsDoneBy reading h caller command reply → change reading h n ≡ Some c → c.state ≡ Merged →
+    KeepsPatches c (change_by reading h caller (if_done reply command) n (change reading h n))
+step_patches reading h caller n c command (Done a) answer there merged = done_patches reading h caller n c command a answer there merged
+step_patches reading h caller n c command (Refused r) answer there merged = record { of = c; there = there; patches = refl }
+step_patches reading h caller n c command IdentityReused answer there merged = record { of = c; there = there; patches = refl }
+step_patches reading h caller n c command EpochClosed answer there merged = record { of = c; there = there; patches = refl }
+step_patches reading h caller n c command (NotTaken cause) answer there merged = record { of = c; there = there; patches = refl }
+
+-- an entry keeps the patch sets of a merged change
+pub merged_keeps : (reading : Reading) (e : Entry) (h : List Entry) (n : ℕ) (c : Change) → IsHistory (e ∷ h) → Reads reading h → change reading h n ≡ Some c → c.state ≡ Merged → KeepsPatches c (change reading (e ∷ h) n)
+merged_keeps reading e h n c history reads there merged =
+    joining_patches h (place_in (submitted (accepted e) e.reply) n) (change_by reading h e.identity.caller (accepted e) n (change reading h n)) c
+    (step_patches reading h e.identity.caller n c e.command e.reply (done_of e h history reading reads) there merged)
+
+-- a submit keeps those of every change
+pub submit_keeps : (reading : Reading) (e : Entry) (h : List Entry) (m n : ℕ) (c : Change) → accepted e ≡ Some (Submit m) → change reading h n ≡ Some c → KeepsPatches c (change reading (e ∷ h) n)
+submit_keeps reading e h m n c asked there =
+    joining_patches h (place_in (submitted (accepted e) e.reply) n) (change_by reading h e.identity.caller (accepted e) n (change reading h n)) c
+    (record { of = c; there = ap (λ o. change_by reading h e.identity.caller o n (change reading h n)) asked ∙ there; patches = refl })
+
+-- what has the same patch sets has the same current commit, and the same parent
+pub commit_kept : (b c : Change) → b.patches ≡ c.patches → commit b ≡ commit c
+commit_kept b c same = ap (λ (ps : List PatchRow). option_map_or (λ (p : PatchRow). p.commit) (of_number ps (length ps)) []) same
+
+pub parent_kept : (b c : Change) → b.patches ≡ c.patches → parent b ≡ parent c
+parent_kept b c same = ap (λ (ps : List PatchRow). option_map_or (λ (p : PatchRow). p.parent) (of_number ps (length ps)) []) same

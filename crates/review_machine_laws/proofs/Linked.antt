@@ -1,7 +1,6 @@
 -- A change for a branch, as a link in it.
-use Rattle.std.proofs.Common.{◌≡◌, ℕ, List, Option, Some, None, Bool, true, false, cond, refl}
+use Rattle.std.proofs.Common.{◌≡◌, ℕ, List, Option, Some, None, Bool, true, false, cond, refl, option_map, bytes_eq}
 use Rattle.std.proofs.lemmas.{Bool.and_from, Bool.and_parts, Slice.Eq.bytes_eq-Decides}
-use Rattle.std.specs.{Prelude.option_map, Str.bytes_eq}
 use Rattle.review_chain.specs.declared.links.Link.{Link}
 use Rattle.review_core_rules.specs.Change.{Change, current, current_patch}
 use Rattle.review_core_rules.specs.declared.rows.PatchRow.{PatchRow}

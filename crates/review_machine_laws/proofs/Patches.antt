@@ -1,18 +1,141 @@
--- What is known in a branch stays known.
-use Rattle.std.proofs.Common.{◌≡◌, ℕ, zero, suc, ◌+◌, ◌==◌, List, [], ◌∷◌, ◌++◌, length, Option, Some, None, Bool, true, false, cond, ◌&&◌, ◌||◌, refl, sym, ap, ◌∙◌, ⊎_elim, ◌⊎◌, inl, inr, eqb-true, arith}
-use Rattle.std.proofs.lemmas.Bool.{cases_Bool, and_parts, and_from, Decides.nat_tests}
-use Rattle.std.proofs.lemmas.Slice.Eq.{bytes_eq-Decides}
-use Rattle.std.specs.{List.list_any, Prelude.is_some, Prelude.option_map, Prelude.slice_get, Str.bytes_eq}
-use Rattle.review_words.specs.History.{Entry, accepted, bases, is_base, with_base}
+-- Patch sets and bases of a branch: what adds to them, that they stay, and that each has a commit of its own.
+use Rattle.std.proofs.Common.{◌≡◌, ℕ, ◌+◌, ◌==◌, List, ◌∷◌, length, Option, Some, None, Bool, true, false, cond, not, ◌⊎◌, inl, inr, refl, sym, ap, ◌∙◌, eqb-true, option_map, bytes_eq, zero, suc, [], ◌++◌, ◌&&◌, ◌||◌, ⊎_elim, arith, is_some, slice_get, subst}
+use Rattle.std.proofs.lemmas.Bool.{and_parts, cases_Bool, and_from, Decides.nat_tests}
+use Rattle.std.{proofs.lemmas.Slice.Eq.bytes_eq-Decides, specs.List.AllByRecursion, specs.List.list_any}
+use Rattle.review_names.specs.declared.kinds.ChangeKind.TheVariants.{Rework}
+use Rattle.review_words.specs.History.{Entry, accepted, if_done, is_account, bases, is_base, with_base}
 use Rattle.review_words.specs.declared.command.{ChangeCommand.ChangeCommand, Command.Command}
 use Rattle.review_words.specs.declared.command.Command.TheVariants.{CreateAccount, PutGroup, PutProject, RecordBase, CloseEpoch, CreateChange, OnChange, Submit}
-use Rattle.review_core_rules.specs.Change.{Change, after, begun, joined_at, of_number, patches_by}
+use Rattle.review_words.specs.declared.reply.{Answer.Answer, Refusal.TheVariants.UnknownCaller, Reply.Reply}
+use Rattle.review_words.specs.declared.reply.Reply.TheVariants.{Done, Refused, IdentityReused, EpochClosed, NotTaken}
+use Rattle.review_core_rules.specs.Change.{Change, after, begun, current, of_number, patches_by, joined_at, current_patch}
 use Rattle.review_core_rules.specs.declared.rows.PatchRow.{PatchRow}
-use Rattle.review_machine_rows.specs.Changes.{Reading, change, change_by, change_count, has_commit, is_for, is_known, is_sent, joined, joining_at, place_in, setting_of, submitted}
-use Rattle.review_machine_laws.proofs.{Numbers.kept, Passing.one_passing, Passing.or_true, Passing.some_passes}
-use Rattle.review_machine_laws.proofs.There.{change_there, is_up_to}
+use Rattle.review_machine_rows.proofs.Readings.{IsDoneBy, done_of}
+use Rattle.review_machine_rows.specs.Answer.{IsAnswerBy, IsHistory, checks, request_checks}
+use Rattle.review_machine_rows.specs.Changes.{Reading, Reads, change, change_by, change_count, is_for, is_known, setting_of, submitted, has_commit, is_sent, joined, joining_at, place_in}
+use Rattle.review_machine_laws.proofs.Changes.{joining_keeps, one_passing, or_true, some_passes, Passes, all_pass, checks_pass, done_passes, change_there, is_up_to}
+use Rattle.review_machine_laws.proofs.Places.{appended, only, kept, last_of, number_within}
 use Rattle.review_machine_laws.specs.Patches.{HasPatch}
 use Rattle.review_words.specs.declared.command.ChangeCommand.TheVariants as on
+
+-- ==== what an entry adds to the patch sets and the bases of a branch
+
+-- where a command puts a new patch set: at the number of its change, and its own
+abbrev pub place_sent : Reading → List Entry → Option Command → Option (ℕ × ℕ)
+place_sent reading h (Some (CreateChange new)) = Some (change_count h + 1, 1)
+place_sent reading h (Some (OnChange n (on.Upload patch))) = option_map (λ c. (n, current c + 1)) (change reading h n)
+place_sent reading h _ = None
+
+-- a command sends a patch set: there it stands, its commit wasn't known in the branch, and what it stands on was
+pub record IsSentNow (reading : Reading) (h : List Entry) (o : Option Command) (project branch : List ℕ) (n k : ℕ) (p : PatchRow) : Type 0 where
+  pub put : place_sent reading h o ≡ Some (n, k)
+  pub unknown : is_known reading h project branch p.commit ≡ false
+  pub based : is_known reading h project branch p.parent ≡ true
+
+-- a patch set after a command was there before, or the command sends it
+abbrev pub Came : Reading → List Entry → Option Command → List ℕ → List ℕ → ℕ → ℕ → PatchRow → Type 0
+Came reading h o project branch n k p = HasPatch project branch k p (change reading h n) ⊎ IsSentNow reading h o project branch n k p
+
+pub from_not : (b : Bool) → not b ≡ true → b ≡ false
+from_not true e = absurd (cc)
+from_not false e = refl
+
+pub for_project : (project branch : List ℕ) (c : Change) → is_for project branch c ≡ true → c.project ≡ project
+for_project project branch c e = (bytes_eq-Decides c.project project).0 (and_parts (bytes_eq c.project project) (bytes_eq c.branch branch) e).0
+
+pub for_branch : (project branch : List ℕ) (c : Change) → is_for project branch c ≡ true → c.branch ≡ branch
+for_branch project branch c e = (bytes_eq-Decides c.branch branch).0 (and_parts (bytes_eq c.project project) (bytes_eq c.branch branch) e).1
+
+-- of what was asked of a change
+asked_came : (reading : Reading) (h : List Entry) (caller : ℕ) (project branch : List ℕ) (m n k : ℕ) (p : PatchRow) (x : Change) (command : ChangeCommand) → m ≡ n → change reading h n ≡ Some x →
+    AllByRecursion Passes (request_checks reading h caller command x) → is_for project branch x ≡ true → of_number (patches_by command caller x.patches) k ≡ Some p →
+    Came reading h (Some (OnChange m command)) project branch n k p
+asked_came reading h caller project branch m n k p x (on.Upload patch) same is pass for sent =
+    by (appended x.patches (record { commit = patch.commit; parent = patch.parent; kind = patch.kind; uploader = caller; paths = patch.paths }) p k sent)
+  where
+    one : x.project ≡ project
+    one = for_project project branch x for
+
+    two : x.branch ≡ branch
+    two = for_branch project branch x for
+
+    by : (of_number x.patches k ≡ Some p) ⊎ ((k ≡ length x.patches + 1) × (record { commit = patch.commit; parent = patch.parent; kind = patch.kind; uploader = caller; paths = patch.paths } ≡ p)) →
+        Came reading h (Some (OnChange m (on.Upload patch))) project branch n k p
+    by (inl was) = inl (record { of = x; is = is; is_for_it = for; sent = was })
+    by (inr (last, new)) =
+        inr
+        (record {
+          put = ap (option_map (λ (c : Change). (m, current c + 1))) (ap (change reading h) same ∙ is) ∙ (λ i. Some (same i, sym last i));
+          unknown = (λ i. is_known reading h (sym one i) (sym two i) (sym new i).commit) ∙ from_not (is_known reading h x.project x.branch patch.commit) pass.1.1.0;
+          based = (λ i. is_known reading h (sym one i) (sym two i) (sym new i).parent) ∙ pass.1.1.1.0;
+        })
+asked_came reading h caller project branch m n k p x (on.Review review) same is pass for sent = inl (record { of = x; is = is; is_for_it = for; sent = sent })
+asked_came reading h caller project branch m n k p x (on.AddReviewer account role) same is pass for sent = inl (record { of = x; is = is; is_for_it = for; sent = sent })
+asked_came reading h caller project branch m n k p x (on.RemoveReviewer account) same is pass for sent = inl (record { of = x; is = is; is_for_it = for; sent = sent })
+asked_came reading h caller project branch m n k p x on.SetWip same is pass for sent = inl (record { of = x; is = is; is_for_it = for; sent = sent })
+asked_came reading h caller project branch m n k p x on.SetReady same is pass for sent = inl (record { of = x; is = is; is_for_it = for; sent = sent })
+asked_came reading h caller project branch m n k p x on.Abandon same is pass for sent = inl (record { of = x; is = is; is_for_it = for; sent = sent })
+asked_came reading h caller project branch m n k p x on.Restore same is pass for sent = inl (record { of = x; is = is; is_for_it = for; sent = sent })
+asked_came reading h caller project branch m n k p x (on.AddAttention account reason) same is pass for sent = inl (record { of = x; is = is; is_for_it = for; sent = sent })
+asked_came reading h caller project branch m n k p x (on.RemoveAttention account reason) same is pass for sent = inl (record { of = x; is = is; is_for_it = for; sent = sent })
+
+-- of a command that was done
+done_came : (reading : Reading) (h : List Entry) (caller : ℕ) (project branch : List ℕ) (n k : ℕ) (p : PatchRow) (c : Change) (command : Command) (a : Answer) → IsAnswerBy reading h caller command (Done a) →
+    change_by reading h caller (Some command) n (change reading h n) ≡ Some c → is_for project branch c ≡ true → of_number c.patches k ≡ Some p → Came reading h (Some command) project branch n k p
+done_came reading h caller project branch n k p c (CreateAccount name) a answer is for sent = inl (record { of = c; is = is; is_for_it = for; sent = sent })
+done_came reading h caller project branch n k p c (PutGroup group members) a answer is for sent = inl (record { of = c; is = is; is_for_it = for; sent = sent })
+done_came reading h caller project branch n k p c (PutProject named text) a answer is for sent = inl (record { of = c; is = is; is_for_it = for; sent = sent })
+done_came reading h caller project branch n k p c (RecordBase named in_branch commit) a answer is for sent = inl (record { of = c; is = is; is_for_it = for; sent = sent })
+done_came reading h caller project branch n k p c (CloseEpoch epoch) a answer is for sent = inl (record { of = c; is = is; is_for_it = for; sent = sent })
+done_came reading h caller project branch n k p c (Submit m) a answer is for sent = inl (record { of = c; is = is; is_for_it = for; sent = sent })
+done_came reading h caller project branch n k p c (CreateChange new) a answer is for sent = by (change_count h + 1 == n) refl is
+  where
+    by : (b : Bool) → (change_count h + 1 == n) ≡ b → cond b (Some (begun new caller (length h + 1))) (change reading h n) ≡ Some c → Came reading h (Some (CreateChange new)) project branch n k p
+    by false other is = inl (record { of = c; is = is; is_for_it = for; sent = sent })
+    by true next is =
+        let same : begun new caller (length h + 1) ≡ c = cc in
+        let pass = all_pass ((is_account h caller, UnknownCaller) ∷ checks reading h caller (CreateChange new)) (done_passes reading h caller (CreateChange new) a answer) in
+        let here = eqb-true (change_count h + 1) n next in
+        let one : new.project ≡ project = ap (λ (x : Change). x.project) same ∙ for_project project branch c for in
+        let two : new.branch ≡ branch = ap (λ (x : Change). x.branch) same ∙ for_branch project branch c for in
+        let first = only (record { commit = new.commit; parent = new.parent; kind = Rework; uploader = caller; paths = new.paths }) p k (ap (λ (x : Change). of_number x.patches k) same ∙ sent) in
+        inr
+        (record {
+          put = λ i. Some (here i, sym first.0 i);
+          unknown = (λ i. is_known reading h (sym one i) (sym two i) (sym first.1 i).commit) ∙ from_not (is_known reading h new.project new.branch new.commit) pass.1.1.1.1.0;
+          based = (λ i. is_known reading h (sym one i) (sym two i) (sym first.1 i).parent) ∙ pass.1.1.1.1.1.0;
+        })
+done_came reading h caller project branch n k p c (OnChange m command) a answer is for sent = by (m == n) refl (change reading h n) refl is
+  where
+    by : (b : Bool) → (m == n) ≡ b → (o : Option Change) → change reading h n ≡ o → cond b (option_map (λ x. after (setting_of reading h x.project) command caller (length h + 1) x) o) o ≡ Some c →
+        Came reading h (Some (OnChange m command)) project branch n k p
+    by false other o there is = inl (record { of = c; is = there ∙ is; is_for_it = for; sent = sent })
+    by true same None there is = absurd (cc)
+    by true same (Some x) there is =
+        let left : after (setting_of reading h x.project) command caller (length h + 1) x ≡ c = cc in
+        let here = eqb-true m n same in
+        asked_came reading h caller project branch m n k p x command here there
+        (checks_pass reading h caller (request_checks reading h caller command) (change reading h m) x (ap (change reading h) here ∙ there) (done_passes reading h caller (OnChange m command) a answer))
+        (ap (λ (y : Change). is_for project branch y) left ∙ for) (ap (λ (y : Change). of_number y.patches k) left ∙ sent)
+
+-- of a command with its reply
+step_came : (reading : Reading) (h : List Entry) (caller : ℕ) (project branch : List ℕ) (n k : ℕ) (p : PatchRow) (c : Change) (command : Command) (reply : Reply) → IsDoneBy reading h caller command reply →
+    change_by reading h caller (if_done reply command) n (change reading h n) ≡ Some c → is_for project branch c ≡ true → of_number c.patches k ≡ Some p → Came reading h (if_done reply command) project branch n k p
+step_came reading h caller project branch n k p c command (Done a) answer is for sent = done_came reading h caller project branch n k p c command a answer is for sent
+step_came reading h caller project branch n k p c command (Refused r) answer is for sent = inl (record { of = c; is = is; is_for_it = for; sent = sent })
+step_came reading h caller project branch n k p c command IdentityReused answer is for sent = inl (record { of = c; is = is; is_for_it = for; sent = sent })
+step_came reading h caller project branch n k p c command EpochClosed answer is for sent = inl (record { of = c; is = is; is_for_it = for; sent = sent })
+step_came reading h caller project branch n k p c command (NotTaken cause) answer is for sent = inl (record { of = c; is = is; is_for_it = for; sent = sent })
+
+-- a patch set after one entry more was there before, or the entry's command sends it
+pub came : (reading : Reading) (e : Entry) (h : List Entry) (project branch : List ℕ) (n k : ℕ) (p : PatchRow) → IsHistory (e ∷ h) → Reads reading (e ∷ h) →
+    HasPatch project branch k p (change reading (e ∷ h) n) → Came reading h (accepted e) project branch n k p
+came reading e h project branch n k p history reads has =
+    joining_keeps (λ c. is_for project branch c ≡ true → of_number c.patches k ≡ Some p → Came reading h (accepted e) project branch n k p) (λ place request x holds. holds)
+    h (submitted (accepted e) e.reply) n (change_by reading h e.identity.caller (accepted e) n (change reading h n)) has.of
+    (λ x there. step_came reading h e.identity.caller project branch n k p x e.command e.reply (done_of e h history reading reads.1) there) has.is has.is_for_it has.sent
+
+-- ==== what is known in a branch stays known
 
 -- ---- a commit that was sent is that of a patch set
 
@@ -185,3 +308,166 @@ known_stays reading e h project branch x is = by (known_parts (is_base h project
         ap (λ b. is_base (e ∷ h) project branch x || b)
         (patch_sent reading (e ∷ h) project branch x s.number s.place s.patch (patch_stays reading e h project branch s.number s.place s.patch s.has) s.commit_is)
         ∙ or_true (is_base (e ∷ h) project branch x)
+
+-- ==== patch sets in one branch have commits of their own, which are no bases of it
+
+-- what is sent is known
+patch_known : (reading : Reading) (h : List Entry) (project branch : List ℕ) (n k : ℕ) (p : PatchRow) → HasPatch project branch k p (change reading h n) → is_known reading h project branch p.commit ≡ true
+patch_known reading h project branch n k p has =
+    ap (λ b. is_base h project branch p.commit || b) (patch_sent reading h project branch p.commit n k p has refl) ∙ or_true (is_base h project branch p.commit)
+
+-- what is sent now was no commit of a patch set before
+new_commit : (reading : Reading) (h : List Entry) (o : Option Command) (project branch : List ℕ) (n k m j : ℕ) (p q : PatchRow) → HasPatch project branch k p (change reading h n) →
+    IsSentNow reading h o project branch m j q → p.commit ≡ q.commit → ⊥
+new_commit reading h o project branch n k m j p q was now same =
+    let bad : true ≡ false = sym (patch_known reading h project branch n k p was) ∙ (ap (is_known reading h project branch) same ∙ now.unknown) in
+    absurd (cc)
+
+-- one entry sends one patch set
+one_place : (o : Option (ℕ × ℕ)) (n k m j : ℕ) → o ≡ Some (n, k) → o ≡ Some (m, j) → (n ≡ m) × (k ≡ j)
+one_place o n k m j a b =
+    let same : (n, k) ≡ (m, j) = let e : Some (n, k) ≡ Some (m, j) = sym a ∙ b in cc in
+    (ap (λ (x : ℕ × ℕ). x.0) same, ap (λ (x : ℕ × ℕ). x.1) same)
+
+-- patch sets for one branch with the same commit are the same
+pub commits_apart : (reading : Reading) (h : List Entry) (project branch : List ℕ) (n k m j : ℕ) (p q : PatchRow) → IsHistory h → Reads reading h →
+    HasPatch project branch k p (change reading h n) → HasPatch project branch j q (change reading h m) → p.commit ≡ q.commit → (n ≡ m) × (k ≡ j)
+commits_apart reading [] project branch n k m j p q history reads one other same = let bad : None ≡ Some one.of = one.is in absurd (cc)
+commits_apart reading (e ∷ h) project branch n k m j p q history reads one other same =
+    by (λ a b. commits_apart reading h project branch n k m j p q history.3 reads.1 a b same) (came reading e h project branch n k p history reads one) (came reading e h project branch m j q history reads other)
+  where
+    by : (HasPatch project branch k p (change reading h n) → HasPatch project branch j q (change reading h m) → (n ≡ m) × (k ≡ j)) →
+        Came reading h (accepted e) project branch n k p → Came reading h (accepted e) project branch m j q → (n ≡ m) × (k ≡ j)
+    by before (inl a) (inl b) = before a b
+    by before (inl a) (inr b) = absurd (new_commit reading h (accepted e) project branch n k m j p q a b same)
+    by before (inr a) (inl b) = absurd (new_commit reading h (accepted e) project branch m j n k q p b a (sym same))
+    by before (inr a) (inr b) = one_place (place_sent reading h (accepted e)) n k m j a.put b.put
+
+-- ---- bases
+
+-- a base after a command was one before, or the command records it: it sends no patch set, and the commit wasn't known
+abbrev pub BaseCame : Reading → List Entry → Option Command → List ℕ → List ℕ → List ℕ → Type 0
+BaseCame reading h o project branch x = (is_base h project branch x ≡ true) ⊎ ((place_sent reading h o ≡ None) × (is_known reading h project branch x ≡ false))
+
+-- of a command that was done
+base_done : (reading : Reading) (h : List Entry) (caller : ℕ) (project branch x : List ℕ) (command : Command) (a : Answer) → IsAnswerBy reading h caller command (Done a) →
+    list_any (λ base. bytes_eq base x) (with_base (Some command) project branch (bases h project branch)) ≡ true → BaseCame reading h (Some command) project branch x
+base_done reading h caller project branch x (CreateAccount name) a answer is = inl is
+base_done reading h caller project branch x (PutGroup group members) a answer is = inl is
+base_done reading h caller project branch x (PutProject named text) a answer is = inl is
+base_done reading h caller project branch x (CreateChange new) a answer is = inl is
+base_done reading h caller project branch x (OnChange m command) a answer is = inl is
+base_done reading h caller project branch x (Submit m) a answer is = inl is
+base_done reading h caller project branch x (CloseEpoch least) a answer is = inl is
+base_done reading h caller project branch x (RecordBase named in_branch commit) a answer is =
+    by (known_parts (is_base h project branch x) ((bytes_eq named project && bytes_eq in_branch branch) && bytes_eq commit x)
+    (sym (one_more_base (bytes_eq named project && bytes_eq in_branch branch) (bases h project branch) commit x) ∙ is))
+  where
+    by : (is_base h project branch x ≡ true) ⊎ (((bytes_eq named project && bytes_eq in_branch branch) && bytes_eq commit x) ≡ true) → BaseCame reading h (Some (RecordBase named in_branch commit)) project branch x
+    by (inl was) = inl was
+    by (inr now) =
+        let parts = and_parts (bytes_eq named project && bytes_eq in_branch branch) (bytes_eq commit x) now in
+        let places = and_parts (bytes_eq named project) (bytes_eq in_branch branch) parts.0 in
+        let one : named ≡ project = (bytes_eq-Decides named project).0 places.0 in
+        let two : in_branch ≡ branch = (bytes_eq-Decides in_branch branch).0 places.1 in
+        let three : commit ≡ x = (bytes_eq-Decides commit x).0 parts.1 in
+        let pass = all_pass ((is_account h caller, UnknownCaller) ∷ checks reading h caller (RecordBase named in_branch commit)) (done_passes reading h caller (RecordBase named in_branch commit) a answer) in
+        inr (refl, (λ i. is_known reading h (sym one i) (sym two i) (sym three i)) ∙ from_not (is_known reading h named in_branch commit) pass.1.1.1.0)
+
+-- of a command with its reply
+base_step : (reading : Reading) (h : List Entry) (caller : ℕ) (project branch x : List ℕ) (command : Command) (reply : Reply) → IsDoneBy reading h caller command reply →
+    list_any (λ base. bytes_eq base x) (with_base (if_done reply command) project branch (bases h project branch)) ≡ true → BaseCame reading h (if_done reply command) project branch x
+base_step reading h caller project branch x command (Done a) answer is = base_done reading h caller project branch x command a answer is
+base_step reading h caller project branch x command (Refused r) answer is = inl is
+base_step reading h caller project branch x command IdentityReused answer is = inl is
+base_step reading h caller project branch x command EpochClosed answer is = inl is
+base_step reading h caller project branch x command (NotTaken cause) answer is = inl is
+
+based_known : (a b : Bool) → (a || b) ≡ false → a ≡ true → ⊥
+based_known true b none is = absurd (cc)
+based_known false b none is = absurd (cc)
+
+not_both : (o : Option (ℕ × ℕ)) (x : ℕ × ℕ) → o ≡ None → o ≡ Some x → ⊥
+not_both None x none some = absurd (cc)
+not_both (Some y) x none some = absurd (cc)
+
+-- a base isn't the commit of a patch set
+pub base_not_sent : (reading : Reading) (h : List Entry) (project branch : List ℕ) (n k : ℕ) (p : PatchRow) → IsHistory h → Reads reading h → HasPatch project branch k p (change reading h n) →
+    is_base h project branch p.commit ≡ true → ⊥
+base_not_sent reading [] project branch n k p history reads has is = let bad : None ≡ Some has.of = has.is in absurd (cc)
+base_not_sent reading (e ∷ h) project branch n k p history reads has is =
+    by (λ was based. base_not_sent reading h project branch n k p history.3 reads.1 was based) (came reading e h project branch n k p history reads has)
+    (base_step reading h e.identity.caller project branch p.commit e.command e.reply (done_of e h history reading reads.1) is)
+  where
+    by : (HasPatch project branch k p (change reading h n) → is_base h project branch p.commit ≡ true → ⊥) → Came reading h (accepted e) project branch n k p →
+        BaseCame reading h (accepted e) project branch p.commit → ⊥
+    by before (inl was) (inl based) = before was based
+    by before (inl was) (inr recorded) = let bad : true ≡ false = sym (patch_known reading h project branch n k p was) ∙ recorded.1 in absurd (cc)
+    by before (inr now) (inl based) = based_known (is_base h project branch p.commit) (is_sent reading h project branch p.commit) now.unknown based
+    by before (inr now) (inr recorded) = not_both (place_sent reading h (accepted e)) (n, k) recorded.0 now.put
+
+-- the commit of a patch set is no base
+pub sent_no_base : (reading : Reading) (h : List Entry) (project branch : List ℕ) (n k : ℕ) (p : PatchRow) → IsHistory h → Reads reading h → HasPatch project branch k p (change reading h n) →
+    is_base h project branch p.commit ≡ false
+sent_no_base reading h project branch n k p history reads has =
+    ⊎_elim
+    (λ (t : is_base h project branch p.commit ≡ true). absurd (base_not_sent reading h project branch n k p history reads has t))
+    (λ (f : is_base h project branch p.commit ≡ false). f)
+    (cases_Bool (is_base h project branch p.commit))
+
+-- ==== what a patch set stands on is known in its branch
+
+-- What a patch set stands on is known in its branch: it was when the patch set was sent, and what is known stays so.
+pub parents_known : (reading : Reading) (h : List Entry) (project branch : List ℕ) (n k : ℕ) (p : PatchRow) → IsHistory h → Reads reading h → HasPatch project branch k p (change reading h n) →
+    is_known reading h project branch p.parent ≡ true
+parents_known reading [] project branch n k p history reads has = let bad : None ≡ Some has.of = has.is in absurd (cc)
+parents_known reading (e ∷ h) project branch n k p history reads has =
+    by (λ was. parents_known reading h project branch n k p history.3 reads.1 was) (came reading e h project branch n k p history reads has)
+  where
+    by : (HasPatch project branch k p (change reading h n) → is_known reading h project branch p.parent ≡ true) → Came reading h (accepted e) project branch n k p → is_known reading (e ∷ h) project branch p.parent ≡ true
+    by before (inl was) = known_stays reading e h project branch p.parent (before was)
+    by before (inr now) = known_stays reading e h project branch p.parent now.based
+
+-- ==== each change has a current patch set
+
+-- it has a first patch set
+abbrev pub HasFirst : Change → Type 0
+HasFirst c = (p : PatchRow) × (of_number c.patches 1 ≡ Some p)
+
+-- a new change has one
+made_first : (b : Bool) (new c : Change) (o : Option Change) → HasFirst new → ((x : Change) → o ≡ Some x → HasFirst x) → cond b (Some new) o ≡ Some c → HasFirst c
+made_first true new c o begins before is = let same : new ≡ c = cc in subst HasFirst same begins
+made_first false new c o begins before is = before c is
+
+-- it keeps it where something is asked of it
+asked_first : (b : Bool) (f : Change → Change) (c : Change) (o : Option Change) → ((x : Change) → HasFirst x → HasFirst (f x)) → ((x : Change) → o ≡ Some x → HasFirst x) → cond b (option_map f o) o ≡ Some c → HasFirst c
+asked_first true f c None keeps before is = absurd (cc)
+asked_first true f c (Some x) keeps before is = let same : f x ≡ c = cc in subst HasFirst same (keeps x (before x refl))
+asked_first false f c o keeps before is = before c is
+
+-- so a change after a command has one
+first_by : (reading : Reading) (h : List Entry) (caller n : ℕ) (o : Option Command) (c : Change) → ((x : Change) → change reading h n ≡ Some x → HasFirst x) →
+    change_by reading h caller o n (change reading h n) ≡ Some c → HasFirst c
+first_by reading h caller n None c before is = before c is
+first_by reading h caller n (Some (CreateAccount name)) c before is = before c is
+first_by reading h caller n (Some (PutGroup group members)) c before is = before c is
+first_by reading h caller n (Some (PutProject project text)) c before is = before c is
+first_by reading h caller n (Some (RecordBase project branch commit)) c before is = before c is
+first_by reading h caller n (Some (CloseEpoch epoch)) c before is = before c is
+first_by reading h caller n (Some (CreateChange new)) c before is =
+    made_first (change_count h + 1 == n) (begun new caller (length h + 1)) c (change reading h n) (_, refl) before is
+first_by reading h caller n (Some (OnChange m command)) c before is =
+    asked_first (m == n) (λ x. after (setting_of reading h x.project) command caller (length h + 1) x) c (change reading h n)
+    (λ x first. (first.0, patches_kept command caller x.patches 1 first.0 first.1)) before is
+first_by reading h caller n (Some (Submit m)) c before is = before c is
+
+-- every change has one
+has_first : (reading : Reading) (h : List Entry) (n : ℕ) (c : Change) → change reading h n ≡ Some c → HasFirst c
+has_first reading [] n c is = absurd (cc)
+has_first reading (e ∷ h) n c is =
+    joining_keeps HasFirst (λ place request x first. first) h (submitted (accepted e) e.reply) n (change_by reading h e.identity.caller (accepted e) n (change reading h n)) c
+    (λ x there. first_by reading h e.identity.caller n (accepted e) x (λ y was. has_first reading h n y was) there) is
+
+-- the current patch set of a change
+pub current_there : (reading : Reading) (h : List Entry) (n : ℕ) (c : Change) → change reading h n ≡ Some c → (p : PatchRow) × (current_patch c ≡ Some p)
+current_there reading h n c is = let first = has_first reading h n c is in last_of c.patches (number_within c.patches first.0 1 first.1)

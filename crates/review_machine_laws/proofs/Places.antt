@@ -1,11 +1,145 @@
--- Places in lists.
-use Rattle.std.proofs.Common.{◌≡◌, ℕ, zero, suc, ◌+◌, ◌==◌, List, [], ◌∷◌, ◌++◌, length, Option, Some, None, Bool, true, false, cond, ◌||◌, refl, sym, ap, subst, ◌∙◌, arith, eqb-true, eq-eqb}
-use Rattle.std.proofs.lemmas.List.Elements.{recursion_from_All}
+-- Lists: their items by number, by place, and in order.
+use Rattle.std.proofs.Common.{◌≡◌, ℕ, zero, suc, ◌+◌, ◌<◌, ◌≤◌, List, [], ◌∷◌, ◌++◌, length, Some, None, ◌⊎◌, inl, inr, ap, refl, arith, slice_get, sym, ◌∙◌, ⊎_elim, ◌==◌, Option, Bool, true, false, cond, ◌||◌, subst, eqb-true, eq-eqb, All, Contains, option_map}
+use Rattle.std.proofs.lemmas.{Bool.cases_lt, List.Elements.recursion_from_All}
 use Rattle.std.proofs.lemmas.Map.Keys.{IsDistinct-head, IsDistinct-tail, IsDistinct-cons}
-use Rattle.std.proofs.lemmas.Option.{slice_get-get_or, slice_get_within, get_or_from_slice_get}
-use Rattle.std.specs.List.{All, AllByRecursion, Contains, IsDistinct, list_any}
-use Rattle.std.specs.{Option.option_or, Prelude.option_map, Prelude.slice_get}
+use Rattle.std.proofs.lemmas.Option.{slice_get_past, slice_get_within, none-some, slice_get_cases, slice_get-get_or, get_or_from_slice_get}
+use Rattle.std.specs.{List.AllByRecursion, List.IsDistinct, List.list_any, Option.option_or}
+use Rattle.review_core_rules.specs.Change.{of_number}
 use Rattle.review_machine_rows.specs.Changes.{place_in}
+
+-- ==== items by their numbers, which are counted from 1
+
+get_appended : {X : Type 0} (xs : List X) (x y : X) (n : ℕ) → slice_get (xs ++ x ∷ []) n ≡ Some y → (slice_get xs n ≡ Some y) ⊎ ((n ≡ length xs) × (x ≡ y))
+get_appended [] x y zero is = let same : x ≡ y = cc in inr (refl, same)
+get_appended [] x y (suc n) is = absurd (cc)
+get_appended (z ∷ xs) x y zero is = inl is
+get_appended (z ∷ xs) x y (suc n) is = more (get_appended xs x y n is)
+  where
+    more : (slice_get xs n ≡ Some y) ⊎ ((n ≡ length xs) × (x ≡ y)) → (slice_get xs n ≡ Some y) ⊎ ((suc n ≡ suc (length xs)) × (x ≡ y))
+    more (inl was) = inl was
+    more (inr new) = inr (ap suc new.0, new.1)
+
+-- an item of a list with one more is one of the list, or that one
+pub appended : {X : Type 0} (xs : List X) (x y : X) (number : ℕ) → of_number (xs ++ x ∷ []) number ≡ Some y → (of_number xs number ≡ Some y) ⊎ ((number ≡ length xs + 1) × (x ≡ y))
+appended xs x y zero is = absurd (cc)
+appended xs x y (suc n) is = more (get_appended xs x y n is)
+  where
+    more : (slice_get xs n ≡ Some y) ⊎ ((n ≡ length xs) × (x ≡ y)) → (slice_get xs n ≡ Some y) ⊎ ((suc n ≡ length xs + 1) × (x ≡ y))
+    more (inl was) = inl was
+    more (inr new) = let last : suc n ≡ length xs + 1 = let e = new.0 in omega arith in inr (last, new.1)
+
+-- a list of one has just that one
+pub only : {X : Type 0} (x y : X) (number : ℕ) → of_number (x ∷ []) number ≡ Some y → (number ≡ 1) × (x ≡ y)
+only x y zero is = absurd (cc)
+only x y (suc zero) is = let same : x ≡ y = cc in (refl, same)
+only x y (suc (suc n)) is = absurd (cc)
+
+get_kept : {X : Type 0} (xs ys : List X) (y : X) (n : ℕ) → slice_get xs n ≡ Some y → slice_get (xs ++ ys) n ≡ Some y
+get_kept [] ys y n is = absurd (cc)
+get_kept (x ∷ xs) ys y zero is = is
+get_kept (x ∷ xs) ys y (suc n) is = get_kept xs ys y n is
+
+-- an item keeps its number where more come behind it
+pub kept : {X : Type 0} (xs ys : List X) (y : X) (number : ℕ) → of_number xs number ≡ Some y → of_number (xs ++ ys) number ≡ Some y
+kept xs ys y zero is = absurd (cc)
+kept xs ys y (suc n) is = get_kept xs ys y n is
+
+-- a number of an item is at most that of the last
+pub number_within : {X : Type 0} (xs : List X) (y : X) (number : ℕ) → of_number xs number ≡ Some y → number ≤ length xs
+number_within xs y zero is = absurd (cc)
+number_within xs y (suc n) is = let within = slice_get_within xs n y is in omega arith
+
+-- the last item, where there is one
+pub last_of : {X : Type 0} (xs : List X) → 1 ≤ length xs → (x : X) × (of_number xs (length xs) ≡ Some x)
+last_of [] some = absurd (omega arith)
+last_of (x ∷ xs) some = by x xs
+  where
+    by : {X : Type 0} (y : X) (ys : List X) → (z : X) × (slice_get (y ∷ ys) (length ys) ≡ Some z)
+    by y [] = (y, refl)
+    by y (z ∷ zs) = by z zs
+
+-- no item has a number past the last
+pub none_past : {X : Type 0} (xs : List X) (number : ℕ) → length xs < number → of_number xs number ≡ None
+none_past xs zero past = refl
+none_past xs (suc n) past = slice_get_past xs n (omega arith)
+
+-- ==== items by their numbers, which count from 1, and the last of them
+
+pub of_number_there : {X : Type 0} (xs : List X) (n : ℕ) → 1 ≤ n → n ≤ length xs → (x : X) × (of_number xs n ≡ Some x)
+of_number_there xs zero low high = absurd (omega arith)
+of_number_there xs (suc k) low high =
+    ⊎_elim (λ here. (here.0, here.2)) (λ past. let e : length xs ≤ k = past.0 in absurd (omega arith)) (slice_get_cases xs k).1
+
+pub of_number_past : {X : Type 0} (xs : List X) (n : ℕ) → length xs < n → of_number xs n ≡ None
+of_number_past xs zero past = refl
+of_number_past xs (suc k) past = slice_get_past xs k (omega arith)
+
+of_number_within : {X : Type 0} (xs : List X) (n : ℕ) (x : X) → of_number xs n ≡ Some x → n ≤ length xs
+of_number_within xs zero x is = omega arith
+of_number_within xs (suc k) x is = let e : k < length xs = slice_get_within xs k x is in omega arith
+
+-- the item after whose number none comes is the last
+pub last_number : {X : Type 0} (xs : List X) (n : ℕ) (x : X) → of_number xs n ≡ Some x → ((m : ℕ) → n < m → of_number xs m ≡ None) → of_number xs (length xs) ≡ Some x
+last_number xs n x is later =
+    let within : n ≤ length xs = of_number_within xs n x is in
+    ⊎_elim
+    (λ (lt : n < length xs).
+    let there = of_number_there xs (length xs) (omega arith) (omega arith) in
+    absurd (none-some there.0 (sym (later (length xs) lt) ∙ there.1)))
+    (λ (ge : length xs ≤ n). let same : length xs ≡ n = omega arith in ap (of_number xs) same ∙ is)
+    (cases_lt n (length xs))
+
+-- ==== lists of the same items in the same order
+
+-- Two lists have the same items, once each in the first and in its order in the second.
+pub record InOrder {X : Type 0} (ys js : List X) : Type 0 where
+  pub each : (k : ℕ) (x : X) → slice_get js k ≡ Some x → (p : ℕ) × (slice_get ys p ≡ Some x)
+  pub all : (p : ℕ) (x : X) → slice_get ys p ≡ Some x → (k : ℕ) × (slice_get js k ≡ Some x)
+  pub once : (p q : ℕ) (x : X) → slice_get ys p ≡ Some x → slice_get ys q ≡ Some x → p ≡ q
+  pub ordered : (k l p q : ℕ) (x z : X) → k < l → slice_get js k ≡ Some x → slice_get js l ≡ Some z → slice_get ys p ≡ Some x → slice_get ys q ≡ Some z → p < q
+
+-- they begin with the same item
+firsts : {X : Type 0} (y : X) (ys : List X) (j : X) (js : List X) → InOrder (y ∷ ys) (j ∷ js) → j ≡ y
+firsts y ys j js o = let at = o.all 0 y refl in by at.0 at.1
+  where
+    by : (k : ℕ) → slice_get (j ∷ js) k ≡ Some y → j ≡ y
+    by zero is = cc
+    by (suc k) is =
+        let first = o.each 0 j refl in
+        let before : first.0 < 0 = o.ordered 0 (suc k) first.0 0 j y (omega arith) refl is first.1 refl in
+        absurd (omega arith)
+
+-- and what follows it is in order too
+rests : {X : Type 0} (y : X) (ys : List X) (j : X) (js : List X) → InOrder (y ∷ ys) (j ∷ js) → InOrder ys js
+rests {X} y ys j js o = record {
+  each = λ k x is. let at = o.each (suc k) x is in each_later k x is at.0 at.1;
+  all = λ p x is. let at = o.all (suc p) x is in all_later p x is at.0 at.1;
+  once = λ p q x here there. let e : suc p ≡ suc q = o.once (suc p) (suc q) x here there in omega arith;
+  ordered = λ k l p q x z lt a b c d. let e : suc p < suc q = o.ordered (suc k) (suc l) (suc p) (suc q) x z (omega arith) a b c d in omega arith;
+}
+  where
+    begins : slice_get (y ∷ ys) 0 ≡ Some j
+    begins = ap Some (sym (firsts y ys j js o))
+
+    each_later : (k : ℕ) (x : X) → slice_get js k ≡ Some x → (p : ℕ) → slice_get (y ∷ ys) p ≡ Some x → (q : ℕ) × (slice_get ys q ≡ Some x)
+    each_later k x is zero at = let before : 0 < 0 = o.ordered 0 (suc k) 0 0 j x (omega arith) refl is begins at in absurd (omega arith)
+    each_later k x is (suc p) at = (p, at)
+
+    all_later : (p : ℕ) (x : X) → slice_get ys p ≡ Some x → (k : ℕ) → slice_get (j ∷ js) k ≡ Some x → (l : ℕ) × (slice_get js l ≡ Some x)
+    all_later p x is zero at = let twice : 0 ≡ suc p = o.once 0 (suc p) x (begins ∙ at) is in absurd (omega arith)
+    all_later p x is (suc k) at = (k, at)
+
+-- so they are the same
+pub same_order : {X : Type 0} (ys js : List X) → InOrder ys js → js ≡ ys
+same_order [] [] o = refl
+same_order [] (j ∷ js) o = let at = o.each 0 j refl in let e : None ≡ Some j = at.1 in absurd (cc)
+same_order (y ∷ ys) [] o = let at = o.all 0 y refl in let e : None ≡ Some y = at.1 in absurd (cc)
+same_order (y ∷ ys) (j ∷ js) o =
+    let first = firsts y ys j js o in
+    let rest = same_order ys js (rests y ys j js o) in
+    λ i. first i ∷ rest i
+
+-- ==== places in lists
 
 from_none : (o : Option ℕ) → o ≡ option_map (λ k. 0 + k) o
 from_none None = refl

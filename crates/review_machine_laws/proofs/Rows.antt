@@ -1,25 +1,186 @@
--- What the rows of changes tell of those that joined a branch.
-use Rattle.std.proofs.Common.{◌≡◌, ℕ, ◌+◌, ◌-◌, ◌<◌, ◌≤◌, List, [], length, Option, Some, None, Bool, true, false, refl, sym, ap, subst, ◌∙◌, ⊎_elim, arith}
-use Rattle.std.proofs.lemmas.{Bool.cases_lt, List.Elements.All-get_or}
+-- What the rows of changes tell.
+use Rattle.std.proofs.Common.{◌≡◌, ℕ, ◌+◌, ◌==◌, List, [], ◌∷◌, length, Option, Some, None, Bool, true, false, cond, refl, sym, ap, subst, ◌∙◌, eqb-true, option_map, ℤ, pos, suc, not, ⊎_elim, int_eq, slice_get, ◌-◌, ◌<◌, ◌≤◌, arith, AllPairs, map, slice_index_or}
+use Rattle.std.proofs.lemmas.{Bool.cases_Bool, Bool.cases_lt, Bool.Decides.Decides-int_eq, List.Elements.All-get_or}
 use Rattle.std.proofs.lemmas.Option.{get_or_from_slice_get, slice_get-get_or, slice_get-map, slice_get_within}
-use Rattle.std.specs.{List.AllPairs, Option.option_map_or}
-use Rattle.std.specs.Prelude.{map, option_map, slice_get, slice_index_or}
+use Rattle.std.specs.{List.AllByRecursion, Option.option_map_or}
 use Rattle.review_names.specs.Forms.{most_patches}
-use Rattle.review_words.specs.{History.Entry, declared.shown.JoinedChange.JoinedChange}
-use Rattle.review_core_rules.proofs.{Stays.begins, Stays.stays, Within.within_parts}
-use Rattle.review_core_rules.specs.Change.{Change, commit, current, of_number}
-use Rattle.review_core_rules.specs.Parts.{TheHeader, PatchOf, AHeader, APatch, header_of}
-use Rattle.review_core_rules.specs.declared.rows.{Header.Header, PatchRow.PatchRow}
-use Rattle.review_machine_rows.specs.Answer.{IsHistory}
-use Rattle.review_machine_rows.specs.Changes.{Reading, Reads, change, joined, place_in}
-use Rattle.review_machine_rows.specs.Known.{HaveJoined, IsAtPlace, IsBefore, IsCurrent, IsJoinedAt, IsLastJoined, part_of}
+use Rattle.review_words.specs.{History.Entry, History.accepted, History.if_done, declared.changes.NewChange.NewChange}
+use Rattle.review_words.specs.declared.{changes.Role.Role, command.ChangeCommand.ChangeCommand, command.Command.Command}
+use Rattle.review_words.specs.declared.command.Command.TheVariants.{CreateAccount, PutGroup, PutProject, RecordBase, CloseEpoch, CreateChange, OnChange, Submit}
+use Rattle.review_words.specs.declared.reply.{Answer.Answer, Reply.Reply}
+use Rattle.review_words.specs.declared.reply.Reply.TheVariants.{Done, Refused, IdentityReused, EpochClosed, NotTaken}
+use Rattle.review_words.specs.declared.shown.JoinedChange.{JoinedChange}
+use Rattle.review_core_rules.proofs.Stays.{begins, stays, within_parts}
+use Rattle.review_core_rules.specs.Change.{Change, after, begun, joined_at, commit, current, of_number}
+use Rattle.review_core_rules.specs.Parts.{Part, TheHeader, PatchOf, VoteOf, RoleOf, CommentOf, AttentionOf, PartRow, AHeader, APatch, AVote, ARole, AComment, AnAttentionEntry, header_of, part_row}
+use Rattle.review_core_rules.specs.{Votes.voted, declared.rows.AttentionEntry.AttentionEntry}
+use Rattle.review_core_rules.specs.declared.rows.{CommentRow.CommentRow, Header.Header, PatchRow.PatchRow}
+use Rattle.review_machine_rows.proofs.Readings.{IsDoneBy, done_of}
+use Rattle.review_machine_rows.specs.Answer.{IsAnswerBy, IsHistory, request_checks}
+use Rattle.review_machine_rows.specs.Changes.{Reading, Reads, change, change_by, change_count, setting_of, submitted, joined, place_in}
+use Rattle.review_machine_rows.specs.Known.{part_of, HaveJoined, IsAtPlace, IsBefore, IsCurrent, IsJoinedAt, IsLastJoined}
 use Rattle.review_machine_rows.specs.{Questions.joined_change, Rows.APart, Submits.is_merged, View.fact}
 use Rattle.review_machine_rows.specs.declared.rows.BranchKey.{BranchKey}
-use Rattle.review_machine_laws.proofs.Each.{unplaced}
-use Rattle.review_machine_laws.proofs.Joined.{has_place, joined_distinct, joined_placed, state_merged}
-use Rattle.review_machine_laws.proofs.Numbered.{last_number, of_number_past, of_number_there}
-use Rattle.review_machine_laws.proofs.{Order.same_order, Places.contained_get, Places.get_placed, Places.placed_get}
-use Rattle.review_machine_laws.proofs.SoundChanges.{are_sound}
+use Rattle.review_machine_laws.proofs.Changes.{joining_keeps, Passes, checks_pass, done_passes, are_sound}
+use Rattle.review_machine_laws.proofs.Joined.{has_place, joined_distinct, joined_placed, state_merged, merged_stays}
+use Rattle.review_machine_laws.proofs.Places.{last_number, of_number_past, of_number_there, same_order, contained_get, get_placed, placed_get}
+
+-- ==== what holds of every change of a history
+
+-- It holds of a new change, and stays where a change joins its branch, and where a request changes it whose checks pass.
+pub record Stays (P : Change → Type 0) (reading : Reading) : Type 0 where
+  pub begins : (new : NewChange) (caller request : ℕ) → P (begun new caller request)
+  pub joins : (place request : ℕ) (c : Change) → P c → P (joined_at place request c)
+  pub stays : (h : List Entry) (caller : ℕ) (command : ChangeCommand) (c : Change) → AllByRecursion Passes (request_checks reading h caller command c) → P c →
+      P (after (setting_of reading h c.project) command caller (length h + 1) c)
+
+named_holds : (P : Change → Type 0) (b : Bool) (o : Option Change) (f : Change → Change) (c : Change) → ((x : Change) → o ≡ Some x → P x) → (b ≡ true → (x : Change) → o ≡ Some x → P x → P (f x)) →
+    cond b (option_map f o) o ≡ Some c → P c
+named_holds P true None f c before then is = absurd (cc)
+named_holds P true (Some x) f c before then is = let same : f x ≡ c = cc in subst P same (then refl x refl (before x refl))
+named_holds P false o f c before then is = before c is
+
+made_holds : (P : Change → Type 0) (b : Bool) (o : Option Change) (new c : Change) → ((x : Change) → o ≡ Some x → P x) → P new → cond b (Some new) o ≡ Some c → P c
+made_holds P true o new c before begins is = let same : new ≡ c = cc in subst P same begins
+made_holds P false o new c before begins is = before c is
+
+done_holds : (P : Change → Type 0) (reading : Reading) → Stays P reading → (h : List Entry) (caller n : ℕ) (c : Change) (command : Command) (a : Answer) → IsAnswerBy reading h caller command (Done a) →
+    ((x : Change) → change reading h n ≡ Some x → P x) → change_by reading h caller (Some command) n (change reading h n) ≡ Some c → P c
+done_holds P reading s h caller n c (CreateAccount name) a answer before is = before c is
+done_holds P reading s h caller n c (PutGroup group members) a answer before is = before c is
+done_holds P reading s h caller n c (PutProject project text) a answer before is = before c is
+done_holds P reading s h caller n c (RecordBase project branch commit) a answer before is = before c is
+done_holds P reading s h caller n c (CloseEpoch epoch) a answer before is = before c is
+done_holds P reading s h caller n c (CreateChange new) a answer before is =
+    made_holds P (change_count h + 1 == n) (change reading h n) (begun new caller (length h + 1)) c before (s.begins new caller (length h + 1)) is
+done_holds P reading s h caller n c (OnChange m command) a answer before is =
+    named_holds P (m == n) (change reading h n) (λ x. after (setting_of reading h x.project) command caller (length h + 1) x) c before
+    (λ same x there holds.
+    let pass = checks_pass reading h caller (request_checks reading h caller command) (change reading h m) x (ap (change reading h) (eqb-true m n same) ∙ there) (done_passes reading h caller (OnChange m command) a answer) in
+    s.stays h caller command x pass holds)
+    is
+done_holds P reading s h caller n c (Submit m) a answer before is = before c is
+
+step_holds : (P : Change → Type 0) (reading : Reading) → Stays P reading → (h : List Entry) (caller n : ℕ) (c : Change) (command : Command) (reply : Reply) → IsDoneBy reading h caller command reply →
+    ((x : Change) → change reading h n ≡ Some x → P x) → change_by reading h caller (if_done reply command) n (change reading h n) ≡ Some c → P c
+step_holds P reading s h caller n c command (Done a) answer before is = done_holds P reading s h caller n c command a answer before is
+step_holds P reading s h caller n c command (Refused r) answer before is = before c is
+step_holds P reading s h caller n c command IdentityReused answer before is = before c is
+step_holds P reading s h caller n c command EpochClosed answer before is = before c is
+step_holds P reading s h caller n c command (NotTaken cause) answer before is = before c is
+
+-- what stays holds of every change of a history
+pub of_each : (P : Change → Type 0) (reading : Reading) → Stays P reading → (h : List Entry) (n : ℕ) (c : Change) → IsHistory h → Reads reading h → change reading h n ≡ Some c → P c
+of_each P reading s [] n c history reads is = absurd (cc)
+of_each P reading s (e ∷ h) n c history reads is =
+    joining_keeps P s.joins h (submitted (accepted e) e.reply) n (change_by reading h e.identity.caller (accepted e) n (change reading h n)) c
+    (λ x there. step_holds P reading s h e.identity.caller n x e.command e.reply (done_of e h history reading reads.1) (λ y was. of_each P reading s h n y history.3 reads.1 was) there) is
+
+-- a change that is not merged is at place 0
+abbrev IsUnplaced : Change → Type 0
+IsUnplaced c = is_merged c.state ≡ false → c.place ≡ 0
+
+pub unplaced : (reading : Reading) (h : List Entry) (n : ℕ) (c : Change) → IsHistory h → Reads reading h → change reading h n ≡ Some c → is_merged c.state ≡ false → c.place ≡ 0
+unplaced reading h n c history reads is =
+    of_each IsUnplaced reading
+    (record {
+      begins = λ new caller request free. refl;
+      joins = λ place request x holds free. absurd (let e : true ≡ false = free in cc);
+      stays = λ k caller command x pass holds free. holds (sym (merged_stays reading k caller command x pass) ∙ free);
+    })
+    h n c history reads is
+
+-- ==== the rows of a change tell the change
+
+unmap : {X Y : Type 0} (f : X → Y) → ((x y : X) → f x ≡ f y → x ≡ y) → (a b : Option X) → option_map f a ≡ option_map f b → a ≡ b
+unmap f tells None None e = refl
+unmap f tells None (Some y) e = absurd (cc)
+unmap f tells (Some x) None e = absurd (cc)
+unmap f tells (Some x) (Some y) e = let same : f x ≡ f y = cc in ap Some (tells x y same)
+
+-- lists with the same at each number are the same
+same_lists : {X : Type 0} (xs ys : List X) → ((n : ℕ) → slice_get xs n ≡ slice_get ys n) → xs ≡ ys
+same_lists [] [] same = refl
+same_lists [] (y ∷ ys) same = let e : None ≡ Some y = same 0 in absurd (cc)
+same_lists (x ∷ xs) [] same = let e : Some x ≡ None = same 0 in absurd (cc)
+same_lists (x ∷ xs) (y ∷ ys) same =
+    let e : Some x ≡ Some y = same 0 in
+    let first : x ≡ y = cc in
+    let rest = same_lists xs ys (λ n. same (suc n)) in
+    λ i. first i ∷ rest i
+
+not_voted : (v : ℤ) → voted v ≡ false → v ≡ pos 0
+not_voted v none = (Decides-int_eq v (pos 0)).0 (from_not (int_eq v (pos 0)) none)
+  where
+    from_not : (b : Bool) → not b ≡ false → b ≡ true
+    from_not true e = refl
+    from_not false e = absurd (cc)
+
+same_votes : (v w : ℤ) → cond (voted v) (Some (AVote v)) None ≡ cond (voted w) (Some (AVote w)) None → v ≡ w
+same_votes v w e =
+    ⊎_elim
+    (λ (a : voted v ≡ true). ⊎_elim
+    (λ (b : voted w ≡ true).
+    let is : Some (AVote v) ≡ Some (AVote w) = sym (ap (λ t. cond t (Some (AVote v)) None) a) ∙ (e ∙ ap (λ t. cond t (Some (AVote w)) None) b) in
+    let same : v ≡ w = cc in same)
+    (λ (b : voted w ≡ false).
+    let is : Some (AVote v) ≡ None = sym (ap (λ t. cond t (Some (AVote v)) None) a) ∙ (e ∙ ap (λ t. cond t (Some (AVote w)) None) b) in absurd (cc))
+    (cases_Bool (voted w)))
+    (λ (a : voted v ≡ false). ⊎_elim
+    (λ (b : voted w ≡ true).
+    let is : None ≡ Some (AVote w) = sym (ap (λ t. cond t (Some (AVote v)) None) a) ∙ (e ∙ ap (λ t. cond t (Some (AVote w)) None) b) in absurd (cc))
+    (λ (b : voted w ≡ false). not_voted v a ∙ sym (not_voted w b))
+    (cases_Bool (voted w)))
+    (cases_Bool (voted v))
+
+tells_patch : (x y : PatchRow) → APatch x ≡ APatch y → x ≡ y
+tells_patch x y e = cc
+
+tells_role : (x y : Role) → ARole x ≡ ARole y → x ≡ y
+tells_role x y e = cc
+
+tells_comment : (x y : CommentRow) → AComment x ≡ AComment y → x ≡ y
+tells_comment x y e = cc
+
+tells_attention_entry : (x y : AttentionEntry) → AnAttentionEntry x ≡ AnAttentionEntry y → x ≡ y
+tells_attention_entry x y e = cc
+
+tells_part : (x y : PartRow) → APart x ≡ APart y → x ≡ y
+tells_part x y e = cc
+
+same_changes : (c d : Change) → ((part : Part) → part_row c part ≡ part_row d part) → c ≡ d
+same_changes c d same =
+    let e : Some (AHeader (header_of c)) ≡ Some (AHeader (header_of d)) = same TheHeader in
+    let header : header_of c ≡ header_of d = cc in
+    let patches : c.patches ≡ d.patches = same_lists c.patches d.patches (λ n. unmap APatch tells_patch (slice_get c.patches n) (slice_get d.patches n) (same (PatchOf (suc n)))) in
+    let comments : c.comments ≡ d.comments = same_lists c.comments d.comments (λ n. unmap AComment tells_comment (slice_get c.comments n) (slice_get d.comments n) (same (CommentOf (suc n)))) in
+    λ i. record {
+      project = (header i).project;
+      branch = (header i).branch;
+      subject = (header i).subject;
+      owner = (header i).owner;
+      state = (header i).state;
+      wip = (header i).wip;
+      place = (header i).place;
+      updated = (header i).updated;
+      patches = patches i;
+      vote = λ n l a. same_votes (c.vote n l a) (d.vote n l a) (same (VoteOf n l a)) i;
+      role = λ u. unmap ARole tells_role (c.role u) (d.role u) (same (RoleOf u)) i;
+      comments = comments i;
+      attention = λ u. unmap AnAttentionEntry tells_attention_entry (c.attention u) (d.attention u) (same (AttentionOf u)) i;
+    }
+
+same_parts : (a b : Option Change) → ((part : Part) → part_of a part ≡ part_of b part) → a ≡ b
+same_parts None None same = refl
+same_parts None (Some d) same = let e : None ≡ Some (AHeader (header_of d)) = same TheHeader in absurd (cc)
+same_parts (Some c) None same = let e : Some (AHeader (header_of c)) ≡ None = same TheHeader in absurd (cc)
+same_parts (Some c) (Some d) same = ap Some (same_changes c d same)
+
+-- where the rows are those of a change, it is that change
+pub rows_tell : (a b : Option Change) → ((part : Part) → option_map APart (part_of a part) ≡ option_map APart (part_of b part)) → a ≡ b
+rows_tell a b same = same_parts a b (λ part. unmap APart tells_part (part_of a part) (part_of b part) (same part))
+
+-- ==== what the rows of changes tell of those that joined a branch
 
 -- ---- places
 

@@ -1,21 +1,348 @@
--- What rows that agree with a history know of a branch.
-use Rattle.std.proofs.Common.{◌≡◌, ℕ, List, [], ◌∷◌, length, Option, Some, None, true, refl, sym, ap, subst, ◌∙◌, ◌⊎◌, inl, inr}
-use Rattle.std.proofs.lemmas.{Bool.and_from, Slice.Eq.bytes_eq-Decides}
-use Rattle.std.specs.{Prelude.IsSome, Prelude.option_and_then, Str.bytes_eq}
-use Rattle.review_words.specs.History.{Entry}
-use Rattle.review_chain.{proofs.Wanting.Says, proofs.Wanting.wanted_says, specs.Branches.Branch}
+-- What rows show of a branch.
+use Rattle.std.proofs.Common.{◌≡◌, ℕ, zero, suc, ◌<◌, ◌≤◌, List, [], ◌∷◌, length, Option, Some, None, true, false, cond, ◌&&◌, ◌||◌, refl, sym, ap, ◌∙◌, ⊎_elim, ◌⊎◌, inl, inr, arith, option_map, bytes_eq, ◌≢◌, Bool, subst, IsSome, is_some, option_and_then}
+use Rattle.std.proofs.lemmas.{Bool.cases_Bool, Bool.and_parts, Bool.and_from, Bool.cases_lt, Slice.Eq.bytes_eq-Decides}
+use Rattle.std.specs.{List.list_any, Option.option_map_or}
+use Rattle.review_words.specs.History.{Entry, bases, is_base}
+use Rattle.review_words.specs.declared.shown.State.{State, TheVariants.New, TheVariants.Merged, TheVariants.Abandoned}
+use Rattle.review_chain.{proofs.Parting.Says, proofs.Parting.wanted_says, specs.Branches.IsWhole, specs.Branches.Branch}
 use Rattle.review_chain.specs.Parts.{IsPart, IsWanted, NeedsChange, Want as ChainWant, TheChange, TheCommit}
-use Rattle.review_chain.specs.{Steps.wanted, Walks.IsWalk, Walks.first_of, declared.links.Link.Link}
-use Rattle.review_chain.specs.declared.links.Standing.{Standing, TheVariants.InBranch, TheVariants.PatchSet}
-use Rattle.review_core_rules.specs.Change.{Change}
+use Rattle.review_chain.specs.{Steps.wanted, Walks.IsWalk, Walks.first_of}
+use Rattle.review_chain.specs.declared.links.{Link.Link, Standing.Standing}
+use Rattle.review_chain.specs.declared.links.Standing.TheVariants.{InBranch, PatchSet, Nowhere}
+use Rattle.review_core_rules.specs.Change.{Change, commit, current_patch, of_number, current}
+use Rattle.review_core_rules.specs.Parts.{TheHeader, PatchOf, AHeader, APatch, header_of}
+use Rattle.review_core_rules.specs.declared.rows.{Header.Header, PatchRow.PatchRow}
 use Rattle.review_machine_rows.{proofs.Asked.commit_known, proofs.Asked.found_of, specs.Answer.IsHistory}
-use Rattle.review_machine_rows.specs.Changes.{Reading, Reads, change, is_for}
-use Rattle.review_machine_rows.specs.Known.{Agrees, Found, IsKnown, change_in, known, standing_of as standing_in}
-use Rattle.review_machine_rows.specs.{Links.link_for, Links.links_in, Steps.look_up}
-use Rattle.review_machine_rows.specs.{Submits.branch_after, Submits.standing_of, View.view, declared.rows.Rows.Rows}
-use Rattle.review_machine_laws.proofs.{Same.rows_tell, StandingShown.base_of, StandingShown.one_standing}
-use Rattle.review_machine_laws.proofs.Whole.{has_link, whole}
+use Rattle.review_machine_rows.specs.Changes.{Reading, Reads, change, change_count, is_for, some_change, is_known, is_sent}
+use Rattle.review_machine_rows.specs.Known.{IsCurrent, IsInBranch, IsMergedWith, IsSender, IsSentBy, StandsAs, at_place, part_of, Agrees, Found, IsKnown, change_in, known, standing_of as standing_in}
+use Rattle.review_machine_rows.specs.Links.{link_for, link_of, links_in}
+use Rattle.review_machine_rows.specs.{Rows.APart, Rows.BaseRow, Rows.PartKey, Steps.look_up}
+use Rattle.review_machine_rows.specs.Submits.{is_in_branch, is_merged, is_merged_commit, sent_up_to, standing_of, branch_after}
+use Rattle.review_machine_rows.specs.{View.fact, View.view, declared.rows.Base.Base, declared.rows.Rows.Rows}
+use Rattle.review_machine_laws.proofs.Changes.{one_passing, or_true, some_passes, within_count}
+use Rattle.review_machine_laws.proofs.Patches.{commits_apart, current_there, parents_known, known_parts, IsSent, sent_patch}
+use Rattle.review_machine_laws.proofs.Places.{last_of, none_past, number_within}
+use Rattle.review_machine_laws.proofs.{Rows.rows_tell, Sent.FoundUpTo, Sent.found_up_to, Sent.same_change}
+use Rattle.review_machine_laws.specs.Patches.{HasPatch}
 use Rattle.review_machine_rows.specs.declared.rows.Want.TheVariants as want
+
+-- ==== what a commit is to a branch, as rows show it
+
+-- a commit of a branch
+abbrev pub base_of : List ℕ → List ℕ → List ℕ → Base
+base_of project branch x = record { project = project; branch = branch; commit = x }
+
+-- ---- the rows of a change
+
+-- what stands at the keys of a change
+header_from : (o : Option Change) (header : Header) → option_map APart (part_of o TheHeader) ≡ Some (APart (AHeader header)) → (c : Change) × (o ≡ Some c) × (header_of c ≡ header)
+header_from None header e = absurd (cc)
+header_from (Some c) header e = let same : header_of c ≡ header = cc in (c, refl, same)
+
+patch_from : (o : Option PatchRow) (p : PatchRow) → option_map APart (option_map APatch o) ≡ Some (APart (APatch p)) → o ≡ Some p
+patch_from None p e = absurd (cc)
+patch_from (Some x) p e = let same : x ≡ p = cc in ap Some same
+
+none_from : (o : Option PatchRow) → option_map APart (option_map APatch o) ≡ None → o ≡ None
+none_from None e = refl
+none_from (Some x) e = absurd (cc)
+
+-- a change is for the branch that its header names
+for_it : (project branch : List ℕ) (c : Change) (header : Header) → header_of c ≡ header → header.project ≡ project → header.branch ≡ branch → is_for project branch c ≡ true
+for_it project branch c header same one two =
+    and_from (bytes_eq c.project project) (bytes_eq c.branch branch) ((bytes_eq-Decides c.project project).1 (ap (λ (x : Header). x.project) same ∙ one))
+    ((bytes_eq-Decides c.branch branch).1 (ap (λ (x : Header). x.branch) same ∙ two))
+
+-- who sent a commit, by rows, has the patch set
+sender_has : (reading : Reading) (h : List Entry) (project branch x : List ℕ) (n : ℕ) (s : IsSender (fact reading h) (base_of project branch x) n) → HasPatch project branch s.number s.patch (change reading h n)
+sender_has reading h project branch x n s =
+    let head = header_from (change reading h n) s.header s.stands in
+    record {
+      of = head.0;
+      is = head.1;
+      is_for_it = for_it project branch head.0 s.header head.2 s.project s.branch;
+      sent = patch_from (of_number head.0.patches s.number) s.patch (ap (λ o. option_map APart (part_of o (PatchOf s.number))) (sym head.1) ∙ s.sent);
+    }
+
+-- and who has the patch set sent its commit
+has_sender : (reading : Reading) (h : List Entry) (project branch x : List ℕ) (n k : ℕ) (p : PatchRow) → HasPatch project branch k p (change reading h n) → p.commit ≡ x →
+    IsSender (fact reading h) (base_of project branch x) n
+has_sender reading h project branch x n k p has same =
+    let places = and_parts (bytes_eq has.of.project project) (bytes_eq has.of.branch branch) has.is_for_it in
+    record {
+      header = header_of has.of;
+      stands = ap (λ o. option_map APart (part_of o TheHeader)) has.is;
+      project = (bytes_eq-Decides has.of.project project).0 places.0;
+      branch = (bytes_eq-Decides has.of.branch branch).0 places.1;
+      number = k;
+      patch = p;
+      sent = ap (λ o. option_map APart (part_of o (PatchOf k))) has.is ∙ ap (λ o. option_map APart (option_map APatch o)) has.sent;
+      commit = same;
+    }
+
+-- ---- the current patch set
+
+-- the current patch set of a change, by rows, is its last
+current_is : (reading : Reading) (h : List Entry) (n : ℕ) (c : Change) (p : PatchRow) → change reading h n ≡ Some c → IsCurrent (fact reading h) n p → current_patch c ≡ Some p
+current_is reading h n c p is last =
+    let sent = patch_from (of_number c.patches last.number) p (row last.number ∙ last.sent) in
+    ⊎_elim
+    (λ (lt : last.number < length c.patches).
+    let none = none_from (of_number c.patches (length c.patches)) (row (length c.patches) ∙ last.later (length c.patches) lt) in
+    let some = last_of c.patches (omega arith) in
+    let bad : None ≡ Some some.0 = sym none ∙ some.1 in absurd (cc))
+    (λ (ge : length c.patches ≤ last.number).
+    let within = number_within c.patches p last.number sent in
+    let same : length c.patches ≡ last.number = omega arith in
+    ap (of_number c.patches) same ∙ sent)
+    (cases_lt last.number (length c.patches))
+  where
+    row : (m : ℕ) → option_map APart (option_map APatch (of_number c.patches m)) ≡ fact reading h (PartKey n (PatchOf m))
+    row m = ap (λ o. option_map APart (part_of o (PatchOf m))) (sym is)
+
+-- and the last is current
+is_current : (reading : Reading) (h : List Entry) (n : ℕ) (c : Change) (p : PatchRow) → change reading h n ≡ Some c → current_patch c ≡ Some p → IsCurrent (fact reading h) n p
+is_current reading h n c p is last = record {
+  number = length c.patches;
+  sent = row (length c.patches) ∙ ap (λ o. option_map APart (option_map APatch o)) last;
+  later = λ m past. row m ∙ ap (λ o. option_map APart (option_map APatch o)) (none_past c.patches m past);
+}
+  where
+    row : (m : ℕ) → fact reading h (PartKey n (PatchOf m)) ≡ option_map APart (option_map APatch (of_number c.patches m))
+    row m = ap (λ o. option_map APart (part_of o (PatchOf m))) is
+
+-- ---- the commits in a branch
+
+merged_is : (s : State) → is_merged s ≡ true → s ≡ Merged
+merged_is New e = absurd (cc)
+merged_is Merged e = refl
+merged_is Abandoned e = absurd (cc)
+
+-- a commit stands at a place just where it is in the list
+listed_at : (bs : List (List ℕ)) (x : List ℕ) (n : ℕ) → at_place bs n ≡ Some x → list_any (λ b. bytes_eq b x) bs ≡ true
+listed_at [] x n e = absurd (cc)
+listed_at (b ∷ bs) x zero e = absurd (cc)
+listed_at (b ∷ bs) x (suc zero) e = let same : b ≡ x = cc in ap (λ t. t || list_any (λ c. bytes_eq c x) bs) ((bytes_eq-Decides b x).1 same)
+listed_at (b ∷ bs) x (suc (suc n)) e = ap (λ t. bytes_eq b x || t) (listed_at bs x (suc n) e) ∙ or_true (bytes_eq b x)
+
+-- what is in the list stands at a place
+placed_at : (bs : List (List ℕ)) (x : List ℕ) → list_any (λ b. bytes_eq b x) bs ≡ true → (n : ℕ) × (at_place bs (suc n) ≡ Some x)
+placed_at [] x e = absurd (cc)
+placed_at (b ∷ bs) x e =
+    ⊎_elim
+    (λ (t : bytes_eq b x ≡ true). (0, ap Some ((bytes_eq-Decides b x).0 t)))
+    (λ (f : bytes_eq b x ≡ false). let r = placed_at bs x (sym (ap (λ t. t || list_any (λ c. bytes_eq c x) bs) f) ∙ e) in (suc r.0, r.1))
+    (cases_Bool (bytes_eq b x))
+
+based_from : (o : Option (List ℕ)) (x : List ℕ) → option_map BaseRow o ≡ Some (BaseRow x) → o ≡ Some x
+based_from None x e = absurd (cc)
+based_from (Some c) x e = let same : c ≡ x = cc in ap Some same
+
+-- a change that rows show merged with a commit has it as its current one
+merged_with : (reading : Reading) (h : List Entry) (project branch x : List ℕ) (n : ℕ) → IsMergedWith (fact reading h) (base_of project branch x) n →
+    (c : Change) × (change reading h n ≡ Some c) × (is_merged_commit project branch x c ≡ true)
+merged_with reading h project branch x n m =
+    let head = header_from (change reading h n) m.header m.stands in
+    let last = current_is reading h n head.0 m.patch head.1 m.current in (
+      head.0,
+      head.1,
+      and_from (is_for project branch head.0) (is_merged head.0.state && bytes_eq (commit head.0) x) (for_it project branch head.0 m.header head.2 m.project m.branch)
+          (and_from (is_merged head.0.state) (bytes_eq (commit head.0) x) (ap is_merged (ap (λ (y : Header). y.state) head.2 ∙ m.merged))
+          ((bytes_eq-Decides (commit head.0) x).1 (ap (λ o. option_map_or (λ (p : PatchRow). p.commit) o []) last ∙ m.commit))),
+    )
+
+-- what rows show in a branch is in it
+pub in_branch_is : (reading : Reading) (h : List Entry) (project branch x : List ℕ) → IsInBranch (fact reading h) (base_of project branch x) → is_in_branch reading h project branch x ≡ true
+in_branch_is reading h project branch x (inl based) =
+    ap (λ b. b || some_change reading h (is_merged_commit project branch x) (change_count h)) (listed_at (bases h project branch) x based.0 (based_from (at_place (bases h project branch) based.0) x based.1))
+in_branch_is reading h project branch x (inr merged) =
+    let m = merged_with reading h project branch x merged.0 merged.1 in
+    ap (λ b. is_base h project branch x || b) (some_passes reading h (is_merged_commit project branch x) merged.0 m.0 m.1 m.2) ∙ or_true (is_base h project branch x)
+
+-- and the other way round
+with_merged : (reading : Reading) (h : List Entry) (project branch x : List ℕ) (n : ℕ) (c : Change) → change reading h n ≡ Some c → is_merged_commit project branch x c ≡ true →
+    IsMergedWith (fact reading h) (base_of project branch x) n
+with_merged reading h project branch x n c is merged =
+    let parts = and_parts (is_for project branch c) (is_merged c.state && bytes_eq (commit c) x) merged in
+    let places = and_parts (bytes_eq c.project project) (bytes_eq c.branch branch) parts.0 in
+    let joined = and_parts (is_merged c.state) (bytes_eq (commit c) x) parts.1 in
+    let last = current_there reading h n c is in
+    record {
+      header = header_of c;
+      stands = ap (λ o. option_map APart (part_of o TheHeader)) is;
+      project = (bytes_eq-Decides c.project project).0 places.0;
+      branch = (bytes_eq-Decides c.branch branch).0 places.1;
+      merged = merged_is c.state joined.0;
+      patch = last.0;
+      current = is_current reading h n c last.0 is last.1;
+      commit = ap (λ o. option_map_or (λ (p : PatchRow). p.commit) o []) (sym last.1) ∙ (bytes_eq-Decides (commit c) x).0 joined.1;
+    }
+
+-- what is in a branch rows show in it
+pub is_in_shown : (reading : Reading) (h : List Entry) (project branch x : List ℕ) → is_in_branch reading h project branch x ≡ true → IsInBranch (fact reading h) (base_of project branch x)
+is_in_shown reading h project branch x is = by (known_parts (is_base h project branch x) (some_change reading h (is_merged_commit project branch x) (change_count h)) is)
+  where
+    by : (is_base h project branch x ≡ true) ⊎ (some_change reading h (is_merged_commit project branch x) (change_count h) ≡ true) → IsInBranch (fact reading h) (base_of project branch x)
+    by (inl based) = let r = placed_at (bases h project branch) x based in inl (suc r.0, ap (option_map BaseRow) r.1)
+    by (inr merged) = let r = one_passing reading h (is_merged_commit project branch x) (change_count h) merged in inr (r.0, with_merged reading h project branch x r.0 r.1 r.2 r.3)
+
+-- ---- one standing
+
+-- what rows don't show in a branch isn't in it
+not_in : (reading : Reading) (h : List Entry) (project branch x : List ℕ) → (IsInBranch (fact reading h) (base_of project branch x) → ⊥) → is_in_branch reading h project branch x ≡ false
+not_in reading h project branch x none =
+    ⊎_elim
+    (λ (t : is_in_branch reading h project branch x ≡ true). absurd (none (is_in_shown reading h project branch x t)))
+    (λ (f : is_in_branch reading h project branch x ≡ false). f)
+    (cases_Bool (is_in_branch reading h project branch x))
+
+-- what a commit that is in no branch is to it
+abbrev pub sent_as : Reading → List Entry → List ℕ → List ℕ → List ℕ → Standing
+sent_as reading h project branch x = sent_up_to reading h project branch x (change_count h)
+
+-- a commit that isn't in a branch stands as it was sent
+pub not_in_stands : (reading : Reading) (h : List Entry) (project branch x : List ℕ) → is_in_branch reading h project branch x ≡ false → standing_of reading h project branch x ≡ sent_as reading h project branch x
+not_in_stands reading h project branch x none = ap (λ b. cond b InBranch (sent_as reading h project branch x)) none
+
+-- the patch set that has the commit is the one that is found
+pub found_one : (reading : Reading) (h : List Entry) (project branch x : List ℕ) (n k : ℕ) (p : PatchRow) → IsHistory h → Reads reading h → HasPatch project branch k p (change reading h n) → p.commit ≡ x →
+    PatchSet n k ≡ sent_as reading h project branch x
+found_one reading h project branch x n k p history reads has same = by (sent_as reading h project branch x) (found_up_to reading h project branch x (change_count h))
+  where
+    by : (s : Standing) → FoundUpTo reading h project branch x (change_count h) s → PatchSet n k ≡ s
+    by InBranch found = absurd found
+    by (PatchSet m j) found =
+        let one = commits_apart reading h project branch n k m j p found.0 history reads has found.1 (same ∙ sym found.2) in
+        λ i. PatchSet (one.0 i) (one.1 i)
+    by Nowhere none = let range = within_count reading h n has.of has.is in absurd (none n k p range.0 range.1 has same)
+
+-- where rows show that none sent a commit, none is found
+none_found : (reading : Reading) (h : List Entry) (project branch x : List ℕ) → IsSentBy (fact reading h) (base_of project branch x) None → Nowhere ≡ sent_as reading h project branch x
+none_found reading h project branch x none = by (sent_as reading h project branch x) (found_up_to reading h project branch x (change_count h))
+  where
+    by : (s : Standing) → FoundUpTo reading h project branch x (change_count h) s → Nowhere ≡ s
+    by InBranch found = absurd found
+    by (PatchSet m j) found = absurd (none m (has_sender reading h project branch x m j found.0 found.1 found.2))
+    by Nowhere found = refl
+
+-- A commit is to a branch what rows show, and nothing else.
+pub one_standing : (reading : Reading) (h : List Entry) (project branch x : List ℕ) (s : Standing) → IsHistory h → Reads reading h → StandsAs (fact reading h) (base_of project branch x) s →
+    s ≡ standing_of reading h project branch x
+one_standing reading h project branch x InBranch history reads there = ap (λ b. cond b InBranch (sent_as reading h project branch x)) (sym (in_branch_is reading h project branch x there))
+one_standing reading h project branch x (PatchSet n k) history reads there =
+    (λ i. PatchSet n (sym there.2 i))
+    ∙ (found_one reading h project branch x n there.1.number there.1.patch history reads (sender_has reading h project branch x n there.1) there.1.commit
+    ∙ sym (not_in_stands reading h project branch x (not_in reading h project branch x there.0)))
+one_standing reading h project branch x Nowhere history reads there =
+    none_found reading h project branch x there.1 ∙ sym (not_in_stands reading h project branch x (not_in reading h project branch x there.0))
+
+-- ==== the branch that a history leaves is whole
+
+-- ---- links
+
+-- a link is that of a change for the branch, by its current patch set
+pub record IsLinkOf (project branch : List ℕ) (o : Option Change) (l : Link) : Type 0 where
+  pub of : Change
+  pub is : o ≡ Some of
+  pub is_for_it : is_for project branch of ≡ true
+  pub patch : PatchRow
+  pub last : current_patch of ≡ Some patch
+  pub link_is : l ≡ record { patch = current of; parent = patch.parent; state = of.state; wip = of.wip }
+
+-- the link of a change for the branch is by its current patch set
+link_from : (project branch : List ℕ) (c : Change) (o : Option PatchRow) (l : Link) → is_for project branch c ≡ true → current_patch c ≡ o →
+    option_map (λ p. record { patch = current c; parent = p.parent; state = c.state; wip = c.wip }) o ≡ Some l → IsLinkOf project branch (Some c) l
+link_from project branch c None l for last is = absurd (cc)
+link_from project branch c (Some p) l for last is =
+    let same : record { patch = current c; parent = p.parent; state = c.state; wip = c.wip } ≡ l = cc in
+    record { of = c; is = refl; is_for_it = for; patch = p; last = last; link_is = sym same }
+
+-- what a link is of
+pub linked : (project branch : List ℕ) (o : Option Change) (l : Link) → link_for project branch o ≡ Some l → IsLinkOf project branch o l
+linked project branch None l is = absurd (cc)
+linked project branch (Some c) l is = by (is_for project branch c) refl is
+  where
+    by : (b : Bool) → is_for project branch c ≡ b → cond b (link_of c) None ≡ Some l → IsLinkOf project branch (Some c) l
+    by true for is = link_from project branch c (current_patch c) l for refl is
+    by false other is = absurd (cc)
+
+-- a change for the branch has a link
+pub has_link : (reading : Reading) (h : List Entry) (project branch : List ℕ) (n : ℕ) (c : Change) → change reading h n ≡ Some c → is_for project branch c ≡ true → IsSome (link_for project branch (change reading h n))
+has_link reading h project branch n c is for =
+    let last = current_there reading h n c is in
+    ap (λ o. is_some (link_for project branch o)) is
+    ∙ (ap (λ b. is_some (cond b (link_of c) None)) for ∙ ap (λ o. is_some {T = Link} (option_map (λ (p : PatchRow). record { patch = current c; parent = p.parent; state = c.state; wip = c.wip }) o)) last.1)
+
+-- ---- standings
+
+-- where neither of two holds, but the first or a third does, the third holds
+not_based : (a b c : Bool) → (a || b) ≡ false → (a || c) ≡ true → c ≡ true
+not_based true b c none is = absurd (cc)
+not_based false b c none is = is
+
+same_some : (s t : Standing) → Some s ≡ Some t → s ≡ t
+same_some s t e = cc
+
+-- a commit is in the branch, or it stands as it was sent
+stands : (reading : Reading) (h : List Entry) (project branch x : List ℕ) (s : Standing) → standing_of reading h project branch x ≡ s → (s ≡ InBranch → ⊥) →
+    (is_in_branch reading h project branch x ≡ false) × (sent_as reading h project branch x ≡ s)
+stands reading h project branch x s is other =
+    ⊎_elim
+    (λ (t : is_in_branch reading h project branch x ≡ true). absurd (other (sym is ∙ ap (λ b. cond b InBranch (sent_as reading h project branch x)) t)))
+    (λ (f : is_in_branch reading h project branch x ≡ false). (f, sym (not_in_stands reading h project branch x f) ∙ is))
+    (cases_Bool (is_in_branch reading h project branch x))
+
+-- a known commit that isn't in the branch is that of a patch set of a change that has a link
+known_stands : (reading : Reading) (h : List Entry) (project branch x : List ℕ) → IsHistory h → Reads reading h → is_known reading h project branch x ≡ true → (standing_of reading h project branch x ≡ InBranch → ⊥) →
+    (d k : ℕ) × (Some (standing_of reading h project branch x) ≡ Some (PatchSet d k)) × IsSome (link_for project branch (change reading h d))
+known_stands reading h project branch x history reads known other =
+    by (sent_patch reading h project branch x (not_based (is_base h project branch x) (some_change reading h (is_merged_commit project branch x) (change_count h)) (is_sent reading h project branch x) free.0 known))
+  where
+    free : (is_in_branch reading h project branch x ≡ false) × (sent_as reading h project branch x ≡ standing_of reading h project branch x)
+    free = stands reading h project branch x (standing_of reading h project branch x) refl other
+
+    by : IsSent reading h project branch x → (d k : ℕ) × (Some (standing_of reading h project branch x) ≡ Some (PatchSet d k)) × IsSome (link_for project branch (change reading h d))
+    by sent =
+        let found : PatchSet sent.number sent.place ≡ sent_as reading h project branch x =
+        found_one reading h project branch x sent.number sent.place sent.patch history reads sent.has sent.commit_is
+        in
+        (sent.number, sent.place, ap Some (sym (found ∙ free.1)), has_link reading h project branch sent.number sent.has.of sent.has.is sent.has.is_for_it)
+
+-- the parent of a link is known
+link_based : (reading : Reading) (h : List Entry) (project branch : List ℕ) (n : ℕ) (l : Link) → IsHistory h → Reads reading h → IsLinkOf project branch (change reading h n) l →
+    is_known reading h project branch l.parent ≡ true
+link_based reading h project branch n l history reads o =
+    ap (λ (x : Link). is_known reading h project branch x.parent) o.link_is
+    ∙ parents_known reading h project branch n (current o.of) o.patch history reads (record { of = o.of; is = o.is; is_for_it = o.is_for_it; sent = o.last })
+
+-- the current commit of a merged change is in the branch, so a commit that isn't is that of another of its patch sets
+merged : (reading : Reading) (h : List Entry) (project branch x : List ℕ) (d k : ℕ) (l : Link) → (branch_after reading h project branch).standing x ≡ Some (PatchSet d k) →
+    (branch_after reading h project branch).link d ≡ Some l → l.state ≡ Merged → k ≢ l.patch
+merged reading h project branch x d k l is link_is state_is same =
+    let s = stands reading h project branch x (PatchSet d k) (same_some (standing_of reading h project branch x) (PatchSet d k) is) (λ e. absurd (cc)) in
+    let o = linked project branch (change reading h d) l link_is in
+    let found = subst (FoundUpTo reading h project branch x (change_count h)) s.1 (found_up_to reading h project branch x (change_count h)) in
+    let c = o.of in
+    let one : found.1.of ≡ c = same_change found.1.of c (sym found.1.is ∙ o.is) in
+    let last : k ≡ current c = same ∙ ap (λ (y : Link). y.patch) o.link_is in
+    let sent : current_patch c ≡ Some found.0 = (λ i. of_number (sym one i).patches (sym last i)) ∙ found.1.sent in
+    let commit_is : commit c ≡ x = ap (λ o. option_map_or (λ (p : PatchRow). p.commit) o []) sent ∙ found.2 in
+    let merged_is : is_merged c.state ≡ true = ap is_merged (sym (ap (λ (y : Link). y.state) o.link_is) ∙ state_is) in
+    let passes : is_merged_commit project branch x c ≡ true =
+    and_from (is_for project branch c) (is_merged c.state && bytes_eq (commit c) x) o.is_for_it (and_from (is_merged c.state) (bytes_eq (commit c) x) merged_is ((bytes_eq-Decides (commit c) x).1 commit_is)) in
+    let bad : true ≡ false =
+    sym (ap (λ b. is_base h project branch x || b) (some_passes reading h (is_merged_commit project branch x) d c o.is passes) ∙ or_true (is_base h project branch x)) ∙ s.0 in
+    absurd (cc)
+
+-- The branch after a history is whole.
+pub whole : (reading : Reading) (h : List Entry) (project branch : List ℕ) → IsHistory h → Reads reading h → IsWhole (branch_after reading h project branch)
+whole reading h project branch history reads = record {
+  based = λ c l is other.
+      known_stands reading h project branch l.parent history reads (link_based reading h project branch c l history reads (linked project branch (change reading h c) l is)) (λ e. other (ap Some e));
+  merged = λ x d k l is link_is state_is. merged reading h project branch x d k l is link_is state_is;
+}
+
+-- ==== what rows that agree with a history know of a branch
 
 -- the change that is known is that of the history
 change_shown : (reading : Reading) (h : List Entry) (rows : Rows) (n : ℕ) (f : Found) → Agrees (view reading h) rows → known rows (want.Change n) ≡ Some f → change_in (Some f) ≡ change reading h n

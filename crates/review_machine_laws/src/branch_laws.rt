@@ -12,6 +12,7 @@ ghost use Rattle.review_machine_laws.specs.{Accepted.IsAccepted, Accepted.MayJoi
 ghost use Rattle.review_machine_laws.specs.{Places.place_of, SoundBranches.AreSoundBranches};
 
 /// The place of a change among those that joined a branch is the place that it has, and a change that is not merged has none.
+#[tactic(auto, using(crate::proofs::Joined::placed))]
 pub fn places_are_kept()
     ensures { (reading : Reading) (h : List Entry) (project branch : List ℕ) (n : ℕ) → IsHistory h → Reads reading h → place_in (joined h project branch) n ≡ place_of project branch (change reading h n) }
 {}
@@ -50,6 +51,7 @@ pub fn accepted_submit()
 /// Parents join before their children: of each change that joins a branch, the current parent is a base of the branch, or the current commit of
 /// a change that joined it before. So it is when the submit is accepted, where such a change joined by an earlier submit or stands earlier in
 /// this one's chain, and so it stays.
+#[tactic(auto, using(crate::proofs::Parents::entry_stands, crate::proofs::Parents::joined_stands))]
 pub fn parents_join_first()
     ensures newest { (reading : Reading) (e : Entry) (h : List Entry) (m : ℕ) (c : Change) (front : List ℕ) (n : ℕ) (back : List ℕ) → IsHistory (e ∷ h) → Reads reading h → e.command ≡ Submit m → e.reply ≡ Done (Submitted (front ++ n ∷ back)) → change reading h m ≡ Some c → StandsOn reading h c.project c.branch (joined h c.project c.branch ++ front) n }
     ensures all { (reading : Reading) (h : List Entry) (project branch front : List ℕ) (n : ℕ) (back : List ℕ) → IsHistory h → Reads reading h → joined h project branch ≡ front ++ n ∷ back → StandsOn reading h project branch front n }
@@ -57,6 +59,7 @@ pub fn parents_join_first()
 
 /// Of every history: each change joined its branch at most once and has its place there; it stands on a base of the branch or on a change that joined
 /// before it; and just before its submit it was open, not in work in progress, and no requirement was unsatisfied.
+#[tactic(auto, using(crate::proofs::Parents::sound_branches))]
 pub fn branches_are_sound()
     ensures { (h : List Entry) → IsHistory h → AreSoundBranches h }
 {}

@@ -17,6 +17,7 @@ pub fn changes_are_sound()
 
 /// Every history has a reading: each text that was put in it spells a file. So what is said of all readings that are right for a history is
 /// said of one at least.
+#[tactic(auto, using(review_machine_rows::proofs::Readings::reading_of))]
 pub fn histories_are_read()
     ensures { (h : List Entry) → IsHistory h → (reading : Reading) × Reads reading h }
 {}

@@ -34,6 +34,7 @@ pub fn standings_are_shown()
 
 /// The branch that a history leaves is whole: the parent of each change for it is in it or the commit of a patch set of a change for it, and the
 /// current commit of a merged change is in it.
+#[tactic(auto, using(crate::proofs::Shown::whole))]
 pub fn branches_are_whole()
     ensures { (reading : Reading) (h : List Entry) (project branch : List ℕ) → IsHistory h → Reads reading h → IsWhole (branch_after reading h project branch) }
 {}
@@ -47,6 +48,7 @@ pub fn rows_are_parts()
 {}
 
 /// What is wanted for the chain of a change was not looked up, where the rows agree with a history that has the change.
+#[tactic(auto, using(crate::proofs::Shown::decided))]
 pub fn wants_are_unknown()
     ensures { (reading : Reading) (h : List Entry) (rows : Rows) (n : ℕ) (c : Change) (w : Want) → IsHistory h → Reads reading h → Agrees (view reading h) rows →
         change reading h n ≡ Some c → wanted (links_in rows c.project c.branch) n ≡ Some w → IsKnown rows (look_up c.project c.branch w) → ⊥ }

@@ -1,8 +1,7 @@
 -- What a PutProject does by what rows know of the line of its project.
-use Rattle.std.proofs.Common.{◌≡◌, ℕ, suc, arith, List, [], ◌∷◌, length, Option, Some, None, Result, Ok, Err, Bool, true, false, cond, not, ◌||◌, ◌∙◌, ◌⊎◌, refl, sym, ap, subst, inl, inr, ⊎_elim}
+use Rattle.std.proofs.Common.{◌≡◌, ℕ, suc, arith, List, [], ◌∷◌, length, Option, Some, None, Result, Ok, Err, Bool, true, false, cond, not, ◌||◌, ◌∙◌, ◌⊎◌, refl, sym, ap, subst, inl, inr, ⊎_elim, MatchBool, is_some, nat_lt, IfErr, IfOk, MatchOption, option_map, option_and_then}
 use Rattle.std.proofs.lemmas.{Bool.Decides.nat_tests, Slice.Eq.bytes_eq-Decides}
-use Rattle.std.specs.{Bool.MatchBool, List.AllByRecursion, Option.option_map_or}
-use Rattle.std.specs.Prelude.{is_some, nat_lt, IfErr, IfOk, MatchOption, option_map, option_and_then}
+use Rattle.std.specs.{List.AllByRecursion, Option.option_map_or}
 use Rattle.review_words.specs.History.{Entry, is_account, is_admin, is_project, project_count}
 use Rattle.review_words.specs.declared.command.Command.TheVariants.{PutProject}
 use Rattle.review_words.specs.declared.faults.FileFault.{FileFault, TheVariants.UnknownLabel}
@@ -11,7 +10,7 @@ use Rattle.review_words.specs.declared.reply.NotTaken.TheVariants.{Memory, Store
 use Rattle.review_words.specs.declared.reply.Refusal.{Refusal}
 use Rattle.review_words.specs.declared.reply.Refusal.TheVariants.{BadFile, LabelNarrowed, Limit, NoParent, ParentDepth, ParentFixed}
 use Rattle.review_words.specs.declared.reply.Reply.{Reply, TheVariants.Refused}
-use Rattle.review_file_rules.proofs.{AlikeInherited.covers_seen, AlikeInherited.inherits_above, Trees.inherit_trees}
+use Rattle.review_file_rules.proofs.Trees.{covers_seen, inherits_above, inherit_trees}
 use Rattle.review_file_rules.specs.Inherited.{IsEffective, inherit, inherits_unknown_label}
 use Rattle.review_file_rules.specs.Reading.{IsReadFault, named_parent}
 use Rattle.review_file_rules.specs.{Trees.file_trees, declared.fault.ReadFault.ReadFault}
@@ -26,8 +25,7 @@ use Rattle.review_machine_rows.specs.{Lines.line_of, Lines.most_depth, Lines.wit
 use Rattle.review_machine_rows.specs.Steps.{HasFile, OfCommand, line_steps, own_in, parent_of, parent_or, texts_in, unknown}
 use Rattle.review_machine_rows.specs.View.{AreEnough, IsDecided}
 use Rattle.review_machine_rows.specs.declared.rows.{Delta.Delta, Rows.Rows, StoredFile.StoredFile}
-use Rattle.review_machine_laws.proofs.AcceptedFiles.{parent_named}
-use Rattle.review_machine_laws.proofs.Effective.{OneEffective, effective_is, line_read, same_file}
+use Rattle.review_machine_laws.proofs.Histories.{parent_named, OneEffective, effective_is, line_read, same_file}
 use Rattle.review_machine_accounts.proofs.Decided.{asked_beside, empty_changes, outcome_answer, project_refused, refused_decided, file_decided}
 use Rattle.review_machine_accounts.{proofs.Told.room_told, specs.Decisions.IsEmpty}
 use Rattle.review_machine_needs.specs.inner.Files.{IsFilePut, IsPut, IsPutBelow, IsReadCause, file_refused, has_unknown, heir, heir_refused, keeps_parent, parent_refused, room_in}

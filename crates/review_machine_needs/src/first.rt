@@ -99,7 +99,7 @@ fn push_named(wants: &mut Vec<Want>, command: &ChangeCommand) -> Result<(), Allo
     Ok(())
 }
 
-#[tactic(auto, using(crate::proofs::Asking::accounts_more))]
+#[tactic(auto, using(crate::proofs::Going::accounts_more))]
 fn push_accounts(wants: &mut Vec<Want>, numbers: &[AccountNo]) -> Result<(), AllocError>
     ensures { OnOk result (wants.new.items ≡ wants.old.items ++ map want.Account numbers.now) }
 {

@@ -69,7 +69,7 @@ fn parent_in(found: Option<&StoredFile>) -> Option<&ProjectName>
 }
 
 // What is left of the first step of a line that has some left: the file of the first project of it whose file isn't known.
-#[tactic(auto, using(crate::proofs::Lined::line_unknown_at, crate::proofs::Lined::no_line))]
+#[tactic(auto, using(crate::proofs::Going::line_unknown_at, crate::proofs::Going::no_line))]
 fn line_wants<'r>(
     alloc: Global,
     rows: &'r Rows,

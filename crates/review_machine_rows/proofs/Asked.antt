@@ -1,13 +1,12 @@
 -- What was asked is known, and asking ends.
-use Rattle.std.proofs.Common.{◌≡◌, ℕ, ◌+◌, ◌<◌, ◌≤◌, List, [], ◌∷◌, length, zero, suc, Option, Some, None, Bool, true, false, cond, not, IsSome, refl, sym, ap, ◌∙◌, subst, ⊎_elim, arith}
+use Rattle.std.proofs.Common.{◌≡◌, ℕ, ◌+◌, ◌<◌, ◌≤◌, List, [], ◌∷◌, length, zero, suc, Option, Some, None, Bool, true, false, cond, not, IsSome, refl, sym, ap, ◌∙◌, subst, ⊎_elim, arith, All, is_some, ◌&&◌, ◌++◌, option_and_then, option_map, option_to_list}
 use Rattle.std.proofs.lemmas.{Bool.cases_Bool, List.Elements.All-head, List.Elements.All-tail}
-use Rattle.std.specs.{List.All, List.AllByRecursion, Option.option_or}
-use Rattle.std.specs.Prelude.{is_some, ◌&&◌, ◌++◌, option_and_then, option_map, option_to_list}
+use Rattle.std.specs.{List.AllByRecursion, Option.option_or}
 use Rattle.review_words.specs.declared.changes.Given.{Given}
 use Rattle.review_words.specs.declared.command.{ChangeCommand.ChangeCommand, ChangeQuery.ChangeQuery, Command.Command}
 use Rattle.review_words.specs.declared.command.Command.TheVariants.{CreateAccount, PutGroup, PutProject, RecordBase, CloseEpoch, CreateChange, OnChange, Submit}
 use Rattle.review_chain.proofs.LookingUp.{fewer_left, most_left}
-use Rattle.review_chain.proofs.Wanting.{Says, still_wanted, walked_kept, wanted_says}
+use Rattle.review_chain.proofs.Parting.{Says, still_wanted, walked_kept, wanted_says}
 use Rattle.review_chain.specs.Branches.{Branch}
 use Rattle.review_chain.specs.Parts.{Want as ChainWant, TheChange, TheCommit, IsPart, Knows}
 use Rattle.review_chain.specs.Steps.{wanted, left as left_in_chain}

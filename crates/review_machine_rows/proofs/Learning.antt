@@ -1,8 +1,5 @@
 -- Rows that learn what a look-up finds.
-use denote.Enum.Compared.{Each, by}
-use denote.Enum.Declared.{Choice, values_one}
-use denote.Struct.Field.{Field}
-use denote.Struct.Values.{Values}
+use denote.Enum.Declared.{values_one}
 use Rattle.std.proofs.Common.{◌≡◌, ◌⊎◌, ℕ, List, [], ◌∷◌, Option, Some, None, Bool, true, false, cond, refl, sym, ap, ◌∙◌, inl, inr, ⊎_elim}
 use Rattle.std.proofs.lemmas.Bool.{cases_Bool}
 use Rattle.std.proofs.lemmas.Cmp.{then_total, on_total, nat_cmp_total, nat_list_cmp_total, tied_itself}
@@ -11,7 +8,8 @@ use Rattle.std.proofs.lemmas.Map.Views.{tells_apart}
 use Rattle.std.specs.{BTreeMap.is_at, Cmp.IsTotalOrder, Cmp.Lexicographic.slice_cmp}
 use Rattle.std.specs.{Ordering.nat_cmp, Ordering.ordering_then, Ordering.is_eq, Prelude.option_map}
 use Rattle.std.specs.declared.cmp.Ordering.{Ordering, TheVariants.Less, TheVariants.Equal, TheVariants.Greater}
-use Rattle.review_table.{proofs.Places.exact_by_parts, specs.Rows.row_in, specs.Rows.rows_of}
+use Rattle.review_table.proofs.Places.{both_equal, exact_by_parts, by_exact}
+use Rattle.review_table.specs.Rows.{row_in, rows_of}
 use Rattle.review_machine_rows.specs.Known.{Found, Members, known, known_by, group_of, held, meaning, want_cmp, Learns}
 use Rattle.review_machine_rows.specs.Rows.{member_cmp, branch_cmp, base_cmp}
 use Rattle.review_machine_rows.specs.{contracts.rows.WantOrd.TheImpl.Laws.total-law, declared.rows.Base.Base}
@@ -28,11 +26,6 @@ exact_member = exact_by_parts (slice_cmp nat_cmp) nat_cmp (λ (k : Member). k.gr
 
 pub exact_branch : CmpEqualImpliesEq branch_cmp
 exact_branch = exact_by_parts (slice_cmp nat_cmp) (slice_cmp nat_cmp) (λ (k : Branch). k.project) (λ (k : Branch). k.branch) exact_bytes exact_bytes (λ x y p q i. record { project = p i; branch = q i })
-
-both_equal : (a b : Ordering) → ordering_then a b ≡ Equal → (a ≡ Equal) × (b ≡ Equal)
-both_equal Equal b e = (refl, e)
-both_equal Less b e = absurd (cc)
-both_equal Greater b e = absurd (cc)
 
 -- an order by three parts
 abbrev by_parts : Base → Base → Ordering
@@ -68,19 +61,6 @@ learned_there {R = R} exact wrap ask old new key row with q =
     inr (ap ask (sym (tells_apart exact key q t)), ap (option_map wrap) (with q ∙ ap (λ b. cond b (Some row) (row_in R (rows_of old) q)) t)))
     (λ (f : is_at (R key) q ≡ false). inl (ap (option_map wrap) (with q ∙ ap (λ b. cond b (Some row) (row_in R (rows_of old) q)) f)))
     (cases_Bool (is_at (R key) q))
-
--- each variant's order tells its values apart
-abbrev Exacts : (Fss : List (List Field)) → Each Ordering Fss → Type 0
-Exacts [] rs = Unit {0}
-Exacts (Fs ∷ Fss) rs = ((x y : Values Fs) → rs.0 x y ≡ Equal → x ≡ y) × Exacts Fss rs.1
-
--- then the derived order of an enum does
-by_exact : (Fss : List (List Field)) (rs : Each Ordering Fss) → Exacts Fss rs → (c d : Choice Fss) → by Less Greater Fss rs c d ≡ Equal → c ≡ d
-by_exact [] rs all c d e = absurd c
-by_exact (Fs ∷ Fss) rs all (inl x) (inl y) e = ap inl (all.0 x y e)
-by_exact (Fs ∷ Fss) rs all (inl x) (inr y) e = absurd (cc)
-by_exact (Fs ∷ Fss) rs all (inr x) (inl y) e = absurd (cc)
-by_exact (Fs ∷ Fss) rs all (inr x) (inr y) e = ap inr (by_exact Fss rs.1 all.1 x y e)
 
 abbrev counted_cmp : Counted → Counted → Ordering
 counted_cmp a b = counted_order.ghosts.cmp a b

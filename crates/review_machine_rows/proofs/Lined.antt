@@ -1,7 +1,6 @@
 -- The texts of a line that rows know are those of the history.
-use Rattle.std.proofs.Common.{◌≡◌, ℕ, zero, suc, List, [], ◌∷◌, Option, Some, None, cond, not, refl, sym, ap, ◌∙◌, subst}
+use Rattle.std.proofs.Common.{◌≡◌, ℕ, zero, suc, List, [], ◌∷◌, Option, Some, None, cond, not, refl, sym, ap, ◌∙◌, subst, is_some, option_and_then, option_map}
 use Rattle.std.specs.{List.AllByRecursion, Option.option_map_or}
-use Rattle.std.specs.Prelude.{is_some, option_and_then, option_map}
 use Rattle.review_words.specs.History.{Entry, file_text, is_project}
 use Rattle.review_machine_rows.proofs.Asked.{each_known, found_of}
 use Rattle.review_machine_rows.specs.Changes.{Reading, own_of, placed, texts_of}

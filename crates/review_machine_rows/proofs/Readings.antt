@@ -1,18 +1,119 @@
--- What is read of the texts that a history puts.
-use Rattle.std.proofs.Common.{◌≡◌, ◌⊎◌, inl, inr, ◌∙◌, ℕ, List, [], ◌∷◌, Option, Some, None, Bool, true, false, cond, refl, sym, ap, subst, ⊎_elim}
-use Rattle.std.proofs.lemmas.{Bool.cases_Bool, Slice.Eq.bytes_eq-Decides}
-use Rattle.std.specs.{Bool.MatchBool, Prelude.MatchOption, Prelude.nat_lt, Prelude.◌&&◌, Str.bytes_eq}
-use Rattle.review_words.specs.History.{Asking, Entry, asking_of, accepted, if_done, file_text, text_put}
+-- What is read of a history, and what is known of an accepted command.
+use Rattle.std.proofs.Common.{◌≡◌, ℕ, List, [], ◌∷◌, Option, Some, None, Bool, true, false, refl, arith, MatchOption, nat_le, nat_lt, ◌⊎◌, inl, inr, ◌∙◌, cond, sym, ap, subst, ⊎_elim, MatchBool, ◌&&◌, bytes_eq}
+use Rattle.std.proofs.lemmas.{Bool.cases_Bool, Bool.Decides.nat_tests, Slice.Eq.bytes_eq-Decides}
+use Rattle.review_words.specs.History.{Entry, is_closed, least_open, raised, accepted, if_done, Asking, asking_of, file_text, text_put}
+use Rattle.review_words.specs.declared.{changes.NewPatch.NewPatch, command.ChangeCommand.ChangeCommand}
+use Rattle.review_words.specs.declared.command.ChangeCommand.TheVariants.{Upload, Review, AddReviewer, RemoveReviewer, SetWip, SetReady, Abandon, Restore, AddAttention, RemoveAttention}
 use Rattle.review_words.specs.declared.command.Command.{Command}
-use Rattle.review_words.specs.declared.command.Command.TheVariants.{CreateAccount, PutGroup, PutProject, RecordBase, CloseEpoch, CreateChange, OnChange, Submit}
+use Rattle.review_words.specs.declared.command.Command.TheVariants.{CreateAccount, PutGroup, PutProject, RecordBase, CreateChange, OnChange, Submit, CloseEpoch}
 use Rattle.review_words.specs.declared.faults.FileFault.TheVariants.{UnknownKey}
-use Rattle.review_words.specs.declared.reply.{Answer.Answer, Refusal.Refusal, Refusal.TheVariants.BadFile, Reply.Reply}
+use Rattle.review_words.specs.declared.reply.{Answer.Answer, Answer.TheVariants.Nothing, Refusal.Refusal}
+use Rattle.review_words.specs.declared.reply.Refusal.TheVariants.{EpochAhead, SameState, BadFile}
+use Rattle.review_words.specs.declared.reply.Reply.{Reply}
 use Rattle.review_words.specs.declared.reply.Reply.TheVariants.{Done, Refused, IdentityReused, EpochClosed, NotTaken}
 use Rattle.review_file_rules.specs.Inherited.{no_file}
-use Rattle.review_machine_rows.proofs.Epochs.{done_by}
-use Rattle.review_machine_rows.specs.Answer.{IsAnswer, IsAnswerBy, IsAnswerIn, IsAnswerWithoutParents, IsHistory, IsFaultAnswer, IsFileAnswer, puts_parent, refused_by}
-use Rattle.review_machine_rows.specs.{Changes.Reading, Changes.Reads, Changes.IsReadRight, Files.File, Files.IsRead}
-pub use Rattle.review_machine_rows.proofs.Epochs.{IsDoneBy}
+use Rattle.review_machine_rows.specs.Answer.{IsAnswerBy, IsAnswerAt, epoch_checks, first_refusal, refused_by, refused_or, IsRequestOutcome, done_on, IsAnswer, IsAnswerIn, IsAnswerWithoutParents, IsHistory, IsFaultAnswer, IsFileAnswer, puts_parent}
+use Rattle.review_machine_rows.specs.Changes.{Reading, change, Reads, IsReadRight}
+use Rattle.review_machine_rows.specs.Files.{File, IsRead}
+
+-- ==== epochs of histories, and what is known of an accepted command whatever its epoch
+
+-- What was done was an answer by the rules of today, whatever version's rules answered it, and in whatever epoch. Nothing is said of a refusal.
+abbrev pub IsDoneBy : Reading → List Entry → ℕ → Command → Reply → Type 0
+IsDoneBy reading h caller command (Done a) = IsAnswerBy reading h caller command (Done a)
+IsDoneBy reading h caller command reply = Unit {0}
+
+closing_done : (o p : Option Refusal) (a : Answer) → MatchOption o (Done a ≡ refused_or p Nothing) (λ r. Done a ≡ Refused r) → MatchOption o (Done a ≡ Done Nothing) (λ r. Done a ≡ Refused r)
+closing_done None None a is = is
+closing_done None (Some r) a is = absurd (cc)
+closing_done (Some r) p a is = is
+
+pub done_by : (reading : Reading) (h : List Entry) (caller epoch : ℕ) (command : Command) (reply : Reply) → IsAnswerAt reading h caller epoch command reply → IsDoneBy reading h caller command reply
+done_by reading h caller epoch command (Refused r) is = tt
+done_by reading h caller epoch command IdentityReused is = tt
+done_by reading h caller epoch command EpochClosed is = tt
+done_by reading h caller epoch command (NotTaken cause) is = tt
+done_by reading h caller epoch (CreateAccount name) (Done a) is = is
+done_by reading h caller epoch (PutGroup group members) (Done a) is = is
+done_by reading h caller epoch (PutProject project file) (Done a) is = is
+done_by reading h caller epoch (RecordBase project branch commit) (Done a) is = is
+done_by reading h caller epoch (CreateChange new) (Done a) is = is
+done_by reading h caller epoch (OnChange n command) (Done a) is = is
+done_by reading h caller epoch (Submit n) (Done a) is = is
+done_by reading h caller epoch (CloseEpoch least) (Done a) is = closing_done (refused_by reading h caller (CloseEpoch least)) (first_refusal (epoch_checks h epoch least)) a is
+
+-- the checks of an accepted CloseEpoch
+passed : (b c : Bool) (a : Answer) (o : Option Refusal) →
+    MatchOption o (Done a ≡ refused_or (first_refusal ((b, EpochAhead) ∷ (c, SameState) ∷ [])) Nothing) (λ r. Done a ≡ Refused r) → (b ≡ true) × (c ≡ true)
+passed b c a (Some r) is = absurd (cc)
+passed true true a None is = (refl, refl)
+passed true false a None is = absurd (let e : Done a ≡ Refused SameState = is in cc)
+passed false c a None is = absurd (let e : Done a ≡ Refused EpochAhead = is in cc)
+
+-- an accepted CloseEpoch closes no epoch from its own on, and one epoch more at least
+pub closes_below : (reading : Reading) (h : List Entry) (caller epoch least : ℕ) (a : Answer) → IsAnswerAt reading h caller epoch (CloseEpoch least) (Done a) →
+    (nat_le least epoch ≡ true) × (nat_lt (least_open h) least ≡ true)
+closes_below reading h caller epoch least a is = passed (nat_le least epoch) (nat_lt (least_open h) least) a (refused_by reading h caller (CloseEpoch least)) is
+
+-- an epoch that is closed stays so
+raised_more : (o : Option Command) (n epoch : ℕ) → nat_lt epoch n ≡ true → nat_lt epoch (raised o n) ≡ true
+raised_more None n epoch closed = closed
+raised_more (Some (CreateAccount name)) n epoch closed = closed
+raised_more (Some (PutGroup group members)) n epoch closed = closed
+raised_more (Some (PutProject project file)) n epoch closed = closed
+raised_more (Some (RecordBase project branch commit)) n epoch closed = closed
+raised_more (Some (CreateChange new)) n epoch closed = closed
+raised_more (Some (OnChange c command)) n epoch closed = closed
+raised_more (Some (Submit c)) n epoch closed = closed
+raised_more (Some (CloseEpoch least)) n epoch closed = grind (arith, nat_tests, closed)
+
+pub closed_stays : (e : Entry) (h : List Entry) (epoch : ℕ) → is_closed h epoch ≡ true → is_closed (e ∷ h) epoch ≡ true
+closed_stays e h epoch closed = raised_more (accepted e) (least_open h) epoch closed
+
+-- an epoch that is open was so before
+pub open_before : (e : Entry) (h : List Entry) (epoch : ℕ) → is_closed (e ∷ h) epoch ≡ false → is_closed h epoch ≡ false
+open_before e h epoch opened = at (is_closed h epoch) refl
+  where
+    at : (b : Bool) → is_closed h epoch ≡ b → is_closed h epoch ≡ false
+    at false is = is
+    at true is = absurd (let t = closed_stays e h epoch is in cc)
+
+-- a request leaves its own epoch open
+pub own_open : (reading : Reading) (h : List Entry) (caller epoch : ℕ) (command : Command) (reply : Reply) → IsAnswerAt reading h caller epoch command reply → is_closed h epoch ≡ false →
+    nat_lt epoch (raised (if_done reply command) (least_open h)) ≡ false
+own_open reading h caller epoch command (Refused r) is opened = opened
+own_open reading h caller epoch command IdentityReused is opened = opened
+own_open reading h caller epoch command EpochClosed is opened = opened
+own_open reading h caller epoch command (NotTaken cause) is opened = opened
+own_open reading h caller epoch (CreateAccount name) (Done a) is opened = opened
+own_open reading h caller epoch (PutGroup group members) (Done a) is opened = opened
+own_open reading h caller epoch (PutProject project file) (Done a) is opened = opened
+own_open reading h caller epoch (RecordBase project branch commit) (Done a) is opened = opened
+own_open reading h caller epoch (CreateChange new) (Done a) is opened = opened
+own_open reading h caller epoch (OnChange n command) (Done a) is opened = opened
+own_open reading h caller epoch (Submit n) (Done a) is opened = opened
+own_open reading h caller epoch (CloseEpoch least) (Done a) is opened = let p = closes_below reading h caller epoch least a is in grind (arith, nat_tests, p.0, p.1)
+
+-- ==== what a request on a change is told that no check refuses
+
+-- what the request is told is that it is done, with what it gives
+abbrev pub IsToldDone : ChangeCommand → Type 0
+IsToldDone command = (reading : Reading) (h : List Entry) (caller n : ℕ) (reply : Reply) → IsRequestOutcome reading h caller n command reply → reply ≡ Done (done_on command (change reading h n))
+
+-- a request sends a patch set, or is told that it is done
+pub sent_or_done : (command : ChangeCommand) → ((patch : NewPatch) × (command ≡ Upload patch)) ⊎ IsToldDone command
+sent_or_done (Upload patch) = inl (patch, refl)
+sent_or_done (Review review) = inr (λ reading h caller n reply is. is)
+sent_or_done (AddReviewer account role) = inr (λ reading h caller n reply is. is)
+sent_or_done (RemoveReviewer account) = inr (λ reading h caller n reply is. is)
+sent_or_done SetWip = inr (λ reading h caller n reply is. is)
+sent_or_done SetReady = inr (λ reading h caller n reply is. is)
+sent_or_done Abandon = inr (λ reading h caller n reply is. is)
+sent_or_done Restore = inr (λ reading h caller n reply is. is)
+sent_or_done (AddAttention account reason) = inr (λ reading h caller n reply is. is)
+sent_or_done (RemoveAttention account reason) = inr (λ reading h caller n reply is. is)
+
+-- ==== what is read of the texts that a history puts
 
 -- what is read, with the file of one text more
 abbrev reading_with : Reading → List ℕ → File → Reading

@@ -1,8 +1,7 @@
 -- Why a decision isn't made, and what one names.
 use Rattle.std.specs.Ordering.{nat_cmp}
 use Rattle.std.specs.Prelude.{ℕ, ◌≡◌, ◌⊎◌, ◌==◌, true, if◌then◌else◌, List, [], ◌∷◌, Option, Some, None, find}
-use Rattle.std.specs.declared.cmp.Ordering.{Ordering}
-use Rattle.review_table.specs.{Rows.row_edit_of, declared.table.RowEdit.RowEdit}
+use Rattle.review_table.specs.Rows.{NamesOnce}
 use Rattle.review_words.specs.{History.Entry, History.is_project, declared.command.Command.Command}
 use Rattle.review_words.specs.declared.command.Command.TheVariants.{PutProject, CreateChange, OnChange, Submit}
 use Rattle.review_words.specs.declared.{command.Query.Query, reply.NotTaken.NotTaken as Cause}
@@ -94,11 +93,6 @@ abbrev pub IsDoneOrRefused : Reply → Type 0
 IsDoneOrRefused (Done a) = Unit {0}
 IsDoneOrRefused (Refused r) = Unit {0}
 IsDoneOrRefused _ = ⊥
-
--- no change names the key of one before it
-abbrev pub NamesOnce : {K X : Type 0} → (K → K → Ordering) → List (RowEdit K X) → Type 0
-NamesOnce cmp [] = Unit {0}
-NamesOnce cmp (c ∷ cs) = (row_edit_of cmp cs c.key ≡ None) × NamesOnce cmp cs
 
 -- an edit of a change names each of its rows once
 pub record NamesRowsOnce (e : ChangeEdit) : Type 0 where

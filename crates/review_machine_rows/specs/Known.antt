@@ -203,7 +203,7 @@ meaning (kept.Sender change) = Holder change
 meaning (kept.IsSo is) = IsSo is
 meaning (kept.Text file) = Text file
 meaning (kept.Commits bases) = Commits bases
-meaning (kept.AChange c) = AChange (option_map (λ r. seen r) c)
+meaning (kept.AChange c) = AChange (option_map (λ r. seen r.value) c)
 meaning (kept.Stands standing) = Stands standing
 meaning (kept.Joins joined) = Joins joined
 

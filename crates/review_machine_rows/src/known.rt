@@ -29,7 +29,7 @@ impl Want {
 
 impl Rows {
     /// Rows that know nothing.
-    #[tactic(auto, using(crate::proofs::Adding::nothing_known))]
+    #[tactic(auto, using(crate::proofs::Looked::nothing_known))]
     pub fn new(alloc: Global) -> Rows
         ensures { (w : Want) → known result w ≡ None }
     {
@@ -176,7 +176,7 @@ impl Rows {
         ensures { option_map (λ c. seen c) (option_copied result) ≡ change_in (known self.now (want.Change number)) }
     {
         match self.found(&Want::Change(number)) {
-            Some(Found::AChange(Some(rows))) => Some(rows),
+            Some(Found::AChange(Some(rows))) => Some(&**rows),
             _ => None,
         }
     }

@@ -237,8 +237,8 @@ pub enum Found {
     Text(Option<StoredFile>),
     /// The bases of a branch.
     Commits(Bases),
-    /// A change with all its rows, or that there is no such change.
-    AChange(Option<ChangeRows>),
+    /// A change with all its rows, or that there is no such change. In a box, so that a row of another look-up isn't as large as a change.
+    AChange(Option<Box<ChangeRows>>),
     /// What a commit is to a branch.
     Stands(Standing),
     /// The changes that joined a branch, in the order of their places.

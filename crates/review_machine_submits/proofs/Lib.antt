@@ -1,11 +1,2 @@
-pub mod Shown
 pub mod Loaded
-pub mod Standing
-pub mod Answered
-pub mod Listed
-pub mod Members
-pub mod Once
-pub mod Told
-pub mod Turned
 pub mod Decided
-pub mod Linked

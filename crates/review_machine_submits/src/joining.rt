@@ -1,6 +1,6 @@
 //! Changes that join their branch.
 ghost use Rattle.std.specs.List.{AllByRecursion, IsDistinct};
-ghost use Rattle.std.specs.Prelude.{◌≡◌, ◌⊎◌, ◌==◌, ◌<◌, ◌^◌, IfErr, IfOk, List, ℕ};
+ghost use Rattle.std.specs.Prelude.{◌≡◌, ◌⊎◌, ◌==◌, ◌-◌, ◌^◌, IfErr, IfOk, List, min, ℕ};
 ghost use Rattle.review_table.specs.Rows.{after_row_edit};
 ghost use Rattle.review_words.specs.declared.reply.NotTaken.TheVariants.{Damaged, Memory};
 ghost use Rattle.review_core_rules.specs.{Change.joined_at, Parts.Part, Parts.part_row, Seen.seen};
@@ -21,18 +21,16 @@ use std::alloc::{AllocError, Global};
 fn edit_by(
     alloc: Global,
     change: ChangeNo,
-    found: &ChangeRows,
-    file: ChangeFile,
+    file: &ChangeFile,
     place: u32,
     request: u64,
 ) -> Result<ChangeEdit, AllocError>
-    requires { seen file.rows ≡ seen found.now }
     ensures change { IfOk result (λ e. e.change ≡ change) }
-    ensures becomes { IfOk result (λ e. (part : Part) → after_row_edit (part_change e part) (part_row (seen found.now) part) ≡ part_row (joined_at place request (seen found.now)) part) }
+    ensures becomes { IfOk result (λ e. (part : Part) → after_row_edit (part_change e part) (part_row (seen file.now.rows.now) part) ≡ part_row (joined_at place request (seen file.now.rows.now)) part) }
     ensures once { IfOk result NamesRowsOnce }
 {
-    let new = file.merged(alloc, place, request);
-    edit_of(alloc, change, found, new.rows())
+    let edited = file.merged(alloc, place, request)?;
+    edit_of(alloc, change, edited)
 }
 
 /// The edit that makes a change join its branch at a place. Damaged only where the change isn't sound.
@@ -52,7 +50,8 @@ fn join_edit(
         unreachable!()
     };
     let file = change_file(alloc, found)?;
-    Ok(edit_by(alloc, change, found, file, place, request)?)
+    let edit = edit_by(alloc, change, &file, place, request)?;
+    Ok(edit)
 }
 
 /// The edits that make changes join their branch at their places.
@@ -76,7 +75,7 @@ fn join_edits(
 
 /// The last place that is taken in the branch of a change; 2^32 - 1 for a greater one, which no branch has.
 fn last_joined(alloc: Global, rows: &Rows, found: &ChangeRows) -> Result<u32, AllocError>
-    ensures { IfOk result (λ last. last_in rows.now (seen found.now) < 2 ^ 32 → last ≡ last_in rows.now (seen found.now)) }
+    ensures { IfOk result (λ last. last ≡ min (last_in rows.now (seen found.now)) (2 ^ 32 - 1)) }
 {
     let branch = branch_of(alloc, &found.header.project, &found.header.branch)?;
     let last = rows.number(&Want::LastJoined(branch));

@@ -11,14 +11,14 @@ ghost use Rattle.review_machine_submits.specs.inner.Told.{IsToldBy, LacksFile, s
 
 use crate::branches::show_branch;
 use crate::showing::{shown_attention, shown_change};
-use review_core::{ChangeFile, RowsFault};
+use review_core::ChangeFile;
 use review_core_rules::ChangeRows;
 use review_core_standing::{statuses, threads};
 use review_core_tables::GroupTables;
 use review_file::ProjectFile;
 use review_file_rules::{groups_suffice, one_effective_file};
 use review_machine_accounts::is_asker;
-use review_machine_change_rows::copied_change;
+use review_machine_changes::edits::change_file;
 use review_machine_laws::changes_are_sound;
 use review_machine_rows::Rows;
 use review_words::{AccountNo, Answer, ChangeNo, ChangeQuery, NotTaken, Query, Refusal, Reply};
@@ -43,19 +43,6 @@ pub fn show(
         Query::OnChange { change, query } => show_on(
             alloc, effective, rows, caller, *change, *query,
         ),
-    }
-}
-
-/// The change of rows that were loaded. Damaged only where they don't fit together.
-fn fitting(alloc: Global, found: &ChangeRows) -> Result<ChangeFile, NotTaken>
-    ensures file { IfOk result (λ f. seen f.rows ≡ seen found.now) }
-    ensures cause { IfErr result (λ e. (e ≡ Memory) ⊎ ((e ≡ Damaged) × (IsSound (seen found.now) → ⊥))) }
-{
-    let copy = copied_change(alloc, found)?;
-    match ChangeFile::from_rows(alloc, copy) {
-        Ok(file) => Ok(file),
-        Err(RowsFault::Broken) => Err(NotTaken::Damaged),
-        Err(RowsFault::Memory) => Err(NotTaken::Memory),
     }
 }
 
@@ -98,7 +85,7 @@ fn answer_about(
     ensures told { IfOk result (IsToldBy (option_copied effective.entry) rows.now.groups change query (seen found.now)) }
     ensures cause { IfErr result (λ e. (e ≡ Memory) ⊎ ((e ≡ Damaged) × ((IsSound (seen found.now) → ⊥) ⊎ LacksFile (option_copied effective.entry) query))) }
 {
-    let file = fitting(alloc, found)?;
+    let file = change_file(alloc, found)?;
     answer_by(alloc, effective, &rows.groups, change, &file, query)
 }
 
@@ -111,7 +98,7 @@ fn answer_by(
     file: &ChangeFile,
     query: ChangeQuery,
 ) -> Result<Answer, NotTaken>
-    ensures told { IfOk result (IsToldBy (option_copied effective.entry) groups.now change query (seen file.now.rows)) }
+    ensures told { IfOk result (IsToldBy (option_copied effective.entry) groups.now change query (seen file.now.rows.now)) }
     ensures cause { IfErr result (λ e. (e ≡ Memory) ⊎ ((e ≡ Damaged) × LacksFile (option_copied effective.entry) query)) }
 {
     let rows = file.rows();

@@ -1,28 +1,76 @@
--- The tables after changes.
-use Rattle.std.proofs.Common.{◌≡◌, ℕ, ◌+◌, ◌≤◌, Bool, true, false, cond, arith, List, [], ◌∷◌, ◌++◌, Option, Some, None, Result, Ok, Err, length, ⊎_elim, ap, sym, ◌∙◌, subst, refl, ◌⊎◌, inl, inr}
-use Rattle.std.proofs.lemmas.Cmp.{nat_cmp_total, tied_itself}
+-- The tables after changes, and the orders of their keys.
+use Rattle.std.proofs.Common.{◌≡◌, ℕ, true, false, cond, ◌&&◌, not, ◌==◌, List, Option, Some, None, refl, ◌∙◌, ap, arith, is_eq, is_le, is_lt, nat_cmp, bytes_eq, Bool, option_map, IsSome, ◌+◌, ◌≤◌, [], ◌∷◌, ◌++◌, Result, Ok, Err, length, ⊎_elim, sym, subst, ◌⊎◌, inl, inr, All, Contains, IfSome, is_some, OnOk, OnErr}
+use Rattle.std.proofs.lemmas.Cmp.{then_total, on_total, nat_cmp_total, nat_list_cmp_total, tied_itself}
 use Rattle.std.proofs.lemmas.List.Elements.{All-head, All-tail, All-contains, All-weaker, Contains-append_left, Contains-push, Contains-push_cases}
-use Rattle.std.proofs.lemmas.Map.{Lookups.CmpEqualImpliesEq, Lookups.exact_unsigned, Views.tells_apart}
-use Rattle.std.{proofs.lemmas.Option.same_Some, specs.BTreeMap.is_at, specs.Cmp.Lexicographic.slice_cmp}
-use Rattle.std.specs.{List.All, List.Contains, Option.IfSome, Option.option_map, Option.is_some}
-use Rattle.std.specs.{Ordering.nat_cmp, Ordering.is_eq, Prelude.OnOk, Prelude.OnErr, Str.bytes_eq}
-use Rattle.std.specs.declared.{alloc.AllocError.AllocError, cmp.Ordering.Ordering}
+use Rattle.std.proofs.lemmas.Map.Lookups.{CmpEqualImpliesEq, exact_unsigned, exact_bytes}
+use Rattle.std.proofs.lemmas.{Map.Text.is_eq-slice_cmp, Map.Views.tells_apart, Option.same_Some}
+use Rattle.std.specs.{BTreeMap.is_at, Cmp.IsTotalOrder, Cmp.unsigned_ties, Cmp.Lexicographic.slice_cmp}
+use Rattle.std.specs.{Option.option_or, Ordering.ordering_then, declared.alloc.AllocError.AllocError}
+use Rattle.std.specs.declared.cmp.Ordering.{Ordering, TheVariants.Less, TheVariants.Equal, TheVariants.Greater}
+use Rattle.review_table.proofs.Places.{exact_by_parts}
 use Rattle.review_table.specs.Rows.{row_in, rows_of, row_edit_of, after_row_edit, changed, HasNoEmptyPlace}
 use Rattle.review_table.specs.declared.table.RowEdit.{RowEdit}
 use Rattle.review_words.specs.History.{Identity, is_same}
 use Rattle.review_core_rules.specs.Parts.{PartRow}
-use Rattle.review_machine_rows.specs.Rows.{Key, AccountKey, MemberKey, FileKey, BaseKey, PartKey, OddKey, Row, AccountRow, FileRow, BaseRow, APart, Count, Projects, BasesOf, ClosedEpochs, AnswerRow, Answered, Tables, member_cmp, member_row, member_change, account_change, after_put, count_put, place_cmp, after, count_after, kept_row, edited}
+use Rattle.review_machine_rows.specs.Rows.{member_cmp, Key, AccountKey, MemberKey, FileKey, BaseKey, PartKey, OddKey, Row, AccountRow, FileRow, BaseRow, APart, Count, Projects, BasesOf, ClosedEpochs, AnswerRow, Answered, Tables, member_row, member_change, account_change, after_put, count_put, place_cmp, after, count_after, kept_row, edited}
 use Rattle.review_machine_rows.specs.Shelf.{IsCommitted}
 use Rattle.review_machine_rows.specs.declared.rows.{Delta.Delta, Kept.Kept, MemberKey.MemberKey as Member}
 use Rattle.review_machine_rows.specs.declared.rows.{PlaceKey.PlaceKey, Put.Put, StoredFile.StoredFile}
-use Rattle.review_memory_rows.proofs.{Made.made_by, Orders.exact_answer, Orders.at_answer}
-use Rattle.review_memory_rows.specs.Answers.{key_of, answer_cmp}
+use Rattle.review_memory_rows.proofs.Dropped.{at_account, is_eq-then, exact_answer, at_answer}
+use Rattle.review_memory_rows.{proofs.Turned.made_by, specs.Answers.key_of, specs.Answers.answer_cmp}
 use Rattle.review_memory_rows.specs.{Bases.BranchesView, Bases.total_in, Kept.ArePrepared, Kept.part_at}
 use Rattle.review_memory_rows.specs.declared.answer_keys.{AnswerKey.AnswerKey, StoredAnswer.StoredAnswer}
-use Rattle.review_memory.proofs.Orders.{exact_member}
-use Rattle.review_memory.specs.Desk.{beside_epoch, Desk, desk_of, desk_with, tables_of, row_of, count_of, stored_row, file_changes, name_cmp, IsNumber, AddsNames, AreInUse, IsIndexed, IsNumbered, IsBounded, IsSound, IsGiven, IsHeld, IsNameOf, IsStored, IsUsed, AreIndexed, KeepsNames, AreChangesOf, AreApplied, IsWithBase, HasChanged, HasNoSpareRoom, HasRoom, HasRoomOnlyFor, PutsAnswer, with_stored}
+use Rattle.review_memory.specs.Desk.{name_cmp, IsNumber, beside_epoch, Desk, desk_of, desk_with, tables_of, row_of, count_of, stored_row, file_changes, AddsNames, AreInUse, IsIndexed, IsNumbered, IsBounded, IsSound, IsGiven, IsHeld, IsNameOf, IsStored, IsUsed, AreIndexed, KeepsNames, AreChangesOf, AreApplied, IsWithBase, HasChanged, HasNoSpareRoom, HasRoom, HasRoomOnlyFor, PutsAnswer, with_stored}
 use Rattle.review_memory.specs.declared.{changes.Changes.Changes, keys.NameKey.NameKey}
 use Rattle.review_memory.specs.declared.tables.MemoryTables.{MemoryTables}
+
+-- ==== the orders of keys: they are total, and tie only equal keys
+
+pub member_total : IsTotalOrder member_cmp
+member_total = then_total (on_total (λ (k : Member). k.group) nat_list_cmp_total) (on_total (λ (k : Member). k.account) nat_cmp_total)
+
+pub name_total : IsTotalOrder name_cmp
+name_total = then_total (on_total (λ (k : NameKey). k.name) nat_list_cmp_total) (on_total (λ (k : NameKey). k.account) nat_cmp_total)
+
+pub exact_member : CmpEqualImpliesEq member_cmp
+exact_member = exact_by_parts (slice_cmp nat_cmp) nat_cmp (λ (k : Member). k.group) (λ (k : Member). k.account) exact_bytes exact_unsigned (λ x y p q i. record { group = p i; account = q i })
+
+pub exact_name : CmpEqualImpliesEq name_cmp
+exact_name = exact_by_parts (slice_cmp nat_cmp) nat_cmp (λ (k : NameKey). k.name) (λ (k : NameKey). k.account) exact_bytes exact_unsigned (λ x y p q i. record { name = p i; account = q i })
+
+pub at_member : (a b : Member) → is_at (member_cmp a) b ≡ (bytes_eq a.group b.group && (a.account == b.account))
+at_member a b = is_eq-then (slice_cmp nat_cmp a.group b.group) (nat_cmp a.account b.account) ∙ (λ i. is_eq-slice_cmp a.group b.group i && at_account a.account b.account i)
+
+-- the keys of one first part, where the second lies between two
+between_of : {X : Type 0} (o least most : Ordering) (row : Option X) → ((x : X) → row ≡ Some x → (is_le least ≡ true) × (is_lt most ≡ false))
+    → cond (is_le (ordering_then o least) && not (is_lt (ordering_then o most))) row None ≡ cond (is_eq o) row None
+between_of Less least most row h = refl
+between_of Greater least most row h = refl
+between_of {X = X} Equal least most None h = elim (is_le least && not (is_lt most)) as (λ b. cond {A = Option X} b None None ≡ None) [ true ↦ refl | false ↦ refl ]
+between_of Equal least most (Some x) h = let both = h x refl in let a = both.0 in let b = both.1 in rw (a, b) refl
+
+numbered : (n : ℕ) → IsNumber n → (is_le (nat_cmp 1 n) ≡ true) × (is_lt (nat_cmp 1000000 n) ≡ false)
+numbered n h = (grind (arith, unsigned_ties), grind (arith, unsigned_ties))
+
+-- a row with a number, among those of one group or one name
+pub row_between_numbers : {X : Type 0} (a b : List ℕ) (n : ℕ) (row : Option X) → ((x : X) → row ≡ Some x → IsNumber n)
+    → cond (is_le (ordering_then (slice_cmp nat_cmp a b) (nat_cmp 1 n)) && not (is_lt (ordering_then (slice_cmp nat_cmp a b) (nat_cmp 1000000 n)))) row None ≡ cond (bytes_eq a b) row None
+row_between_numbers a b n row h =
+    between_of (slice_cmp nat_cmp a b) (nat_cmp 1 n) (nat_cmp 1000000 n) row (λ x is. numbered n (h x is)) ∙ ap (λ t. cond t row None) (is_eq-slice_cmp a b)
+
+-- ==== rows that are taken over from others
+
+-- one more row is taken over
+pub taken_over : (at : Bool) (left old : Option (Unit {0})) → option_or left (cond at (Some tt) old) ≡ option_or (cond at (Some tt) left) old
+taken_over true None old = refl
+taken_over true (Some u) old = refl
+taken_over false left old = refl
+
+pub some_mapped : {X Y : Type 0} (f : X → Y) (o : Option X) → IsSome o → IsSome (option_map f o)
+some_mapped f None some = some
+some_mapped f (Some x) some = refl
+
+-- ==== the tables after changes
 
 -- names that are listed stay so
 more_listed : (names : List NameKey) (key : NameKey) (number : ℕ) (o : Option (List ℕ)) → IfSome o (λ name. Contains names (record { name = name; account = number })) → IfSome o (λ name. Contains (names ++ key ∷ []) (record { name = name; account = number }))

@@ -1,6 +1,5 @@
 -- Rows of changes on a desk.
-use Rattle.std.proofs.Common.{◌≡◌, inl, inr, ⊎_elim, ℕ, false, List, Option, Some, None, get_or, ap, refl, ◌∙◌}
-use Rattle.std.specs.Option.{option_map}
+use Rattle.std.proofs.Common.{◌≡◌, inl, inr, ⊎_elim, ℕ, false, List, Option, Some, None, get_or, ap, refl, ◌∙◌, option_map}
 use Rattle.review_words.specs.declared.shown.JoinedChange.{JoinedChange}
 use Rattle.review_chain.specs.declared.links.Standing.TheVariants.{PatchSet, Nowhere}
 use Rattle.review_core_rules.specs.{Parts.Part, Parts.TheHeader, Parts.PatchOf, declared.rows.PatchRow.PatchRow}

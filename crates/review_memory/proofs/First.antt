@@ -1,17 +1,79 @@
--- The desk of no request.
-use Rattle.std.proofs.Common.{◌≡◌, ℕ, Bool, true, false, cond, ◌&&◌, ◌==◌, List, [], ◌∷◌, Option, Some, None, ap, sym, ◌∙◌, subst, refl, arith}
-use Rattle.std.proofs.lemmas.{Cmp.nat_eq_equiv, Map.Lookups.exact_unsigned, Map.Views.tells_apart, Option.same_Some}
-use Rattle.std.specs.{BTreeMap.is_at, List.list_any, Option.option_map, Ordering.nat_cmp, Prelude.nat_lt, Str.bytes_eq}
+-- Desks of histories: that of no request, and what is on no desk.
+use Rattle.std.proofs.Common.{◌≡◌, ℕ, ◌+◌, ◌<◌, ◌⊎◌, inl, inr, Bool, true, false, cond, List, [], ◌∷◌, ◌++◌, length, get_or, take, drop, Option, Some, None, ap, sym, ◌∙◌, subst, refl, ⊎_elim, take-append-drop, Contains, nat_cmp, is_eq, ◌&&◌, ◌==◌, arith, option_map, nat_lt, bytes_eq, Result, Ok, Err, IfErr, IsErr, IsErrAnd, ◌≤◌}
+use Rattle.std.proofs.lemmas.{Bool.cases_Bool, Cmp.tied_itself, Cmp.nat_eq_equiv, List.take_more}
+use Rattle.std.proofs.lemmas.List.Elements.{Contains-append_left, Contains-push}
+use Rattle.std.proofs.lemmas.{Map.Lookups.exact_unsigned, Map.Views.tells_apart, Option.same_Some}
+use Rattle.std.specs.{BTreeMap.is_at, List.list_any}
 use Rattle.review_names.specs.Names.{administrators, admin_name}
 use Rattle.review_table.specs.Rows.{row_in}
-use Rattle.review_machine_rows.specs.Changes.{Reading}
-use Rattle.review_machine_rows.specs.Rows.{Key, AccountKey, MemberKey, FileKey, BaseKey, PartKey, OddKey, AccountRow, MemberRow, Count, Projects, BasesOf, ClosedEpochs, Stored, member_cmp, member_row}
-use Rattle.review_machine_rows.specs.{View.IsView, View.fact, View.counted, declared.rows.MemberKey.MemberKey as Member}
-use Rattle.review_memory_rows.proofs.Orders.{at_account}
-use Rattle.review_memory.proofs.{Indexed.at_itself, Orders.exact_member, Orders.exact_name, Orders.at_member}
-use Rattle.review_memory.specs.Desk.{Desk, tables_of, row_of, count_of, name_cmp, AreInUse, IsNumber, IsIndexed, IsNumbered}
+use Rattle.review_words.specs.History.{bases as bases_in, Entry}
+use Rattle.review_machine_rows.proofs.{Looked.based_from, Readings.reading_of}
+use Rattle.review_machine_rows.specs.{Answer.IsHistory, Answer.most_requests, Changes.Reading, Known.at_place}
+use Rattle.review_machine_rows.specs.Rows.{Key, AccountKey, MemberKey, FileKey, BaseKey, PartKey, OddKey, AccountRow, MemberRow, Count, Projects, BasesOf, ClosedEpochs, Stored, member_cmp, member_row, Tables}
+use Rattle.review_machine_rows.specs.{Shelf.IsDamaged, View.IsView, View.fact, View.counted}
+use Rattle.review_machine_rows.specs.declared.rows.{BranchKey.BranchKey, MemberKey.MemberKey as Member}
+use Rattle.review_machine_rows.specs.declared.shelf.ShelfFault.{ShelfFault}
+use Rattle.review_memory_rows.proofs.Dropped.{at_account}
+use Rattle.review_memory_rows.specs.Bases.{IsUnlisted, AreBases, base_at}
+use Rattle.review_memory_rows.specs.{Loads.fault_of, declared.bases.BasesFault.BasesFault}
+use Rattle.review_memory.proofs.Applied.{name_total, exact_name, exact_member, at_member}
+use Rattle.review_memory.specs.Desk.{name_cmp, AddsNames, IsIndexed, KeepsNames, Desk, tables_of, row_of, count_of, AreInUse, IsNumber, IsNumbered}
 use Rattle.review_memory.specs.First.{first_name, first_member, HasAccount, HasName, HasMember}
-use Rattle.review_memory.specs.declared.keys.NameKey.{NameKey}
+use Rattle.review_memory.specs.{Loads.IsUnread, declared.keys.NameKey.NameKey}
+use Rattle.review_memory_rows.specs.declared.bases.BasesFault.TheVariants as bases
+
+-- ==== the index of accounts by name
+
+-- the names with another row at a key
+abbrev pub WithRow : List (NameKey × Unit {0}) → NameKey → Option (Unit {0}) → List (NameKey × Unit {0}) → Type 0
+WithRow old key row new = (q : NameKey) → row_in name_cmp new q ≡ cond (is_at (name_cmp key) q) row (row_in name_cmp old q)
+
+pub at_itself : (key : NameKey) → is_at (name_cmp key) key ≡ true
+at_itself key = ap is_eq (tied_itself name_total key)
+
+pub with_row_here : (old new : List (NameKey × Unit {0})) (key : NameKey) (row : Option (Unit {0})) → WithRow old key row new → row_in name_cmp new key ≡ row
+with_row_here old new key row with = with key ∙ ap (λ b. cond b row (row_in name_cmp old key)) (at_itself key)
+
+pub put_keeps : (old new : List (NameKey × Unit {0})) (key : NameKey) → WithRow old key (Some tt) new → KeepsNames old new
+put_keeps old new key with q there =
+    with q ∙ (ap (cond (is_at (name_cmp key) q) (Some tt)) there ∙ elim (is_at (name_cmp key) q) as (λ b. cond {A = Option (Unit {0})} b (Some tt) (Some tt) ≡ Some tt) [ true ↦ refl | false ↦ refl ])
+
+still_there : (b : Bool) (o : Option (Unit {0})) → cond b None o ≡ Some tt → o ≡ Some tt
+still_there true o h = absurd (cc)
+still_there false o h = h
+
+pub remove_adds_none : (old new : List (NameKey × Unit {0})) (key : NameKey) → WithRow old key None new → KeepsNames new old
+remove_adds_none old new key with q there = still_there (is_at (name_cmp key) q) (row_in name_cmp old q) (sym (with q) ∙ there)
+
+-- a name that its account doesn't have may go
+pub remove_indexed : (accounts : List (ℕ × List ℕ)) (old new : List (NameKey × Unit {0})) (key : NameKey) → (row_in nat_cmp accounts key.account ≡ Some key.name → ⊥) → WithRow old key None new → IsIndexed accounts old → IsIndexed accounts new
+remove_indexed accounts old new key stale with indexed number name is =
+    let q : NameKey = record { name = name; account = number } in
+    let was = indexed number name is in (
+      was.0,
+      ⊎_elim
+          (λ same. absurd (stale (subst (λ (k : NameKey). row_in nat_cmp accounts k.account ≡ Some k.name) (sym (tells_apart exact_name key q same)) is)))
+          (λ other. with q ∙ (ap (λ b. cond b None (row_in name_cmp old q)) other ∙ was.1))
+          (cases_Bool (is_at (name_cmp key) q)),
+    )
+
+-- one more name is listed
+pub put_only : (first old new : List (NameKey × Unit {0})) (keys : List NameKey) (i : ℕ) (key : NameKey) → i < length keys → key ≡ get_or keys i key → WithRow old key (Some tt) new →
+    AddsNames first (take i keys) old → AddsNames first (take (i + 1) keys) new
+put_only first old new keys i key below is with only q there =
+    subst (λ ks. (row_in name_cmp first q ≡ Some tt) ⊎ Contains ks q) (ap (λ k. take i keys ++ k ∷ []) is ∙ sym (take_more keys i key below))
+    (⊎_elim
+    (λ same. inr (subst (Contains (take i keys ++ key ∷ [])) (tells_apart exact_name key q same) (Contains-push (take i keys) key)))
+    (λ other. ⊎_elim (λ had. inl had) (λ put. inr (Contains-append_left (take i keys) (key ∷ []) q put))
+    (only q (sym (ap (λ b. cond b (Some tt) (row_in name_cmp old q)) other) ∙ (sym (with q) ∙ there))))
+    (cases_Bool (is_at (name_cmp key) q)))
+
+-- the first ones of a list are among all
+pub adds_all : (old new : List (NameKey × Unit {0})) (keys : List NameKey) (i : ℕ) → AddsNames old (take i keys) new → AddsNames old keys new
+adds_all old new keys i only q there =
+    ⊎_elim (λ had. inl had) (λ put. inr (subst (λ ks. Contains ks q) (take-append-drop i keys) (Contains-append_left (take i keys) (drop i keys) q put))) (only q there)
+
+-- ==== the desk of no request
 
 if_there : {X : Type 0} (b : Bool) (x y : X) → cond b (Some x) None ≡ Some y → (b ≡ true) × (x ≡ y)
 if_there true x y is = (refl, same_Some x y is)
@@ -74,3 +136,36 @@ first_view accounts members d account member is = subst (λ d. IsView [] (tables
     no_answer : (b : Bool) → ◌≡◌ {A = Option Stored} (cond b None None) None
     no_answer true = refl
     no_answer false = refl
+
+-- ==== what look-ups in tables in memory don't find
+
+-- a branch whose bases make no list is that of no history
+unlisted_damaged : (d : Desk) (key : BranchKey) → ((commits : List (List ℕ)) → AreBases d.branches.bases key commits → ⊥) → IsDamaged (tables_of d)
+unlisted_damaged d key none h hist v =
+    let read = reading_of h hist in
+    none (bases_in h key.project key.branch)
+    (λ n. based_from (base_at d.branches.bases key.project key.branch n) (at_place (bases_in h key.project key.branch) n) ((v read.0 read.1).row_is (BaseKey key.project key.branch n)))
+
+-- bases that are not given are those of no history
+pub bases_unread : (d : Desk) (key : BranchKey) (f : BasesFault) → IsUnlisted d.branches.bases key f → IsUnread (tables_of d) (fault_of f)
+bases_unread d key bases.Memory none = tt
+bases_unread d key bases.Gap none = unlisted_damaged d key none
+
+-- an error that is passed on as that of a shelf
+pub passed_on : {X F : Type 0} (t : Tables) (of : F → ShelfFault) (f : F) (r : Result X ShelfFault) → IsErr r × IsErrAnd r (λ e. e ≡ of f) → IsUnread t (of f) → IfErr r (IsUnread t)
+passed_on t of f (Ok x) e unread = tt
+passed_on t of f (Err x) e unread = subst (IsUnread t) (sym e.1) unread
+
+-- ==== no history is as long as the greatest count of requests
+
+pub history_length : (h : List Entry) → IsHistory h → length h ≤ most_requests
+history_length [] hist = omega arith
+history_length (e ∷ h) hist = let below = hist.2 in omega arith
+
+-- nor do its tables count more requests
+pub view_length : (h : List Entry) (t : Tables) → IsHistory h → IsView h t → t.requests ≤ most_requests
+view_length h t hist v =
+    let long = history_length h hist in
+    let read = reading_of h hist in
+    let length_is = (v read.0 read.1).requests in
+    omega arith

@@ -1,13 +1,93 @@
--- Which keys are those of lower epochs, and what stands without them.
-use Rattle.std.proofs.Common.{◌≡◌, ℕ, ◌+◌, ◌<◌, Bool, true, false, cond, ◌||◌, List, [], ◌∷◌, ◌++◌, Option, Some, None, length, get_or, take, map, Bor, refl, sym, ap, ◌∙◌, ⊎_elim, arith}
-use Rattle.std.proofs.lemmas.{Bool.cases_Bool, Cmp.tied_itself}
-use Rattle.std.proofs.lemmas.List.{append_assoc, append-nil, map-append, take_more, Folds.list_any-append}
-use Rattle.std.proofs.lemmas.Map.Views.{tells_apart}
-use Rattle.std.specs.{BTreeMap.is_at, Map.Iter.deref_pair, Ordering.is_eq, Prelude.flat_map, Prelude.nat_lt}
-use Rattle.review_table.specs.Rows.{row_in}
-use Rattle.review_memory_rows.proofs.Orders.{answer_total, exact_answer}
+-- Keys of answers: their order, and which of them are dropped.
+use Rattle.std.proofs.Common.{◌≡◌, ℕ, Bool, true, false, ◌&&◌, ◌==◌, refl, sym, ◌∙◌, is_eq, nat_cmp, bytes_eq, Option, Some, None, Bor, option_map, option_copied, is_some, cond, List, ◌∷◌, subst, [], ap, ◌+◌, ◌<◌, ◌||◌, ◌++◌, length, get_or, take, map, ⊎_elim, arith, append_assoc, append-nil, flat_map, nat_lt}
+use Rattle.std.proofs.lemmas.Bool.{cases_Bool}
+use Rattle.std.proofs.lemmas.Cmp.{then_total, on_total, nat_cmp_total, nat_list_cmp_total, tied_itself}
+use Rattle.std.proofs.lemmas.List.{map-append, take_more, Folds.list_any-append}
+use Rattle.std.proofs.lemmas.Map.Lookups.{CmpEqualImpliesEq, exact_unsigned, exact_bytes}
+use Rattle.std.proofs.lemmas.Map.{Text.is_eq-slice_cmp, Views.tells_apart}
+use Rattle.std.specs.{BTreeMap.is_at, Cmp.IsTotalOrder, Cmp.unsigned_ties, Cmp.Lexicographic.slice_cmp}
+use Rattle.std.specs.{Map.Iter.deref_pair, Ordering.ordering_then, declared.cmp.Ordering.Ordering}
+use Rattle.std.specs.declared.cmp.Ordering.TheVariants.{Less, Equal, Greater}
+use Rattle.review_table.specs.Rows.{row_in, is_named, place_at, HasEmptyOnly, HasNoEmptyPlace}
+use Rattle.review_table.specs.declared.table.RowEdit.{RowEdit}
 use Rattle.review_memory_rows.specs.Answers.{answer_cmp, is_among, if_lower, lower}
 use Rattle.review_memory_rows.specs.declared.answer_keys.{AnswerKey.AnswerKey, StoredAnswer.StoredAnswer}
+
+-- ==== the order of the keys of answers: it is total, and ties only equal keys
+
+equal_parts : (a b : Ordering) → ordering_then a b ≡ Equal → (a ≡ Equal) × (b ≡ Equal)
+equal_parts Equal b e = (refl, e)
+equal_parts Less b e = absurd (cc)
+equal_parts Greater b e = absurd (cc)
+
+pub exact_answer : CmpEqualImpliesEq answer_cmp
+exact_answer x y e =
+    let one = equal_parts (nat_cmp x.epoch y.epoch) (ordering_then (nat_cmp x.caller y.caller) (slice_cmp nat_cmp x.id y.id)) e in
+    let two = equal_parts (nat_cmp x.caller y.caller) (slice_cmp nat_cmp x.id y.id) one.1 in
+    let epoch = exact_unsigned x.epoch y.epoch one.0 in
+    let caller = exact_unsigned x.caller y.caller two.0 in
+    let id = exact_bytes x.id y.id two.1 in
+    λ i. record { epoch = epoch i; caller = caller i; id = id i }
+
+pub answer_total : IsTotalOrder answer_cmp
+answer_total = then_total (on_total (λ (k : AnswerKey). k.epoch) nat_cmp_total) (then_total (on_total (λ (k : AnswerKey). k.caller) nat_cmp_total) (on_total (λ (k : AnswerKey). k.id) nat_list_cmp_total))
+
+pub is_eq-then : (a b : Ordering) → is_eq (ordering_then a b) ≡ (is_eq a && is_eq b)
+is_eq-then Less b = refl
+is_eq-then Equal b = refl
+is_eq-then Greater b = refl
+
+pub at_account : (a b : ℕ) → is_at (nat_cmp a) b ≡ (a == b)
+at_account a b = sym (unsigned_ties a b)
+
+and_other : (a b c : Bool) → (a && (b && c)) ≡ (b && (a && c))
+and_other true true c = refl
+and_other true false c = refl
+and_other false true c = refl
+and_other false false c = refl
+
+pub at_answer : (a b : AnswerKey) → is_at (answer_cmp a) b ≡ ((a.caller == b.caller) && ((a.epoch == b.epoch) && bytes_eq a.id b.id))
+at_answer a b =
+    is_eq-then (nat_cmp a.epoch b.epoch) (ordering_then (nat_cmp a.caller b.caller) (slice_cmp nat_cmp a.id b.id))
+    ∙ (λ i. at_account a.epoch b.epoch i && is_eq-then (nat_cmp a.caller b.caller) (slice_cmp nat_cmp a.id b.id) i)
+    ∙ (λ i. (a.epoch == b.epoch) && (at_account a.caller b.caller i && is_eq-slice_cmp a.id b.id i))
+    ∙ and_other (a.epoch == b.epoch) (a.caller == b.caller) (bytes_eq a.id b.id)
+
+-- ==== options that are copied or turned into others
+
+pub copied_some : {X : Type 0} (o : Option (Bor X)) → is_some (option_copied o) ≡ is_some o
+copied_some None = refl
+copied_some (Some x) = refl
+
+pub some_mapped_is : {X Y : Type 0} (f : X → Y) (o : Option X) → is_some (option_map f o) ≡ is_some o
+some_mapped_is f None = refl
+some_mapped_is f (Some x) = refl
+
+-- ==== keys that are left once one is looked at
+
+-- a key for which something holds is not missed where it doesn't hold for the one that was looked at
+pub still_left : {K : Type 0} {R : K → K → Ordering} → CmpEqualImpliesEq R → (Holds : K → Type 0) (q key : K) (rest : List (K × Unit {0})) → Holds q → (Holds key → ⊥) → row_in R ((key, tt) ∷ rest) q ≡ Some tt → row_in R rest q ≡ Some tt
+still_left {R = R} exact Holds q key rest is other there = by (is_at (R q) key) refl there
+  where
+    by : (b : Bool) → is_at (R q) key ≡ b → cond b (Some tt) (row_in R rest q) ≡ Some tt → row_in R rest q ≡ Some tt
+    by true at h = absurd (other (subst Holds (tells_apart exact q key at) is))
+    by false at h = h
+
+-- ==== places without a row
+
+-- where no place is spare, only those of any keys are
+pub none_spare : {K X : Type 0} (R : K → K → Ordering) (test : K → Bool) (t : List (K × Option X)) → HasNoEmptyPlace R t → HasEmptyOnly R test t
+none_spare R test t full q empty = absurd (full q empty)
+
+-- a table without rows
+pub none_empty : {K X : Type 0} (R : K → K → Ordering) (t : List (K × Option X)) → t ≡ [] → HasNoEmptyPlace R t
+none_empty R t none q empty = let bad : None ≡ Some None = ap (λ xs. place_at R xs q) (sym none) ∙ empty in absurd (cc)
+
+-- where no place was spare, only those of the keys that a list names are
+pub only_for : {K X Y : Type 0} (R : K → K → Ordering) (t : List (K × Option X)) (cs items : List (RowEdit K Y)) → cs ≡ items → HasEmptyOnly R (is_named R cs) t → HasEmptyOnly R (is_named R items) t
+only_for R t cs items is only = subst (λ xs. HasEmptyOnly R (is_named R xs) t) is only
+
+-- ==== which keys are those of lower epochs, and what stands without them
 
 flat_map-append : {A B : Type 0} (f : A → List B) (xs ys : List A) → flat_map f (xs ++ ys) ≡ flat_map f xs ++ flat_map f ys
 flat_map-append f [] ys = refl

@@ -76,8 +76,12 @@ impl KeptChanges {
     }
 
     /// The change of a number with all its rows, or that there is none. Gap where its rows are those of no change.
-    pub fn load(&self, alloc: Global, number: ChangeNo) -> Result<Option<ChangeRows>, ChangeFault>
-        ensures found { IfOk result (λ change. HasChange (row_of (rows_of self.now.kept)) number (option_map (λ c. seen c) change)) }
+    pub fn load(
+        &self,
+        alloc: Global,
+        number: ChangeNo,
+    ) -> Result<Option<Box<ChangeRows>>, ChangeFault>
+        ensures found { IfOk result (λ change. HasChange (row_of (rows_of self.now.kept)) number (option_map (λ c. seen c.value) change)) }
         ensures fault { IfErr result (IsUnread (rows_of self.now.kept) number) }
     {
         match self.kept.get(&number) {
@@ -217,8 +221,8 @@ impl KeptChanges {
 }
 
 // The change that tables show, which stay as they are, or why they show none.
-fn copied_rows(alloc: Global, tables: &ChangeTables) -> Result<ChangeRows, ChangeFault>
-    ensures shown { IfOk result (λ rows. Show tables.now (seen rows)) }
+fn copied_rows(alloc: Global, tables: &ChangeTables) -> Result<Box<ChangeRows>, ChangeFault>
+    ensures shown { IfOk result (λ rows. Show tables.now (seen rows.value)) }
     ensures fault { IfErr result (HaveFault tables.now) }
 {
     let copy = copied_tables(alloc, tables)?;

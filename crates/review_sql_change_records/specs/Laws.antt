@@ -1,5 +1,5 @@
 -- The laws of the tables of changes.
-use Rattle.std.proofs.Common.{refl, ◌≡◌, nat_lt, ℕ, List, ◌∷◌, true, Some, pos, Bool, false, suc, zero, Option, None, ◌&&◌, ap, ◌∙◌, inl, inr, sym, subst, is_some}
+use Rattle.std.proofs.Common.{refl, ℤ, ◌≡◌, nat_lt, ℕ, List, ◌∷◌, true, Some, pos, Bool, false, suc, zero, Option, None, ◌&&◌, ap, ◌∙◌, inl, inr, sym, subst, is_some}
 use Rattle.std.proofs.lemmas.Bool.{ltb-true, and_parts, and_from, cases_Bool}
 use Rattle.std.proofs.lemmas.Cmp.{nat_cmp_total, tied_itself, nat_list_cmp_total}
 use Rattle.std.proofs.lemmas.Map.Lookups.{exact_bytes, exact_unsigned}
@@ -18,32 +18,21 @@ use Rattle.review_words.specs.{States.state_name, States.state_named, Texts.role
 use Rattle.review_words.specs.declared.changes.Role.{Role, TheVariants.Reviewer, TheVariants.Cc}
 use Rattle.review_words.specs.declared.shown.State.{State, TheVariants.New, TheVariants.Merged, TheVariants.Abandoned}
 use Rattle.review_sql_tables.proofs.Keys.{itself, same_int, equal_is, same_text, text_is as stored_text}
-use Rattle.review_sql_tables.{proofs.Single.at_place, specs.Columns.text_in, specs.Columns.number_in}
-use Rattle.review_sql_tables.specs.{Content.is_value, Fronts.IsFront, Fronts.IsExact, Search.IsLawful, Single.IsSingle}
-use Rattle.review_core_rules.specs.{Seen.vote_cmp, declared.rows.VoteKey.VoteKey}
+use Rattle.review_sql_tables.proofs.Single.{at_place}
+use Rattle.review_sql_tables.proofs.TextsOfChanges.{delete_attention, delete_change, delete_comment, delete_patch, delete_reviewer, delete_vote, insert_attention, insert_change, insert_comment, insert_patch, insert_reviewer, insert_vote}
+use Rattle.review_sql_tables.specs.Columns.{text_in, number_in}
+use Rattle.review_sql_tables.specs.{Content.is_value, Fronts.IsFront, Fronts.IsExact, Record.Records, Search.IsLawful}
+use Rattle.review_sql_tables.specs.declared.table.Sets.TheVariants.{PutsIn, Replaces}
+use Rattle.review_core_rules.specs.Seen.{vote_cmp}
+use Rattle.review_core_rules.specs.declared.rows.{AttentionEntry.AttentionEntry, CommentRow.CommentRow, Header.Header}
+use Rattle.review_core_rules.specs.declared.rows.{PatchRow.PatchRow, VoteKey.VoteKey}
 use Rattle.review_sql_records.specs.{Forms.where_is, Keyed.is_small, Keyed.is_number}
 use Rattle.review_sql_records.specs.Laws.{keyed_number, reads_text, at_number, both_are, numbers_exact, one_number, passed}
 use Rattle.review_sql_change_records.specs.Forms.{patches, votes, roles, comments, attention_entries, named, flag_number, flagged, answered, answers_number, is_answer, header_form, headers, patch_form, change_patches, role_form, change_roles, attention_form, change_attention, comment_form, change_comments, vote_key, vote_form, change_votes}
 use Rattle.review_sql_change_records.specs.Paths.{are_same, were_read, are_read_back, paths_in, paths_text}
 use Rattle.review_sql_tables.specs.Desk as table
+use Rattle.review_sql_tables.specs.declared.texts.TheConstants as texts
 use Rattle.review_names.specs.declared.kinds.ChangeKind.TheVariants as kind
-
--- ---- no two rows have one key
-
-pub patch_single : IsSingle patches
-patch_single db ready p = at_place 4 table.patches (patches.at p) refl refl refl (refl, (refl, tt)) db ready
-
-pub vote_single : IsSingle votes
-vote_single db ready p = at_place 5 table.votes (votes.at p) refl refl refl (refl, (refl, (refl, (refl, tt)))) db ready
-
-pub role_single : IsSingle roles
-role_single db ready p = at_place 6 table.reviewers (roles.at p) refl refl refl (refl, (refl, tt)) db ready
-
-pub comment_single : IsSingle comments
-comment_single db ready p = at_place 7 table.comments (comments.at p) refl refl refl (refl, (refl, tt)) db ready
-
-pub attention_single : IsSingle attention_entries
-attention_single db ready p = at_place 8 table.attention (attention_entries.at p) refl refl refl (refl, (refl, tt)) db ready
 
 -- ---- values
 
@@ -312,4 +301,70 @@ votes_of_change = record {
       (λ i. record { patch = patch i; label = label i; account = account i });
 }
 
--- ---- commits of patch sets
+-- ---- what the texts of the tables mean
+
+abbrev pub attention_table : Records (ℕ × ℕ) AttentionEntry
+attention_table = record {
+  writes = record { sets = Replaces; insert = texts.INSERT_ATTENTION.now; delete = texts.DELETE_ATTENTION.now };
+  search = attention_entries;
+  form = attention_form;
+  inserts = λ p x. insert_attention (pos p.0) (pos p.1) x.reason (pos x.request);
+  deletes = λ p. delete_attention (pos p.0) (pos p.1);
+  keeps = attention_lawful;
+  single = λ is db ready p. at_place 8 table.attention (attention_entries.at p) refl refl refl (refl, (refl, tt)) db ready;
+}
+
+abbrev pub comment_table : Records (ℕ × ℕ) CommentRow
+comment_table = record {
+  writes = record { sets = PutsIn; insert = texts.INSERT_COMMENT.now; delete = texts.DELETE_COMMENT.now };
+  search = comments;
+  form = comment_form;
+  inserts = λ p x. insert_comment (pos p.0) (pos p.1) (pos x.patch) x.path (pos x.line) (pos x.author) x.message (pos (flag_number x.unresolved)) (pos (answers_number x.answers)) (pos x.request);
+  deletes = λ p. delete_comment (pos p.0) (pos p.1);
+  keeps = comment_lawful;
+  single = λ is db ready p. at_place 7 table.comments (comments.at p) refl refl refl (refl, (refl, tt)) db ready;
+}
+
+abbrev pub header_table : Records ℕ Header
+header_table = record {
+  writes = record { sets = Replaces; insert = texts.INSERT_CHANGE.now; delete = texts.DELETE_CHANGE.now };
+  search = headers;
+  form = header_form;
+  inserts = λ number h. insert_change (pos number) h.project h.branch h.subject (pos h.owner) (state_name h.state) (pos (flag_number h.wip)) (pos h.place) (pos h.updated);
+  deletes = λ number. delete_change (pos number);
+  keeps = header_lawful;
+  single = λ is. absurd (cc);
+}
+
+abbrev pub patch_table : Records (ℕ × ℕ) PatchRow
+patch_table = record {
+  writes = record { sets = PutsIn; insert = texts.INSERT_PATCH.now; delete = texts.DELETE_PATCH.now };
+  search = patches;
+  form = patch_form;
+  inserts = λ p x. insert_patch (pos p.0) (pos p.1) x.commit x.parent (kind_name x.kind) (pos x.uploader) (paths_text x.paths);
+  deletes = λ p. delete_patch (pos p.0) (pos p.1);
+  keeps = patch_lawful;
+  single = λ is db ready p. at_place 4 table.patches (patches.at p) refl refl refl (refl, (refl, tt)) db ready;
+}
+
+abbrev pub role_table : Records (ℕ × ℕ) Role
+role_table = record {
+  writes = record { sets = Replaces; insert = texts.INSERT_REVIEWER.now; delete = texts.DELETE_REVIEWER.now };
+  search = roles;
+  form = role_form;
+  inserts = λ p x. insert_reviewer (pos p.0) (pos p.1) (role_name x);
+  deletes = λ p. delete_reviewer (pos p.0) (pos p.1);
+  keeps = role_lawful;
+  single = λ is db ready p. at_place 6 table.reviewers (roles.at p) refl refl refl (refl, (refl, tt)) db ready;
+}
+
+abbrev pub vote_table : Records (ℕ × VoteKey) ℤ
+vote_table = record {
+  writes = record { sets = Replaces; insert = texts.INSERT_VOTE.now; delete = texts.DELETE_VOTE.now };
+  search = votes;
+  form = vote_form;
+  inserts = λ p v. insert_vote (pos p.0) (pos p.1.patch) p.1.label (pos p.1.account) v;
+  deletes = λ p. delete_vote (pos p.0) (pos p.1.patch) p.1.label (pos p.1.account);
+  keeps = vote_lawful;
+  single = λ is db ready p. at_place 5 table.votes (votes.at p) refl refl refl (refl, (refl, (refl, (refl, tt)))) db ready;
+}

@@ -1,10 +1,14 @@
 //! The changes of a branch, by their places, and the branch of a change.
+ghost use Rattle.std.specs.Prelude.{pos};
+ghost use Rattle.review_sql_tables.proofs.TextsOfLookups.{find_change_at, find_change_branch};
+ghost use Rattle.review_sql_change_records.specs.Forms.{change_branches, changes_at};
+ghost use Rattle.review_sql_tables.specs.declared.texts.TheConstants as texts;
 
 use crate::values::change_at;
 use review_machine_rows::{BranchKey, PlaceKey};
 use review_sql_records::names::name_at;
 use review_sql_tables::bound::Bound;
-use review_sql_tables::table::Lookup;
+use review_sql_tables::table::{Lookup, Sql};
 use review_sql_tables::texts;
 use review_words::ChangeNo;
 use sqlite::{Error, Row};
@@ -14,22 +18,15 @@ use std::alloc::{AllocError, Global};
 pub struct ChangeAt;
 
 impl Lookup for ChangeAt {
-    ghost use Rattle.std.specs.Prelude.{pos};
-    ghost use Rattle.review_sql_tables.proofs.TextsOfLookups.{find_change_at};
-    ghost use Rattle.review_sql_tables.specs.declared.texts.TheConstants.{FIND_CHANGE_AT};
-    ghost use Rattle.review_sql_change_records.specs.Forms.{changes_at};
-
     type Key = PlaceKey;
 
     type Item = ChangeNo;
 
-    ghost sql = { FIND_CHANGE_AT.now };
+    const SQL: Sql = Sql(texts::FIND_CHANGE_AT);
+
+    ghost SQL = { texts.FIND_CHANGE_AT.now };
 
     ghost search = { changes_at };
-
-    fn text() -> &'static str {
-        texts::FIND_CHANGE_AT
-    }
 
     fn bind<'a>(key: &'a PlaceKey) -> Result<Bound<'a>, Error> {
         Bound::new()
@@ -49,22 +46,15 @@ impl Lookup for ChangeAt {
 pub struct ChangeBranches;
 
 impl Lookup for ChangeBranches {
-    ghost use Rattle.std.specs.Prelude.{pos};
-    ghost use Rattle.review_sql_tables.proofs.TextsOfLookups.{find_change_branch};
-    ghost use Rattle.review_sql_tables.specs.declared.texts.TheConstants.{FIND_CHANGE_BRANCH};
-    ghost use Rattle.review_sql_change_records.specs.Forms.{change_branches};
-
     type Key = ChangeNo;
 
     type Item = BranchKey;
 
-    ghost sql = { FIND_CHANGE_BRANCH.now };
+    const SQL: Sql = Sql(texts::FIND_CHANGE_BRANCH);
+
+    ghost SQL = { texts.FIND_CHANGE_BRANCH.now };
 
     ghost search = { change_branches };
-
-    fn text() -> &'static str {
-        texts::FIND_CHANGE_BRANCH
-    }
 
     fn bind<'a>(key: &'a ChangeNo) -> Result<Bound<'a>, Error> {
         Ok(Bound::new().number(key.get()))

@@ -1,4 +1,9 @@
 //! The comments of changes.
+ghost use Rattle.std.specs.Prelude.{pos};
+ghost use Rattle.review_sql_tables.proofs.TextsOfLookups.{find_comments};
+ghost use Rattle.review_sql_change_records.specs.Forms.{answers_number, change_comments, comments, flag_number};
+ghost use Rattle.review_sql_change_records.specs.Laws.{comment_table, comments_of_change};
+ghost use Rattle.review_sql_tables.specs.declared.texts.TheConstants as texts;
 
 use crate::values::{
     answers_at, answers_number, change_number, comment_at, comment_number, flag_at, flag_number,
@@ -9,7 +14,7 @@ use review_sql_records::names::{account_at, account_number, name_at, small, smal
 use review_sql_tables::bound::Bound;
 use review_sql_tables::columns::number_at;
 use review_sql_tables::fronts::Front;
-use review_sql_tables::table::{Lookup, Single, Table};
+use review_sql_tables::table::{Lookup, Record, Sets, Sql, Writes};
 use review_sql_tables::texts;
 use review_words::{ChangeNo, CommentNo};
 use sqlite::{Error, Row};
@@ -19,22 +24,15 @@ use std::alloc::{AllocError, Global};
 pub struct Comments;
 
 impl Lookup for Comments {
-    ghost use Rattle.std.specs.Prelude.{pos};
-    ghost use Rattle.review_sql_tables.proofs.TextsOfLookups.{find_comments};
-    ghost use Rattle.review_sql_tables.specs.declared.texts.TheConstants.{FIND_COMMENTS};
-    ghost use Rattle.review_sql_change_records.specs.Forms.{change_comments};
-
     type Key = ChangeNo;
 
     type Item = (CommentNo, Comment);
 
-    ghost sql = { FIND_COMMENTS.now };
+    const SQL: Sql = Sql(texts::FIND_COMMENTS);
+
+    ghost SQL = { texts.FIND_COMMENTS.now };
 
     ghost search = { change_comments };
-
-    fn text() -> &'static str {
-        texts::FIND_COMMENTS
-    }
 
     fn bind<'a>(key: &'a ChangeNo) -> Result<Bound<'a>, Error> {
         Ok(Bound::new().number(key.get()))
@@ -78,8 +76,6 @@ impl Lookup for Comments {
 }
 
 impl Front for Comments {
-    ghost use Rattle.review_sql_change_records.specs.{Forms.comments, Laws.comments_of_change};
-
     type Part = CommentNo;
 
     type Rest = Comment;
@@ -89,31 +85,15 @@ impl Front for Comments {
     ghost lawful = { comments_of_change };
 }
 
-impl Table for Comments {
-    ghost use Rattle.std.specs.Prelude.{pos};
-    ghost use Rattle.review_sql_tables.proofs.TextsOfChanges.{insert_comment, delete_comment};
-    ghost use Rattle.review_sql_tables.specs.declared.texts.TheConstants.{INSERT_COMMENT, DELETE_COMMENT};
-    ghost use Rattle.review_sql_change_records.specs.Forms.{flag_number, answers_number, comments, comment_form};
-    ghost use Rattle.review_sql_change_records.specs.Laws.{comment_lawful};
-
+impl Record for Comments {
     type Key = (ChangeNo, CommentNo);
 
     type Item = Comment;
 
-    ghost insert_sql = { INSERT_COMMENT.now };
+    ghost table = { comment_table };
 
-    ghost delete_sql = { DELETE_COMMENT.now };
-
-    ghost search = { comments };
-
-    ghost form = { comment_form };
-
-    fn insert_text() -> &'static str {
-        texts::INSERT_COMMENT
-    }
-
-    fn delete_text() -> &'static str {
-        texts::DELETE_COMMENT
+    fn writes() -> Writes {
+        Writes(Sets::PutsIn, texts::INSERT_COMMENT, texts::DELETE_COMMENT)
     }
 
     fn bind_key<'a>(key: &'a (ChangeNo, CommentNo)) -> Result<Bound<'a>, Error> {
@@ -138,21 +118,5 @@ impl Table for Comments {
             .number(flag_number(row.unresolved))
             .number(answers_number(row.answers))
             .large(row.request)
-    }
-
-    ghost inserts = { λ p x. insert_comment (pos p.0) (pos p.1) (pos x.patch) x.path (pos x.line) (pos x.author) x.message (pos (flag_number x.unresolved)) (pos (answers_number x.answers)) (pos x.request) };
-
-    ghost deletes = { λ p. delete_comment (pos p.0) (pos p.1) };
-
-    ghost lawful = { comment_lawful };
-}
-
-impl Single for Comments {
-    ghost use Rattle.review_sql_change_records.specs.Laws.{comment_single};
-
-    ghost single = { comment_single };
-
-    fn replaces() -> bool {
-        false
     }
 }

@@ -1,4 +1,11 @@
 //! The headers of changes.
+ghost use Rattle.std.specs.Prelude.{IfErr, IfOk, OnOk, pos, true, ◌≡◌, ◌≤◌, ◌^◌};
+ghost use Rattle.review_words.specs.States.{state_name};
+ghost use Rattle.review_sql_tables.proofs.TextsOfChanges.{update_change};
+ghost use Rattle.review_sql_tables.proofs.TextsOfLookups.{find_change, find_last_change, find_last_joined};
+ghost use Rattle.review_sql_change_records.specs.Forms.{change_numbers, change_places, flag_number, header_form, headers};
+ghost use Rattle.review_sql_change_records.specs.Laws.{header_table};
+ghost use Rattle.review_sql_tables.specs.declared.texts.TheConstants as texts;
 
 use crate::values::{change_at, change_number, flag_at, flag_number, state_at};
 use review_core_rules::Header;
@@ -7,7 +14,7 @@ use review_sql_records::names::{account_at, account_number, name_at, small, smal
 use review_sql_tables::bound::Bound;
 use review_sql_tables::columns::number_at;
 use review_sql_tables::greatest::Greatest;
-use review_sql_tables::table::{Lookup, Rewritten, Table};
+use review_sql_tables::table::{Lookup, Record, Rewritten, Sets, Sql, Writes};
 use review_sql_tables::texts;
 use review_words::ChangeNo;
 use sqlite::{Error, Row};
@@ -17,22 +24,15 @@ use std::alloc::{AllocError, Global};
 pub struct Headers;
 
 impl Lookup for Headers {
-    ghost use Rattle.std.specs.Prelude.{pos};
-    ghost use Rattle.review_sql_tables.proofs.TextsOfLookups.{find_change};
-    ghost use Rattle.review_sql_tables.specs.declared.texts.TheConstants.{FIND_CHANGE};
-    ghost use Rattle.review_sql_change_records.specs.Forms.{headers};
-
     type Key = ChangeNo;
 
     type Item = Header;
 
-    ghost sql = { FIND_CHANGE.now };
+    const SQL: Sql = Sql(texts::FIND_CHANGE);
+
+    ghost SQL = { texts.FIND_CHANGE.now };
 
     ghost search = { headers };
-
-    fn text() -> &'static str {
-        texts::FIND_CHANGE
-    }
 
     fn bind<'a>(key: &'a ChangeNo) -> Result<Bound<'a>, Error> {
         Ok(Bound::new().number(key.get()))
@@ -73,32 +73,15 @@ impl Lookup for Headers {
     ghost asks = { λ number. find_change (pos number) };
 }
 
-impl Table for Headers {
-    ghost use Rattle.std.specs.Prelude.{◌≡◌, ◌≤◌, ◌^◌, true, pos, IfErr, IfOk, OnOk};
-    ghost use Rattle.review_words.specs.States.{state_name};
-    ghost use Rattle.review_sql_tables.proofs.TextsOfChanges.{insert_change, delete_change};
-    ghost use Rattle.review_sql_tables.specs.declared.texts.TheConstants.{INSERT_CHANGE, DELETE_CHANGE};
-    ghost use Rattle.review_sql_change_records.specs.Forms.{flag_number, headers, header_form};
-    ghost use Rattle.review_sql_change_records.specs.Laws.{header_lawful};
-
+impl Record for Headers {
     type Key = ChangeNo;
 
     type Item = Header;
 
-    ghost insert_sql = { INSERT_CHANGE.now };
+    ghost table = { header_table };
 
-    ghost delete_sql = { DELETE_CHANGE.now };
-
-    ghost search = { headers };
-
-    ghost form = { header_form };
-
-    fn insert_text() -> &'static str {
-        texts::INSERT_CHANGE
-    }
-
-    fn delete_text() -> &'static str {
-        texts::DELETE_CHANGE
+    fn writes() -> Writes {
+        Writes(Sets::Replaces, texts::INSERT_CHANGE, texts::DELETE_CHANGE)
     }
 
     fn bind_key<'a>(key: &'a ChangeNo) -> Result<Bound<'a>, Error> {
@@ -130,26 +113,12 @@ impl Table for Headers {
                 .large(row.updated)?,
         )
     }
-
-    ghost inserts = { λ number h. insert_change (pos number) h.project h.branch h.subject (pos h.owner) (state_name h.state) (pos (flag_number h.wip)) (pos h.place) (pos h.updated) };
-
-    ghost deletes = { λ number. delete_change (pos number) };
-
-    ghost lawful = { header_lawful };
 }
 
 impl Rewritten for Headers {
-    ghost use Rattle.std.specs.Prelude.{pos};
-    ghost use Rattle.review_words.specs.States.{state_name};
-    ghost use Rattle.review_sql_tables.proofs.TextsOfChanges.{update_change};
-    ghost use Rattle.review_sql_tables.specs.declared.texts.TheConstants.{UPDATE_CHANGE};
-    ghost use Rattle.review_sql_change_records.specs.Forms.{flag_number};
+    const UPDATE: Sql = Sql(texts::UPDATE_CHANGE);
 
-    ghost update_sql = { UPDATE_CHANGE.now };
-
-    fn update_text() -> &'static str {
-        texts::UPDATE_CHANGE
-    }
+    ghost UPDATE = { texts.UPDATE_CHANGE.now };
 
     ghost updates = { λ number h. update_change (pos number) h.project h.branch h.subject (pos h.owner) (state_name h.state) (pos (flag_number h.wip)) (pos h.place) (pos h.updated) };
 }
@@ -158,23 +127,17 @@ impl Rewritten for Headers {
 pub struct LastChange;
 
 impl Greatest for LastChange {
-    ghost use Rattle.review_sql_tables.proofs.TextsOfLookups.{find_last_change};
-    ghost use Rattle.review_sql_tables.specs.declared.texts.TheConstants.{FIND_LAST_CHANGE};
-    ghost use Rattle.review_sql_change_records.specs.Forms.{change_numbers};
-
     type Key = ();
 
     type Item = u64;
 
-    ghost sql = { FIND_LAST_CHANGE.now };
+    const SQL: Sql = Sql(texts::FIND_LAST_CHANGE);
+
+    ghost SQL = { texts.FIND_LAST_CHANGE.now };
 
     ghost search = { change_numbers };
 
     ghost place = { 0 };
-
-    fn text() -> &'static str {
-        texts::FIND_LAST_CHANGE
-    }
 
     fn bind<'a>(_key: &'a ()) -> Result<Bound<'a>, Error> {
         Ok(Bound::new())
@@ -191,37 +154,25 @@ impl Greatest for LastChange {
 pub struct LastJoined;
 
 impl Greatest for LastJoined {
-    ghost use Rattle.review_sql_tables.proofs.TextsOfLookups.{find_last_joined};
-    ghost use Rattle.review_sql_tables.specs.declared.texts.TheConstants.{FIND_LAST_JOINED};
-    ghost use Rattle.review_sql_change_records.specs.Forms.{change_places};
-
     type Key = BranchKey;
 
     type Item = (ChangeNo, u32);
 
-    ghost sql = { FIND_LAST_JOINED.now };
+    const SQL: Sql = Sql(texts::FIND_LAST_JOINED);
+
+    ghost SQL = { texts.FIND_LAST_JOINED.now };
 
     ghost search = { change_places };
 
     ghost place = { 8 };
 
-    fn text() -> &'static str {
-        texts::FIND_LAST_JOINED
-    }
-
     fn bind<'a>(key: &'a BranchKey) -> Result<Bound<'a>, Error> {
-        Ok(
-            Bound::new()
-                .text(key.project.as_str())
-                .text(key.branch.as_str()),
-        )
+        let values = Bound::new().text(key.project.as_str());
+        Ok(values.text(key.branch.as_str()))
     }
 
     fn read(_alloc: Global, row: &Row) -> Result<Option<(ChangeNo, u32)>, AllocError> {
-        let (Some(change), Some(place)) = (change_at(row, 0), small_at(row, 1)) else {
-            return Ok(None);
-        };
-        Ok(Some((change, place)))
+        Ok(change_at(row, 0).zip(small_at(row, 1)))
     }
 
     ghost asks = { λ b. find_last_joined b.project b.branch };

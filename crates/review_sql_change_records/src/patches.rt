@@ -1,7 +1,10 @@
 //! The patch sets of changes.
-ghost use Rattle.std.specs.Prelude.{◌≡◌, ◌≤◌, ◌+◌, IfOk};
+ghost use Rattle.std.specs.Prelude.{pos, ◌≡◌, ◌≤◌, ◌+◌, IfOk};
 ghost use Rattle.sqlite_value.specs.Order.{column};
-ghost use Rattle.review_sql_change_records.specs.Forms.{patch_in};
+ghost use Rattle.review_sql_tables.proofs.TextsOfLookups.{find_last_patch, find_patch, find_patches};
+ghost use Rattle.review_sql_change_records.specs.Forms.{change_patches, patch_numbers, patches, patch_in};
+ghost use Rattle.review_sql_change_records.specs.{Laws.patch_table, Laws.patches_of_change, Paths.paths_text};
+ghost use Rattle.review_sql_tables.specs.declared.texts.TheConstants as texts;
 
 use crate::paths::{is_read_back, paths_text, read_paths};
 use crate::values::{change_number, kind_at, patch_at, patch_number};
@@ -11,7 +14,7 @@ use review_sql_tables::bound::Bound;
 use review_sql_tables::columns::text_at;
 use review_sql_tables::fronts::Front;
 use review_sql_tables::greatest::Greatest;
-use review_sql_tables::table::{Lookup, Single, Table};
+use review_sql_tables::table::{Lookup, Record, Sets, Sql, Writes};
 use review_sql_tables::texts;
 use review_words::{ChangeNo, PatchNo};
 use sqlite::{Error, Row};
@@ -51,21 +54,15 @@ fn read_patch(alloc: Global, row: &Row, from: usize) -> Result<Option<PatchRow>,
 pub struct PatchSets;
 
 impl Lookup for PatchSets {
-    ghost use Rattle.std.specs.Prelude.{pos};
-    ghost use Rattle.review_sql_tables.{proofs.TextsOfLookups.find_patch, specs.declared.texts.TheConstants.FIND_PATCH};
-    ghost use Rattle.review_sql_change_records.specs.Forms.{patches};
-
     type Key = (ChangeNo, PatchNo);
 
     type Item = PatchRow;
 
-    ghost sql = { FIND_PATCH.now };
+    const SQL: Sql = Sql(texts::FIND_PATCH);
+
+    ghost SQL = { texts.FIND_PATCH.now };
 
     ghost search = { patches };
-
-    fn text() -> &'static str {
-        texts::FIND_PATCH
-    }
 
     fn bind<'a>(key: &'a (ChangeNo, PatchNo)) -> Result<Bound<'a>, Error> {
         Ok(Bound::new().number(key.0.get()).number(key.1.get()))
@@ -82,24 +79,17 @@ impl Lookup for PatchSets {
 pub struct LastPatch;
 
 impl Greatest for LastPatch {
-    ghost use Rattle.std.specs.Prelude.{pos};
-    ghost use Rattle.review_sql_tables.proofs.TextsOfLookups.{find_last_patch};
-    ghost use Rattle.review_sql_tables.specs.declared.texts.TheConstants.{FIND_LAST_PATCH};
-    ghost use Rattle.review_sql_change_records.specs.Forms.{patch_numbers};
-
     type Key = ChangeNo;
 
     type Item = PatchNo;
 
-    ghost sql = { FIND_LAST_PATCH.now };
+    const SQL: Sql = Sql(texts::FIND_LAST_PATCH);
+
+    ghost SQL = { texts.FIND_LAST_PATCH.now };
 
     ghost search = { patch_numbers };
 
     ghost place = { 2 };
-
-    fn text() -> &'static str {
-        texts::FIND_LAST_PATCH
-    }
 
     fn bind<'a>(key: &'a ChangeNo) -> Result<Bound<'a>, Error> {
         Ok(Bound::new().number(key.get()))
@@ -116,43 +106,28 @@ impl Greatest for LastPatch {
 pub struct Patches;
 
 impl Lookup for Patches {
-    ghost use Rattle.std.specs.Prelude.{pos};
-    ghost use Rattle.review_sql_tables.proofs.TextsOfLookups.{find_patches};
-    ghost use Rattle.review_sql_tables.specs.declared.texts.TheConstants.{FIND_PATCHES};
-    ghost use Rattle.review_sql_change_records.specs.Forms.{change_patches};
-
     type Key = ChangeNo;
 
     type Item = (PatchNo, PatchRow);
 
-    ghost sql = { FIND_PATCHES.now };
+    const SQL: Sql = Sql(texts::FIND_PATCHES);
+
+    ghost SQL = { texts.FIND_PATCHES.now };
 
     ghost search = { change_patches };
-
-    fn text() -> &'static str {
-        texts::FIND_PATCHES
-    }
 
     fn bind<'a>(key: &'a ChangeNo) -> Result<Bound<'a>, Error> {
         Ok(Bound::new().number(key.get()))
     }
 
     fn read(alloc: Global, row: &Row) -> Result<Option<(PatchNo, PatchRow)>, AllocError> {
-        let Some(patch) = read_patch(alloc, row, 1)? else {
-            return Ok(None);
-        };
-        let Some(number) = patch_at(row, 0) else {
-            return Ok(None);
-        };
-        Ok(Some((number, patch)))
+        Ok(patch_at(row, 0).zip(read_patch(alloc, row, 1)?))
     }
 
     ghost asks = { λ change. find_patches (pos change) };
 }
 
 impl Front for Patches {
-    ghost use Rattle.review_sql_change_records.specs.{Forms.patches, Laws.patches_of_change};
-
     type Part = PatchNo;
 
     type Rest = PatchRow;
@@ -162,32 +137,15 @@ impl Front for Patches {
     ghost lawful = { patches_of_change };
 }
 
-impl Table for Patches {
-    ghost use Rattle.std.specs.Prelude.{pos};
-    ghost use Rattle.review_names.specs.Kinds.{kind_name};
-    ghost use Rattle.review_sql_tables.proofs.TextsOfChanges.{insert_patch, delete_patch};
-    ghost use Rattle.review_sql_tables.specs.declared.texts.TheConstants.{INSERT_PATCH, DELETE_PATCH};
-    ghost use Rattle.review_sql_change_records.specs.Forms.{patches, patch_form};
-    ghost use Rattle.review_sql_change_records.specs.{Laws.patch_lawful, Paths.paths_text};
-
+impl Record for Patches {
     type Key = (ChangeNo, PatchNo);
 
     type Item = PatchRow;
 
-    ghost insert_sql = { INSERT_PATCH.now };
+    ghost table = { patch_table };
 
-    ghost delete_sql = { DELETE_PATCH.now };
-
-    ghost search = { patches };
-
-    ghost form = { patch_form };
-
-    fn insert_text() -> &'static str {
-        texts::INSERT_PATCH
-    }
-
-    fn delete_text() -> &'static str {
-        texts::DELETE_PATCH
+    fn writes() -> Writes {
+        Writes(Sets::PutsIn, texts::INSERT_PATCH, texts::DELETE_PATCH)
     }
 
     fn bind_key<'a>(key: &'a (ChangeNo, PatchNo)) -> Result<Bound<'a>, Error> {
@@ -215,21 +173,5 @@ impl Table for Patches {
                 .number(account_number(row.uploader))
                 .text(buffer.as_str()),
         )
-    }
-
-    ghost inserts = { λ p x. insert_patch (pos p.0) (pos p.1) x.commit x.parent (kind_name x.kind) (pos x.uploader) (paths_text x.paths) };
-
-    ghost deletes = { λ p. delete_patch (pos p.0) (pos p.1) };
-
-    ghost lawful = { patch_lawful };
-}
-
-impl Single for Patches {
-    ghost use Rattle.review_sql_change_records.specs.Laws.{patch_single};
-
-    ghost single = { patch_single };
-
-    fn replaces() -> bool {
-        false
     }
 }

@@ -1,8 +1,11 @@
 //! The patch sets that have a commit.
+ghost use Rattle.review_sql_tables.proofs.TextsOfLookups.{find_sent};
+ghost use Rattle.review_sql_change_records.specs.Forms.{sent};
+ghost use Rattle.review_sql_tables.specs.declared.texts.TheConstants as texts;
 
 use crate::values::{change_at, patch_at};
 use review_sql_tables::bound::Bound;
-use review_sql_tables::table::Lookup;
+use review_sql_tables::table::{Lookup, Sql};
 use review_sql_tables::texts;
 use review_words::{ChangeNo, CommitName, PatchNo};
 use sqlite::{Error, Row};
@@ -12,30 +15,22 @@ use std::alloc::{AllocError, Global};
 pub struct Sent;
 
 impl Lookup for Sent {
-    ghost use Rattle.review_sql_tables.{proofs.TextsOfLookups.find_sent, specs.declared.texts.TheConstants.FIND_SENT};
-    ghost use Rattle.review_sql_change_records.specs.Forms.{sent};
-
     type Key = CommitName;
 
     type Item = (ChangeNo, PatchNo);
 
-    ghost sql = { FIND_SENT.now };
+    const SQL: Sql = Sql(texts::FIND_SENT);
+
+    ghost SQL = { texts.FIND_SENT.now };
 
     ghost search = { sent };
-
-    fn text() -> &'static str {
-        texts::FIND_SENT
-    }
 
     fn bind<'a>(key: &'a CommitName) -> Result<Bound<'a>, Error> {
         Ok(Bound::new().text(key.as_str()))
     }
 
     fn read(_alloc: Global, row: &Row) -> Result<Option<(ChangeNo, PatchNo)>, AllocError> {
-        let (Some(change), Some(patch)) = (change_at(row, 0), patch_at(row, 1)) else {
-            return Ok(None);
-        };
-        Ok(Some((change, patch)))
+        Ok(change_at(row, 0).zip(patch_at(row, 1)))
     }
 
     ghost asks = { find_sent };

@@ -2,7 +2,8 @@
 //! of accounts, groups, projects and branches.
 //!
 //! A look-up ends in one of three ways: found, no memory, or damage, where a row doesn't read or doesn't fit ([`Sight`]). One by a row of a
-//! table is an `impl` of [`told::Told`] on that table's record: `find_told::<Accounts, S>` finds the name of an account.
+//! table is an `impl` of [`told::Told`] on that table's record: `find_told::<Accounts, S>` finds the name of an account. Where the table
+//! `accounts` has the row `2 | ann`, account 2 is found to have the name `ann`. Where it has `2 | a b`, which is no name, that is damage.
 //!
 //! - **Proved**: a look-up finds what the tables have, and tells a row that doesn't read as damage.
 //! - **Assumed**: nothing beyond the kit.

@@ -13,6 +13,7 @@ use Rattle.review_machine_rows.specs.declared.rows.{PlaceKey.PlaceKey, StoredFil
 use Rattle.review_sql_records.specs.Keyed.{is_small, account_keyed, member_keyed, project_keyed, base_keyed, answer_keyed, earlier_answer_keyed}
 use Rattle.review_sql_records.specs.declared.rows.{Answered.Answered, DeskRow.DeskRow, RequestKey.RequestKey}
 use Rattle.review_sql_tables.specs.Desk as table
+pub use Rattle.std.specs.Option.{option_zip as both}
 pub use Rattle.review_sql_records.specs.Keyed.{where_is}
 
 -- ---- accounts
@@ -130,12 +131,6 @@ base_commits = record {
 -- the commit of a base, with the place as the rest of a key that begins with the branch
 abbrev pub base_parts : Search (BranchKey × ℕ) (List ℕ)
 base_parts = record { tree = table.bases.tree; keyed = base_keyed; at = λ p. bases.at (record { project = p.0.project; branch = p.0.branch; place = p.1 }); columns = bases.columns; read = bases.read }
-
--- two things, where both are there
-abbrev pub both : {X Y : Type 0} → Option X → Option Y → Option (X × Y)
-both None y = None
-both (Some x) None = None
-both (Some x) (Some y) = Some (x, y)
 
 -- the bases of a branch
 abbrev pub branch_bases : Search BranchKey (ℕ × List ℕ)

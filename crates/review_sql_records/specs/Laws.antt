@@ -10,11 +10,16 @@ use Rattle.review_names.specs.Forms.{is_commit, is_slashed_name, is_step}
 use Rattle.review_names.specs.Names.{is_word, is_account_number}
 use Rattle.review_sql_tables.proofs.Keys.{equal_is, int_is, itself, same_int, same_text, text_is}
 use Rattle.review_sql_tables.proofs.Single.{at_place, by_rowid}
+use Rattle.review_sql_tables.proofs.TextsOfChanges.{delete_account, delete_answer, delete_base, delete_desk, delete_epochs, delete_member, delete_project, insert_account, insert_answer, insert_base, insert_desk, insert_epochs, insert_member, insert_project}
 use Rattle.review_sql_tables.specs.Columns.{number_in, text_in}
-use Rattle.review_sql_tables.specs.{Content.is_value, Fronts.IsExact, Fronts.IsFront, Search.IsLawful, Single.IsSingle}
+use Rattle.review_sql_tables.specs.{Content.is_value, Fronts.IsExact, Fronts.IsFront, Record.Records, Search.IsLawful}
+use Rattle.review_sql_tables.specs.declared.table.Sets.TheVariants.{PutsIn, Replaces}
+use Rattle.review_machine_rows.specs.declared.rows.{MemberKey.MemberKey, PlaceKey.PlaceKey, StoredFile.StoredFile}
 use Rattle.review_sql_records.specs.Forms.{where_is, alone, both, member_parts, group_members, base_parts, branch_bases, accounts, account_form, members, member_form, projects, project_form, stored_parent, parent_text, is_parent, stored_file, bases, base_form, answers, answer_form, epochs, epochs_form, desk, desk_form}
 use Rattle.review_sql_records.specs.Keyed.{is_natural, is_number, is_small, is_text}
+use Rattle.review_sql_records.specs.declared.rows.{Answered.Answered, DeskRow.DeskRow, RequestKey.RequestKey}
 use Rattle.review_sql_tables.specs.Desk as table
+use Rattle.review_sql_tables.specs.declared.texts.TheConstants as texts
 
 -- a value that has a number of a kind is one of that kind
 pub keyed_number : (test : ℕ → Bool) (v : Value) (n : ℕ) → test n ≡ true → is_value v (Int (pos n)) ≡ true → is_number test v ≡ true
@@ -127,22 +132,84 @@ epochs_lawful = record { keyed = λ u least id. refl; reads_back = λ u least id
 pub desk_lawful : IsLawful desk desk_form
 desk_lawful = record { keyed = λ u d id. refl; reads_back = λ u d id good. refl; exact = λ a b r p q. refl; known = λ u r formed has. refl }
 
--- ---- no two rows have one key
+-- ---- what the texts of the tables mean
 
-pub account_single : IsSingle accounts
-account_single db ready number = by_rowid table.accounts.tree (pos number) refl db ready
+abbrev pub account_table : Records ℕ (List ℕ)
+account_table = record {
+  writes = record { sets = PutsIn; insert = texts.INSERT_ACCOUNT.now; delete = texts.DELETE_ACCOUNT.now };
+  search = accounts;
+  form = account_form;
+  inserts = λ number name. insert_account (pos number) name;
+  deletes = λ number. delete_account (pos number);
+  keeps = account_lawful;
+  single = λ is db ready number. by_rowid table.accounts.tree (pos number) refl db ready;
+}
 
-pub member_single : IsSingle members
-member_single db ready m = at_place 1 table.members (members.at m) refl refl refl (refl, (refl, tt)) db ready
+abbrev pub answer_table : Records RequestKey Answered
+answer_table = record {
+  writes = record { sets = PutsIn; insert = texts.INSERT_ANSWER.now; delete = texts.DELETE_ANSWER.now };
+  search = answers;
+  form = answer_form;
+  inserts = λ i a. insert_answer (pos i.caller) (pos i.epoch) i.id (pos a.request) a.content a.reply;
+  deletes = λ i. delete_answer (pos i.caller) (pos i.epoch) i.id;
+  keeps = answer_lawful;
+  single = λ is db ready i. at_place 11 table.answers_3 (answers.at i) refl refl refl (refl, (refl, (refl, tt))) db ready;
+}
 
-pub base_single : IsSingle bases
-base_single db ready b = at_place 2 table.bases (bases.at b) refl refl refl (refl, (refl, (refl, tt))) db ready
+abbrev pub base_table : Records PlaceKey (List ℕ)
+base_table = record {
+  writes = record { sets = PutsIn; insert = texts.INSERT_BASE.now; delete = texts.DELETE_BASE.now };
+  search = bases;
+  form = base_form;
+  inserts = λ b commit. insert_base b.project b.branch (pos b.place) commit;
+  deletes = λ b. delete_base b.project b.branch (pos b.place);
+  keeps = base_lawful;
+  single = λ is db ready b. at_place 2 table.bases (bases.at b) refl refl refl (refl, (refl, (refl, tt))) db ready;
+}
 
-pub project_single : IsSingle projects
-project_single db ready project = at_place 10 table.projects_2 (projects.at project) refl refl refl (refl, tt) db ready
+abbrev pub desk_table : Records (Unit {0}) DeskRow
+desk_table = record {
+  writes = record { sets = Replaces; insert = texts.INSERT_DESK.now; delete = texts.DELETE_DESK.now };
+  search = desk;
+  form = desk_form;
+  inserts = λ _ d. insert_desk (pos d.version) (pos d.requests);
+  deletes = λ _. delete_desk;
+  keeps = desk_lawful;
+  single = λ is. absurd (cc);
+}
 
-pub answer_single : IsSingle answers
-answer_single db ready i = at_place 11 table.answers_3 (answers.at i) refl refl refl (refl, (refl, (refl, tt))) db ready
+abbrev pub epochs_table : Records (Unit {0}) ℕ
+epochs_table = record {
+  writes = record { sets = Replaces; insert = texts.INSERT_EPOCHS.now; delete = texts.DELETE_EPOCHS.now };
+  search = epochs;
+  form = epochs_form;
+  inserts = λ _ least. insert_epochs (pos least);
+  deletes = λ _. delete_epochs;
+  keeps = epochs_lawful;
+  single = λ is. absurd (cc);
+}
+
+abbrev pub member_table : Records MemberKey (Unit {0})
+member_table = record {
+  writes = record { sets = PutsIn; insert = texts.INSERT_MEMBER.now; delete = texts.DELETE_MEMBER.now };
+  search = members;
+  form = member_form;
+  inserts = λ m row. insert_member m.group (pos m.account);
+  deletes = λ m. delete_member m.group (pos m.account);
+  keeps = member_lawful;
+  single = λ is db ready m. at_place 1 table.members (members.at m) refl refl refl (refl, (refl, tt)) db ready;
+}
+
+abbrev pub project_table : Records (List ℕ) StoredFile
+project_table = record {
+  writes = record { sets = Replaces; insert = texts.INSERT_PROJECT.now; delete = texts.DELETE_PROJECT.now };
+  search = projects;
+  form = project_form;
+  inserts = λ project file. insert_project project file.text (parent_text file.parent);
+  deletes = delete_project;
+  keeps = project_lawful;
+  single = λ is db ready project. at_place 10 table.projects_2 (projects.at project) refl refl refl (refl, tt) db ready;
+}
 
 -- ---- the rows of an owner
 

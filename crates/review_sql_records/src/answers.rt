@@ -1,9 +1,12 @@
 //! The stored requests.
-ghost use Rattle.std.specs.Prelude.{◌≡◌, Some};
+ghost use Rattle.std.specs.Prelude.{pos, ◌≡◌, Some};
 ghost use Rattle.sqlite.specs.Held.{state};
+ghost use Rattle.review_sql_tables.proofs.TextsOfLookups.{find_answer};
 ghost use Rattle.review_sql_tables.specs.{Content.RemovesWhere, Ran.Inside, Ran.Opens, Search.SetsRow};
 ghost use Rattle.review_machine_rows.specs.Rows.{kept_row};
 ghost use Rattle.review_sql_records.specs.Forms.{answers, is_of_lower, kept_answer, request_key};
+ghost use Rattle.review_sql_records.specs.Laws.{answer_table};
+ghost use Rattle.review_sql_tables.specs.declared.texts.TheConstants as texts;
 
 use crate::names::{account_number, epoch_number};
 use crate::rows::{Answered, RequestKey, Text};
@@ -11,7 +14,7 @@ use review_machine_rows::Kept;
 use review_sql_tables::bound::Bound;
 use review_sql_tables::changes::set;
 use review_sql_tables::columns::{number_at, text_at};
-use review_sql_tables::table::{Lookup, Single, Table};
+use review_sql_tables::table::{Lookup, Record, Sets, Sql, Writes};
 use review_sql_tables::texts;
 use review_words::Epoch;
 use sqlite::{Alter, Error, Row, Transaction};
@@ -22,22 +25,15 @@ use std::marker::Model;
 pub struct Answers;
 
 impl Lookup for Answers {
-    ghost use Rattle.std.specs.Prelude.{pos};
-    ghost use Rattle.review_sql_tables.proofs.TextsOfLookups.{find_answer};
-    ghost use Rattle.review_sql_tables.specs.declared.texts.TheConstants.{FIND_ANSWER};
-    ghost use Rattle.review_sql_records.specs.Forms.{answers};
-
     type Key = RequestKey;
 
     type Item = Answered;
 
-    ghost sql = { FIND_ANSWER.now };
+    const SQL: Sql = Sql(texts::FIND_ANSWER);
+
+    ghost SQL = { texts.FIND_ANSWER.now };
 
     ghost search = { answers };
-
-    fn text() -> &'static str {
-        texts::FIND_ANSWER
-    }
 
     fn bind<'a>(key: &'a RequestKey) -> Result<Bound<'a>, Error> {
         let values = Bound::new()
@@ -94,34 +90,17 @@ impl<'k> Model for KeptAnswer<'k> {
 }
 
 // Requests are put in as they are, and none of their texts is copied.
-impl<'k> Table for KeptAnswer<'k> {
-    ghost use Rattle.std.specs.Prelude.{◌≡◌, pos};
-    ghost use Rattle.review_sql_tables.proofs.TextsOfChanges.{insert_answer, delete_answer};
-    ghost use Rattle.review_sql_tables.specs.declared.texts.TheConstants.{INSERT_ANSWER, DELETE_ANSWER};
-    ghost use Rattle.review_sql_records.specs.{Forms.answers, Forms.answer_form, Laws.answer_lawful};
-
+impl<'k> Record for KeptAnswer<'k> {
     type Key = KeptKey<'k>;
 
     type Item = KeptAnswer<'k>;
 
-    ghost insert_sql = { INSERT_ANSWER.now };
+    ghost table = { answer_table };
 
-    ghost delete_sql = { DELETE_ANSWER.now };
-
-    ghost search = { answers };
-
-    ghost form = { answer_form };
-
-    fn insert_text() -> &'static str
-        ensures { result.now ≡ INSERT_ANSWER.now }
+    fn writes() -> Writes
+        ensures { result ≡ answer_table.writes }
     {
-        texts::INSERT_ANSWER
-    }
-
-    fn delete_text() -> &'static str
-        ensures { result.now ≡ DELETE_ANSWER.now }
-    {
-        texts::DELETE_ANSWER
+        Writes(Sets::PutsIn, texts::INSERT_ANSWER, texts::DELETE_ANSWER)
     }
 
     fn bind_key<'a>(key: &'a KeptKey<'k>) -> Result<Bound<'a>, Error> {
@@ -143,22 +122,6 @@ impl<'k> Table for KeptAnswer<'k> {
         let kept = row.kept;
         let values = KeptAnswer::bind_key(key)?.large(kept.request)?;
         Ok(values.text(kept.content.as_str()).text(kept.reply.as_str()))
-    }
-
-    ghost inserts = { λ i a. insert_answer (pos i.caller) (pos i.epoch) i.id (pos a.request) a.content a.reply };
-
-    ghost deletes = { λ i. delete_answer (pos i.caller) (pos i.epoch) i.id };
-
-    ghost lawful = { answer_lawful };
-}
-
-impl<'k> Single for KeptAnswer<'k> {
-    ghost use Rattle.review_sql_records.specs.Laws.{answer_single};
-
-    ghost single = { answer_single };
-
-    fn replaces() -> bool {
-        false
     }
 }
 

@@ -1,8 +1,12 @@
 //! The bases of branches, by their places.
-ghost use Rattle.std.specs.Prelude.{◌≡◌, ◌∷◌, [], length, Some};
+ghost use Rattle.std.specs.Prelude.{pos, ◌≡◌, ◌∷◌, [], length, Some};
 ghost use Rattle.sqlite.specs.Held.{state};
 ghost use Rattle.sqlite_value.specs.declared.value.Value.TheVariants.{Text};
+ghost use Rattle.review_sql_tables.proofs.TextsOfLookups.{find_base, find_base_commit, find_branch, find_last_place};
 ghost use Rattle.review_sql_tables.specs.{Greatest.as_counted, Ran.Looks, Search.rows_at, inner.Words.ShowsCount};
+ghost use Rattle.review_sql_records.specs.Forms.{base_commits, base_parts, base_places, bases, branch_bases};
+ghost use Rattle.review_sql_records.specs.Laws.{base_table, bases_of_branch};
+ghost use Rattle.review_sql_tables.specs.declared.texts.TheConstants as texts;
 ghost use Rattle.review_sql_tables.specs.Desk as table;
 
 use crate::counted::read_count;
@@ -13,7 +17,7 @@ use review_sql_tables::bound::Bound;
 use review_sql_tables::columns::number_at;
 use review_sql_tables::fronts::Front;
 use review_sql_tables::greatest::Greatest;
-use review_sql_tables::table::{Lookup, Single, Table};
+use review_sql_tables::table::{Lookup, Record, Sets, Sql, Writes};
 use review_sql_tables::texts;
 use review_words::{CommitName, ProjectName};
 use sqlite::{Alter, Error, Row, Transaction};
@@ -23,21 +27,15 @@ use std::alloc::{AllocError, Global};
 pub struct Bases;
 
 impl Lookup for Bases {
-    ghost use Rattle.std.specs.Prelude.{pos};
-    ghost use Rattle.review_sql_tables.{proofs.TextsOfLookups.find_base, specs.declared.texts.TheConstants.FIND_BASE};
-    ghost use Rattle.review_sql_records.specs.Forms.{bases};
-
     type Key = PlaceKey;
 
     type Item = CommitName;
 
-    ghost sql = { FIND_BASE.now };
+    const SQL: Sql = Sql(texts::FIND_BASE);
+
+    ghost SQL = { texts.FIND_BASE.now };
 
     ghost search = { bases };
-
-    fn text() -> &'static str {
-        texts::FIND_BASE
-    }
 
     fn bind<'a>(key: &'a PlaceKey) -> Result<Bound<'a>, Error> {
         Bound::new()
@@ -53,30 +51,15 @@ impl Lookup for Bases {
     ghost asks = { λ b. find_base b.project b.branch (pos b.place) };
 }
 
-impl Table for Bases {
-    ghost use Rattle.std.specs.Prelude.{pos};
-    ghost use Rattle.review_sql_tables.proofs.TextsOfChanges.{insert_base, delete_base};
-    ghost use Rattle.review_sql_tables.specs.declared.texts.TheConstants.{INSERT_BASE, DELETE_BASE};
-    ghost use Rattle.review_sql_records.specs.{Forms.bases, Forms.base_form, Laws.base_lawful};
-
+impl Record for Bases {
     type Key = PlaceKey;
 
     type Item = CommitName;
 
-    ghost insert_sql = { INSERT_BASE.now };
+    ghost table = { base_table };
 
-    ghost delete_sql = { DELETE_BASE.now };
-
-    ghost search = { bases };
-
-    ghost form = { base_form };
-
-    fn insert_text() -> &'static str {
-        texts::INSERT_BASE
-    }
-
-    fn delete_text() -> &'static str {
-        texts::DELETE_BASE
+    fn writes() -> Writes {
+        Writes(Sets::PutsIn, texts::INSERT_BASE, texts::DELETE_BASE)
     }
 
     fn bind_key<'a>(key: &'a PlaceKey) -> Result<Bound<'a>, Error> {
@@ -95,51 +78,25 @@ impl Table for Bases {
         let values = Bases::bind_key(key)?;
         Ok(values.text(row.as_str()))
     }
-
-    ghost inserts = { λ b commit. insert_base b.project b.branch (pos b.place) commit };
-
-    ghost deletes = { λ b. delete_base b.project b.branch (pos b.place) };
-
-    ghost lawful = { base_lawful };
-}
-
-impl Single for Bases {
-    ghost use Rattle.review_sql_records.specs.Laws.{base_single};
-
-    ghost single = { base_single };
-
-    fn replaces() -> bool {
-        false
-    }
 }
 
 /// The places of a commit in a branch.
 pub struct BaseCommits;
 
 impl Lookup for BaseCommits {
-    ghost use Rattle.review_sql_tables.proofs.TextsOfLookups.{find_base_commit};
-    ghost use Rattle.review_sql_tables.specs.declared.texts.TheConstants.{FIND_BASE_COMMIT};
-    ghost use Rattle.review_sql_records.specs.Forms.{base_commits};
-
     type Key = Base;
 
     type Item = u64;
 
-    ghost sql = { FIND_BASE_COMMIT.now };
+    const SQL: Sql = Sql(texts::FIND_BASE_COMMIT);
+
+    ghost SQL = { texts.FIND_BASE_COMMIT.now };
 
     ghost search = { base_commits };
 
-    fn text() -> &'static str {
-        texts::FIND_BASE_COMMIT
-    }
-
     fn bind<'a>(key: &'a Base) -> Result<Bound<'a>, Error> {
-        Ok(
-            Bound::new()
-                .text(key.project.as_str())
-                .text(key.branch.as_str())
-                .text(key.commit.as_str()),
-        )
+        let values = Bound::new().text(key.project.as_str());
+        Ok(values.text(key.branch.as_str()).text(key.commit.as_str()))
     }
 
     fn read(_alloc: Global, row: &Row) -> Result<Option<u64>, AllocError> {
@@ -153,46 +110,29 @@ impl Lookup for BaseCommits {
 pub struct BranchBases;
 
 impl Lookup for BranchBases {
-    ghost use Rattle.review_sql_tables.proofs.TextsOfLookups.{find_branch};
-    ghost use Rattle.review_sql_tables.specs.declared.texts.TheConstants.{FIND_BRANCH};
-    ghost use Rattle.review_sql_records.specs.Forms.{branch_bases};
-
     type Key = BranchKey;
 
     type Item = (PlaceNo, CommitName);
 
-    ghost sql = { FIND_BRANCH.now };
+    const SQL: Sql = Sql(texts::FIND_BRANCH);
+
+    ghost SQL = { texts.FIND_BRANCH.now };
 
     ghost search = { branch_bases };
 
-    fn text() -> &'static str {
-        texts::FIND_BRANCH
-    }
-
     fn bind<'a>(key: &'a BranchKey) -> Result<Bound<'a>, Error> {
-        Ok(
-            Bound::new()
-                .text(key.project.as_str())
-                .text(key.branch.as_str()),
-        )
+        let values = Bound::new().text(key.project.as_str());
+        Ok(values.text(key.branch.as_str()))
     }
 
     fn read(alloc: Global, row: &Row) -> Result<Option<(PlaceNo, CommitName)>, AllocError> {
-        let Some(place) = place_at(row, 0) else {
-            return Ok(None);
-        };
-        let Some(commit) = name_at(alloc, row, 1)? else {
-            return Ok(None);
-        };
-        Ok(Some((place, commit)))
+        Ok(place_at(row, 0).zip(name_at(alloc, row, 1)?))
     }
 
     ghost asks = { λ b. find_branch b.project b.branch };
 }
 
 impl Front for BranchBases {
-    ghost use Rattle.review_sql_records.specs.{Forms.base_parts, Laws.bases_of_branch};
-
     type Part = PlaceNo;
 
     type Rest = CommitName;
@@ -206,30 +146,21 @@ impl Front for BranchBases {
 pub struct LastPlace;
 
 impl Greatest for LastPlace {
-    ghost use Rattle.review_sql_tables.proofs.TextsOfLookups.{find_last_place};
-    ghost use Rattle.review_sql_tables.specs.declared.texts.TheConstants.{FIND_LAST_PLACE};
-    ghost use Rattle.review_sql_records.specs.Forms.{base_places};
-
     type Key = BranchKey;
 
     type Item = u64;
 
-    ghost sql = { FIND_LAST_PLACE.now };
+    const SQL: Sql = Sql(texts::FIND_LAST_PLACE);
+
+    ghost SQL = { texts.FIND_LAST_PLACE.now };
 
     ghost search = { base_places };
 
     ghost place = { 3 };
 
-    fn text() -> &'static str {
-        texts::FIND_LAST_PLACE
-    }
-
     fn bind<'a>(key: &'a BranchKey) -> Result<Bound<'a>, Error> {
-        Ok(
-            Bound::new()
-                .text(key.project.as_str())
-                .text(key.branch.as_str()),
-        )
+        let values = Bound::new().text(key.project.as_str());
+        Ok(values.text(key.branch.as_str()))
     }
 
     fn read(_alloc: Global, row: &Row) -> Result<Option<u64>, AllocError> {

@@ -1,8 +1,12 @@
 //! The least open epoch.
+ghost use Rattle.std.specs.Prelude.{pos};
+ghost use Rattle.review_sql_tables.proofs.{TextsOfChanges.update_epochs, TextsOfLookups.find_epochs};
+ghost use Rattle.review_sql_records.specs.{Forms.epochs, Laws.epochs_table};
+ghost use Rattle.review_sql_tables.specs.declared.texts.TheConstants as texts;
 
 use crate::names::{epoch_at, epoch_number};
 use review_sql_tables::bound::Bound;
-use review_sql_tables::table::{Lookup, Rewritten, Table};
+use review_sql_tables::table::{Lookup, Record, Rewritten, Sets, Sql, Writes};
 use review_sql_tables::texts;
 use review_words::Epoch;
 use sqlite::{Error, Row};
@@ -12,21 +16,15 @@ use std::alloc::{AllocError, Global};
 pub struct Epochs;
 
 impl Lookup for Epochs {
-    ghost use Rattle.review_sql_tables.proofs.TextsOfLookups.{find_epochs};
-    ghost use Rattle.review_sql_tables.specs.declared.texts.TheConstants.{FIND_EPOCHS};
-    ghost use Rattle.review_sql_records.specs.Forms.{epochs};
-
     type Key = ();
 
     type Item = Epoch;
 
-    ghost sql = { FIND_EPOCHS.now };
+    const SQL: Sql = Sql(texts::FIND_EPOCHS);
+
+    ghost SQL = { texts.FIND_EPOCHS.now };
 
     ghost search = { epochs };
-
-    fn text() -> &'static str {
-        texts::FIND_EPOCHS
-    }
 
     fn bind<'a>(_key: &'a ()) -> Result<Bound<'a>, Error> {
         Ok(Bound::new())
@@ -39,30 +37,15 @@ impl Lookup for Epochs {
     ghost asks = { λ _. find_epochs };
 }
 
-impl Table for Epochs {
-    ghost use Rattle.std.specs.Prelude.{pos};
-    ghost use Rattle.review_sql_tables.proofs.TextsOfChanges.{insert_epochs, delete_epochs};
-    ghost use Rattle.review_sql_tables.specs.declared.texts.TheConstants.{INSERT_EPOCHS, DELETE_EPOCHS};
-    ghost use Rattle.review_sql_records.specs.{Forms.epochs, Forms.epochs_form, Laws.epochs_lawful};
-
+impl Record for Epochs {
     type Key = ();
 
     type Item = Epoch;
 
-    ghost insert_sql = { INSERT_EPOCHS.now };
+    ghost table = { epochs_table };
 
-    ghost delete_sql = { DELETE_EPOCHS.now };
-
-    ghost search = { epochs };
-
-    ghost form = { epochs_form };
-
-    fn insert_text() -> &'static str {
-        texts::INSERT_EPOCHS
-    }
-
-    fn delete_text() -> &'static str {
-        texts::DELETE_EPOCHS
+    fn writes() -> Writes {
+        Writes(Sets::Replaces, texts::INSERT_EPOCHS, texts::DELETE_EPOCHS)
     }
 
     fn bind_key<'a>(_key: &'a ()) -> Result<Bound<'a>, Error> {
@@ -77,24 +60,12 @@ impl Table for Epochs {
     ) -> Result<Bound<'a>, Error> {
         Ok(Bound::new().number(epoch_number(*row)))
     }
-
-    ghost inserts = { λ _ least. insert_epochs (pos least) };
-
-    ghost deletes = { λ _. delete_epochs };
-
-    ghost lawful = { epochs_lawful };
 }
 
 impl Rewritten for Epochs {
-    ghost use Rattle.std.specs.Prelude.{pos};
-    ghost use Rattle.review_sql_tables.proofs.TextsOfChanges.{update_epochs};
-    ghost use Rattle.review_sql_tables.specs.declared.texts.TheConstants.{UPDATE_EPOCHS};
+    const UPDATE: Sql = Sql(texts::UPDATE_EPOCHS);
 
-    ghost update_sql = { UPDATE_EPOCHS.now };
-
-    fn update_text() -> &'static str {
-        texts::UPDATE_EPOCHS
-    }
+    ghost UPDATE = { texts.UPDATE_EPOCHS.now };
 
     ghost updates = { λ _ least. update_epochs (pos least) };
 }

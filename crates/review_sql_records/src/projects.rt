@@ -2,9 +2,12 @@
 ghost use Rattle.std.specs.Prelude.{◌≡◌, [], true, Some, IfOk, length};
 ghost use Rattle.sqlite.specs.Held.{state};
 ghost use Rattle.sqlite_value.specs.Order.{column};
+ghost use Rattle.review_sql_tables.proofs.TextsOfLookups.{find_project, find_project_name};
 ghost use Rattle.review_sql_tables.specs.{Columns.text_in, Greatest.as_counted, Ran.Looks, Search.rows_at};
 ghost use Rattle.review_sql_tables.specs.inner.Words.{ShowsCount};
-ghost use Rattle.review_sql_records.specs.Forms.{is_parent, stored_parent, parent_text};
+ghost use Rattle.review_sql_records.specs.Forms.{parent_text, project_names, projects, is_parent, stored_parent};
+ghost use Rattle.review_sql_records.specs.Laws.{project_table};
+ghost use Rattle.review_sql_tables.specs.declared.texts.TheConstants as texts;
 ghost use Rattle.review_sql_tables.specs.Desk as table;
 
 use crate::counted::read_count;
@@ -12,7 +15,7 @@ use crate::names::name_at;
 use review_machine_rows::StoredFile;
 use review_sql_tables::bound::Bound;
 use review_sql_tables::columns::text_at;
-use review_sql_tables::table::{Lookup, Single, Table};
+use review_sql_tables::table::{Lookup, Record, Sets, Sql, Writes};
 use review_sql_tables::texts;
 use review_words::{FileText, ProjectName};
 use sqlite::{Alter, Error, Row, Transaction};
@@ -46,21 +49,15 @@ fn parent_text(parent: &Option<ProjectName>) -> &str
 }
 
 impl Lookup for Projects {
-    ghost use Rattle.review_sql_tables.proofs.TextsOfLookups.{find_project};
-    ghost use Rattle.review_sql_tables.specs.declared.texts.TheConstants.{FIND_PROJECT};
-    ghost use Rattle.review_sql_records.specs.Forms.{projects};
-
     type Key = ProjectName;
 
     type Item = StoredFile;
 
-    ghost sql = { FIND_PROJECT.now };
+    const SQL: Sql = Sql(texts::FIND_PROJECT);
+
+    ghost SQL = { texts.FIND_PROJECT.now };
 
     ghost search = { projects };
-
-    fn text() -> &'static str {
-        texts::FIND_PROJECT
-    }
 
     fn bind<'a>(key: &'a ProjectName) -> Result<Bound<'a>, Error> {
         Ok(Bound::new().text(key.as_str()))
@@ -80,30 +77,15 @@ impl Lookup for Projects {
     ghost asks = { find_project };
 }
 
-impl Table for Projects {
-    ghost use Rattle.review_sql_tables.proofs.TextsOfChanges.{insert_project, delete_project};
-    ghost use Rattle.review_sql_tables.specs.declared.texts.TheConstants.{INSERT_PROJECT, DELETE_PROJECT};
-    ghost use Rattle.review_sql_records.specs.Forms.{projects, project_form, parent_text};
-    ghost use Rattle.review_sql_records.specs.Laws.{project_lawful};
-
+impl Record for Projects {
     type Key = ProjectName;
 
     type Item = StoredFile;
 
-    ghost insert_sql = { INSERT_PROJECT.now };
+    ghost table = { project_table };
 
-    ghost delete_sql = { DELETE_PROJECT.now };
-
-    ghost search = { projects };
-
-    ghost form = { project_form };
-
-    fn insert_text() -> &'static str {
-        texts::INSERT_PROJECT
-    }
-
-    fn delete_text() -> &'static str {
-        texts::DELETE_PROJECT
+    fn writes() -> Writes {
+        Writes(Sets::Replaces, texts::INSERT_PROJECT, texts::DELETE_PROJECT)
     }
 
     fn bind_key<'a>(key: &'a ProjectName) -> Result<Bound<'a>, Error> {
@@ -119,43 +101,21 @@ impl Table for Projects {
         let values = Bound::new().text(key.as_str()).text(row.text.as_str());
         Ok(values.text(parent_text(&row.parent)))
     }
-
-    ghost inserts = { λ project file. insert_project project file.text (parent_text file.parent) };
-
-    ghost deletes = { delete_project };
-
-    ghost lawful = { project_lawful };
-}
-
-impl Single for Projects {
-    ghost use Rattle.review_sql_records.specs.Laws.{project_single};
-
-    ghost single = { project_single };
-
-    fn replaces() -> bool {
-        true
-    }
 }
 
 /// The projects without their files.
 pub struct ProjectNames;
 
 impl Lookup for ProjectNames {
-    ghost use Rattle.review_sql_tables.proofs.TextsOfLookups.{find_project_name};
-    ghost use Rattle.review_sql_tables.specs.declared.texts.TheConstants.{FIND_PROJECT_NAME};
-    ghost use Rattle.review_sql_records.specs.Forms.{project_names};
-
     type Key = ProjectName;
 
     type Item = ();
 
-    ghost sql = { FIND_PROJECT_NAME.now };
+    const SQL: Sql = Sql(texts::FIND_PROJECT_NAME);
+
+    ghost SQL = { texts.FIND_PROJECT_NAME.now };
 
     ghost search = { project_names };
-
-    fn text() -> &'static str {
-        texts::FIND_PROJECT_NAME
-    }
 
     fn bind<'a>(key: &'a ProjectName) -> Result<Bound<'a>, Error> {
         Ok(Bound::new().text(key.as_str()))

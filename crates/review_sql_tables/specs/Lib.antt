@@ -10,6 +10,7 @@ pub mod Made
 pub mod Migrated
 pub mod Plain
 pub mod Single
+pub mod Record
 pub mod Columns
 pub mod Versions
 pub mod inner

@@ -3,7 +3,7 @@ ghost use Rattle.std.specs.Prelude.{◌≡◌, Some};
 ghost use Rattle.sqlite.specs.Held.{state};
 ghost use Rattle.review_sql_tables.specs.{Ran.Inside, Ran.Opens, Ran.is_violation, Search.SetsRow, Search.SetsRows};
 
-use crate::table::{Rewritten, Single, Table, insert, remove, update};
+use crate::table::{Record, Rewritten, Sets, insert, remove, update};
 use review_table::RowEdit;
 use sqlite::{Alter, Error, ErrorCode, Transaction};
 use std::alloc::Global;
@@ -19,14 +19,14 @@ fn is_violation(error: Error) -> bool
 }
 
 // Takes away what the table has at a key, and puts this row in.
-fn replace<T: Table, S: Alter>(
+fn replace<T: Record, S: Alter>(
     tx: &mut Transaction<'_, S>,
     alloc: Global,
     key: &T::Key,
     row: &T::Item,
 ) -> Result<(), Error>
     ensures same_reference { tx.new.conn.ghost_name ≡ tx.old.conn.ghost_name }
-    ensures ran { Inside (SetsRow T.search key.now (Some row.now)) (state S.Store tx.old.conn.now) (state S.Store tx.new.conn.now) result }
+    ensures ran { Inside (SetsRow T.table.search key.now (Some row.now)) (state S.Store tx.old.conn.now) (state S.Store tx.new.conn.now) result }
     ensures open { Opens (state S.Store tx.old.conn.now) (state S.Store tx.new.conn.now) result }
 {
     remove::<T, S>(tx, key)?;
@@ -36,17 +36,17 @@ fn replace<T: Table, S: Alter>(
 
 /// Gives a key this row. Where the key mostly has none the row is put in, and takes the place of what is there only where a rule of the table refuses
 /// that; in a table in which rows are replaced, what is there is taken away first.
-pub fn set<T: Single, S: Alter>(
+pub fn set<T: Record, S: Alter>(
     tx: &mut Transaction<'_, S>,
     alloc: Global,
     key: &T::Key,
     row: &T::Item,
 ) -> Result<(), Error>
     ensures same_reference { tx.new.conn.ghost_name ≡ tx.old.conn.ghost_name }
-    ensures ran { Inside (SetsRow T.search key.now (Some row.now)) (state S.Store tx.old.conn.now) (state S.Store tx.new.conn.now) result }
+    ensures ran { Inside (SetsRow T.table.search key.now (Some row.now)) (state S.Store tx.old.conn.now) (state S.Store tx.new.conn.now) result }
     ensures open { Opens (state S.Store tx.old.conn.now) (state S.Store tx.new.conn.now) result }
 {
-    if T::replaces() {
+    if T::writes().sets() == Sets::Replaces {
         return replace::<T, S>(tx, alloc, key, row);
     }
     match insert::<T, S>(tx, alloc, key, row) {
@@ -64,7 +64,7 @@ pub fn rewrite<T: Rewritten, S: Alter>(
     row: &T::Item,
 ) -> Result<(), Error>
     ensures same_reference { tx.new.conn.ghost_name ≡ tx.old.conn.ghost_name }
-    ensures ran { Inside (SetsRow T.search key.now (Some row.now)) (state S.Store tx.old.conn.now) (state S.Store tx.new.conn.now) result }
+    ensures ran { Inside (SetsRow T.table.search key.now (Some row.now)) (state S.Store tx.old.conn.now) (state S.Store tx.new.conn.now) result }
     ensures open { Opens (state S.Store tx.old.conn.now) (state S.Store tx.new.conn.now) result }
 {
     let count = update::<T, S>(tx, alloc, key, row)?;
@@ -79,14 +79,14 @@ pub fn rewrite<T: Rewritten, S: Alter>(
 }
 
 /// Gives a key this row, or none.
-pub fn change<T: Single, S: Alter>(
+pub fn change<T: Record, S: Alter>(
     tx: &mut Transaction<'_, S>,
     alloc: Global,
     key: &T::Key,
     row: &Option<T::Item>,
 ) -> Result<(), Error>
     ensures same_reference { tx.new.conn.ghost_name ≡ tx.old.conn.ghost_name }
-    ensures ran { Inside (SetsRow T.search key.now row.now) (state S.Store tx.old.conn.now) (state S.Store tx.new.conn.now) result }
+    ensures ran { Inside (SetsRow T.table.search key.now row.now) (state S.Store tx.old.conn.now) (state S.Store tx.new.conn.now) result }
     ensures open { Opens (state S.Store tx.old.conn.now) (state S.Store tx.new.conn.now) result }
 {
     match row {
@@ -99,13 +99,13 @@ pub fn change<T: Single, S: Alter>(
 }
 
 /// Makes the changes, the last first, so that the first of a key stands.
-pub fn change_all<T: Single, S: Alter>(
+pub fn change_all<T: Record, S: Alter>(
     tx: &mut Transaction<'_, S>,
     alloc: Global,
     changes: &[RowEdit<T::Key, T::Item>],
 ) -> Result<(), Error>
     ensures same_reference { tx.new.conn.ghost_name ≡ tx.old.conn.ghost_name }
-    ensures ran { Inside (SetsRows T.search changes.now) (state S.Store tx.old.conn.now) (state S.Store tx.new.conn.now) result }
+    ensures ran { Inside (SetsRows T.table.search changes.now) (state S.Store tx.old.conn.now) (state S.Store tx.new.conn.now) result }
 {
     let mut left = changes.len();
     while left > 0 {

@@ -6,7 +6,7 @@ ghost use Rattle.review_sql_tables.specs.Fronts.{AreParts, SetsParts};
 ghost use Rattle.review_sql_tables.specs.{Ran.Inside, Ran.Looks, Ran.Opens, Search.SetsRow, inner.Words.WereSorted};
 
 use crate::changes::change;
-use crate::table::{Lookup, Single, Table, select};
+use crate::table::{Lookup, Record, select};
 use review_table::{Key, RowEdit, Table as Rows};
 use sqlite::{Alter, Error, Row, Transaction};
 use std::alloc::{AllocError, Global};
@@ -64,20 +64,17 @@ pub fn find_parts<F: Front, S: Alter>(
 }
 
 /// Gives a key of an owner this row, or none.
-pub fn change_part<
-    T: Front + Single + Table<Key = (<T as Lookup>::Key, <T as Front>::Part)>,
-    S: Alter,
->(
+pub fn change_part<T: Front + Record<Key = (<T as Lookup>::Key, <T as Front>::Part)>, S: Alter>(
     tx: &mut Transaction<'_, S>,
     alloc: Global,
     owner: &<T as Lookup>::Key,
     part: &T::Part,
-    row: &Option<<T as Table>::Item>,
+    row: &Option<<T as Record>::Item>,
 ) -> Result<(), Error>
 where
     <T as Lookup>::Key: Copy,
     ensures same_reference { tx.new.conn.ghost_name ≡ tx.old.conn.ghost_name }
-    ensures ran { Inside (SetsRow T.Table.search (owner.now, part.now) row.now) (state S.Store tx.old.conn.now) (state S.Store tx.new.conn.now) result }
+    ensures ran { Inside (SetsRow T.table.search (owner.now, part.now) row.now) (state S.Store tx.old.conn.now) (state S.Store tx.new.conn.now) result }
     ensures open { Opens (state S.Store tx.old.conn.now) (state S.Store tx.new.conn.now) result }
 {
     let key = (*owner, part.copy(alloc)?);
@@ -85,19 +82,16 @@ where
 }
 
 /// Makes the changes of an owner's rows, the last first, so that the first of a key stands.
-pub fn change_parts<
-    T: Front + Single + Table<Key = (<T as Lookup>::Key, <T as Front>::Part)>,
-    S: Alter,
->(
+pub fn change_parts<T: Front + Record<Key = (<T as Lookup>::Key, <T as Front>::Part)>, S: Alter>(
     tx: &mut Transaction<'_, S>,
     alloc: Global,
     owner: &<T as Lookup>::Key,
-    changes: &[RowEdit<T::Part, <T as Table>::Item>],
+    changes: &[RowEdit<T::Part, <T as Record>::Item>],
 ) -> Result<(), Error>
 where
     <T as Lookup>::Key: Copy,
     ensures same_reference { tx.new.conn.ghost_name ≡ tx.old.conn.ghost_name }
-    ensures ran { Inside (SetsParts T.Table.search owner.now changes.now) (state S.Store tx.old.conn.now) (state S.Store tx.new.conn.now) result }
+    ensures ran { Inside (SetsParts T.table.search owner.now changes.now) (state S.Store tx.old.conn.now) (state S.Store tx.new.conn.now) result }
 {
     let mut left = changes.len();
     while left > 0 {

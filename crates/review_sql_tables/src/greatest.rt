@@ -5,6 +5,7 @@ ghost use Rattle.review_sql_tables.specs.{Greatest.HasGreatest, Ran.Looks, Texts
 ghost use Rattle.review_sql_tables.specs.inner.Words.{first_as, FindsGreatest};
 
 use crate::bound::Bound;
+use crate::table::Sql;
 use sqlite::{Alter, Error, Row, Transaction};
 use std::alloc::{AllocError, Global};
 
@@ -20,17 +21,16 @@ pub trait Greatest {
     type Item: Drop;
 
     /// The text that asks for it.
-    ghost sql: { List ℕ };
+    const SQL: Sql;
+
+    /// The text.
+    ghost SQL: { List ℕ };
 
     /// The table, its columns, and how the row is read.
     ghost search: { Search Self.Key Self.Item };
 
     /// The column.
     ghost place: { ℕ };
-
-    /// The text.
-    fn text() -> &'static str
-        ensures { result.now ≡ sql };
 
     /// The values that the text is asked with.
     fn bind<'a>(key: &'a Self::Key) -> Result<Bound<'a>, Error>
@@ -41,7 +41,7 @@ pub trait Greatest {
         ensures { IfOk result (λ item. item ≡ search.read row.now) };
 
     /// The text asks for the row with the greatest value among those that have these values.
-    ghost asks: { (key : Self.Key) → Asks sql (last_where search.tree (search.at key) search.columns place) };
+    ghost asks: { (key : Self.Key) → Asks SQL (last_where search.tree (search.at key) search.columns place) };
 }
 
 // The row, as the store has it, or none.
@@ -53,7 +53,7 @@ fn select_last<G: Greatest, S: Alter>(
     ensures looks { Looks (λ db rows. FindsGreatest G.search G.place key.now db rows.items) (state S.Store tx.old.conn.now) (state S.Store tx.new.conn.now) result }
 {
     let values = G::bind(key)?;
-    tx.query_all(G::text(), values.as_slice())
+    tx.query_all(G::SQL.text(), values.as_slice())
 }
 
 // The first row as it reads, if there is one.

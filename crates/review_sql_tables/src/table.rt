@@ -8,6 +8,72 @@ ghost use Rattle.review_sql_tables.specs.{Search.Finds, Search.Puts, Texts.value
 use crate::bound::Bound;
 use sqlite::{Alter, Error, Row, Transaction};
 use std::alloc::{AllocError, Global};
+use std::marker::Model;
+
+/// The text of a statement. Contracts see the text.
+#[derive(Drop)]
+pub struct Sql(pub &'static str);
+
+impl Model for Sql {
+    ghost use Rattle.std.specs.Prelude.{ℕ, List};
+
+    ghost Value = { List ℕ };
+
+    ghost view = { λ sql. sql.0.now };
+}
+
+impl Sql {
+    /// The text itself.
+    pub fn text(self) -> &'static str
+        ensures { result.now ≡ self }
+    {
+        self.0
+    }
+}
+
+/// How a record is given to a key.
+#[derive(Clone, Copy, PartialEq, Eq)]
+pub enum Sets {
+    /// It is put in, and takes the place of what is there only where a rule of the table refuses that: mostly the key has none.
+    PutsIn,
+    /// What is there is taken away first, since a key often has a record.
+    Replaces,
+}
+
+/// How a record is given to a key, and the texts that put one in and take those of a key away. Contracts see the texts.
+#[derive(Drop)]
+pub struct Writes(pub Sets, pub &'static str, pub &'static str);
+
+impl Model for Writes {
+    ghost use Rattle.review_sql_tables.specs.Record.{Written};
+
+    ghost Value = { Written };
+
+    ghost view = { λ w. record { sets = w.0; insert = w.1.now; delete = w.2.now } };
+}
+
+impl Writes {
+    /// How a record is given to a key.
+    pub fn sets(self) -> Sets
+        ensures { result ≡ self.sets }
+    {
+        self.0
+    }
+
+    /// The text that puts a record in.
+    pub fn insert(self) -> &'static str
+        ensures { result.now ≡ self.insert }
+    {
+        self.1
+    }
+
+    /// The text that takes the records of a key away.
+    pub fn delete(self) -> &'static str
+        ensures { result.now ≡ self.delete }
+    {
+        self.2
+    }
+}
 
 /// A look-up of rows by the values of some columns.
 pub trait Lookup {
@@ -21,14 +87,13 @@ pub trait Lookup {
     type Item: Drop;
 
     /// The text that asks for them.
-    ghost sql: { List ℕ };
+    const SQL: Sql;
+
+    /// The text.
+    ghost SQL: { List ℕ };
 
     /// The table, its columns, and how rows are read.
     ghost search: { Search Self.Key Self.Item };
-
-    /// The text.
-    fn text() -> &'static str
-        ensures { result.now ≡ sql };
 
     /// The values that the text is asked with.
     fn bind<'a>(key: &'a Self::Key) -> Result<Bound<'a>, Error>
@@ -39,7 +104,7 @@ pub trait Lookup {
         ensures { IfOk result (λ item. item ≡ search.read row.now) };
 
     /// The text asks for the rows that have these values.
-    ghost asks: { (key : Self.Key) → Asks sql (rows_where search.tree (search.at key) search.columns) };
+    ghost asks: { (key : Self.Key) → Asks SQL (rows_where search.tree (search.at key) search.columns) };
 }
 
 /// The rows of a look-up, as the store has them, in any order.
@@ -51,112 +116,76 @@ pub fn select<L: Lookup, S: Alter>(
     ensures looks { Looks (λ db rows. Finds L.search key.now db rows.items) (state S.Store tx.old.conn.now) (state S.Store tx.new.conn.now) result }
 {
     let values = L::bind(key)?;
-    tx.query_all(L::text(), values.as_slice())
+    tx.query_all(L::SQL.text(), values.as_slice())
 }
 
-/// A table, whose rows are put in and taken away by their keys.
-pub trait Table {
-    ghost use Rattle.std.specs.Prelude.{ℕ, List};
-    ghost use Rattle.review_sql_tables.specs.Search.{Search, Form, IsLawful};
-    ghost use Rattle.review_sql_tables.specs.Texts.{Deletes, Inserts};
+/// A table of records, which are put in and taken away by their keys.
+pub trait Record {
+    ghost use Rattle.review_sql_tables.specs.Record.{Records};
 
-    /// A key; of rows that belong to an owner, the owner and the rest of a key.
+    /// A key; of records that belong to an owner, the owner and the rest of a key.
     type Key;
 
-    /// What a row has beside its key.
+    /// What a record has beside its key.
     type Item;
 
-    /// The text that puts a row in.
-    ghost insert_sql: { List ℕ };
+    /// How records are looked up by their keys, written and stored, and what the texts mean.
+    ghost table: { Records Self.Key Self.Item };
 
-    /// The text that takes the rows of a key away.
-    ghost delete_sql: { List ℕ };
-
-    /// How a row is looked up by its key.
-    ghost search: { Search Self.Key Self.Item };
-
-    /// How a row is stored.
-    ghost form: { Form Self.Key Self.Item };
-
-    /// The text that puts a row in.
-    fn insert_text() -> &'static str
-        ensures { result.now ≡ insert_sql };
-
-    /// The text that takes the rows of a key away.
-    fn delete_text() -> &'static str
-        ensures { result.now ≡ delete_sql };
+    /// How a record is given to a key, and the texts that put one in and take the records of a key away.
+    fn writes() -> Writes
+        ensures { result ≡ table.writes };
 
     /// The values of a key.
     fn bind_key<'a>(key: &'a Self::Key) -> Result<Bound<'a>, Error>
-        ensures values { IfOk result (λ values. values ≡ values_of (search.at key.now)) }
-        ensures formed { OnOk result (form.is_key key.now ≡ true) };
+        ensures values { IfOk result (λ values. values ≡ values_of (table.search.at key.now)) }
+        ensures formed { OnOk result (table.form.is_key key.now ≡ true) };
 
-    /// The values of a row with its key; a text that is made for one of them is put into the buffer. It fails where the row would not read
-    /// as itself.
+    /// The values of a record with its key; a text that is made for one of them is put into the buffer. It fails where the record would not
+    /// read as itself.
     fn bind_row<'a>(
         alloc: Global,
         key: &'a Self::Key,
         row: &'a Self::Item,
         buffer: &'a mut String,
     ) -> Result<Bound<'a>, Error>
-        ensures values { IfOk result (λ values. values ≡ form.values key.now row.now) }
-        ensures formed { OnOk result (form.is_key key.now ≡ true) }
-        ensures good { OnOk result (form.is_good row.now ≡ true) };
-
-    /// The text puts rows in.
-    ghost inserts: { (key : Self.Key) (row : Self.Item) → Inserts insert_sql search.tree (form.values key row) (form.stored key row) };
-
-    /// The text takes the rows of a key away.
-    ghost deletes: { (key : Self.Key) → Deletes delete_sql search.tree (search.at key) };
-
-    /// A row has one key, and reads as what was put in.
-    ghost lawful: { IsLawful search form };
+        ensures values { IfOk result (λ values. values ≡ table.form.values key.now row.now) }
+        ensures formed { OnOk result (table.form.is_key key.now ≡ true) }
+        ensures good { OnOk result (table.form.is_good row.now ≡ true) };
 }
 
-/// A table that has one row at a key, at most, since a UNIQUE of it names the columns of keys.
-pub trait Single: Table {
-    ghost use Rattle.review_sql_tables.specs.Single.{IsSingle};
-
-    /// Whether `set` takes away first what has the key, since a row often has another's. Otherwise it puts in, and takes away where a UNIQUE refuses.
-    fn replaces() -> bool;
-
-    /// No two of its rows have one key.
-    ghost single: { IsSingle Self.search };
-}
-
-/// A table whose rows mostly get other values: a text gives the rows of a key other ones, each at its place.
-pub trait Rewritten: Table {
+/// A table whose records mostly get other values: a text gives the records of a key other ones, each at its place.
+pub trait Rewritten: Record {
     ghost use Rattle.std.specs.Prelude.{ℕ, List};
     ghost use Rattle.review_sql_tables.specs.Texts.{Updates};
 
-    /// The text that gives the rows of a key other values.
-    ghost update_sql: { List ℕ };
+    /// The text that gives the records of a key other values.
+    const UPDATE: Sql;
 
-    /// The text that gives the rows of a key other values.
-    fn update_text() -> &'static str
-        ensures { result.now ≡ update_sql };
+    /// The text.
+    ghost UPDATE: { List ℕ };
 
-    /// The text gives the rows of a key the values with which a row is put in.
-    ghost updates: { (key : Self.Key) (row : Self.Item) → Updates update_sql Self.search.tree (Self.search.at key) (Self.form.values key row) (Self.form.stored key row) };
+    /// The text gives the records of a key the values with which a record is put in.
+    ghost updates: { (key : Self.Key) (row : Self.Item) → Updates UPDATE Self.table.search.tree (Self.table.search.at key) (Self.table.form.values key row) (Self.table.form.stored key row) };
 }
 
 /// Puts a row in under a key.
-pub fn insert<T: Table, S: Alter>(
+pub fn insert<T: Record, S: Alter>(
     tx: &mut Transaction<'_, S>,
     alloc: Global,
     key: &T::Key,
     row: &T::Item,
 ) -> Result<usize, Error>
     ensures same_reference { tx.new.conn.ghost_name ≡ tx.old.conn.ghost_name }
-    ensures ran { Inside (Puts T.search T.form key.now row.now) (state S.Store tx.old.conn.now) (state S.Store tx.new.conn.now) result }
+    ensures ran { Inside (Puts T.table.search T.table.form key.now row.now) (state S.Store tx.old.conn.now) (state S.Store tx.new.conn.now) result }
     ensures open { Opens (state S.Store tx.old.conn.now) (state S.Store tx.new.conn.now) result }
     ensures refused { Refuses (state S.Store tx.old.conn.now) (state S.Store tx.new.conn.now) result }
-    ensures formed { OnOk result (T.form.is_key key.now ≡ true) }
-    ensures good { OnOk result (T.form.is_good row.now ≡ true) }
+    ensures formed { OnOk result (T.table.form.is_key key.now ≡ true) }
+    ensures good { OnOk result (T.table.form.is_good row.now ≡ true) }
 {
     let mut buffer = String::new(alloc);
     let values = T::bind_row(alloc, key, row, &mut buffer)?;
-    tx.execute(T::insert_text(), values.as_slice())
+    tx.execute(T::writes().insert(), values.as_slice())
 }
 
 /// Gives the rows of a key the values of this one, and tells how many there were.
@@ -167,23 +196,26 @@ pub fn update<T: Rewritten, S: Alter>(
     row: &T::Item,
 ) -> Result<usize, Error>
     ensures same_reference { tx.new.conn.ghost_name ≡ tx.old.conn.ghost_name }
-    ensures ran { Inside (Remakes T.search.tree (T.search.at key.now) (T.form.stored key.now row.now) (count_in result)) (state S.Store tx.old.conn.now) (state S.Store tx.new.conn.now) result }
+    ensures ran { Inside (Remakes T.table.search.tree (T.table.search.at key.now) (T.table.form.stored key.now row.now) (count_in result)) (state S.Store tx.old.conn.now) (state S.Store tx.new.conn.now) result }
     ensures open { Opens (state S.Store tx.old.conn.now) (state S.Store tx.new.conn.now) result }
-    ensures formed { OnOk result (T.form.is_key key.now ≡ true) }
-    ensures good { OnOk result (T.form.is_good row.now ≡ true) }
+    ensures formed { OnOk result (T.table.form.is_key key.now ≡ true) }
+    ensures good { OnOk result (T.table.form.is_good row.now ≡ true) }
 {
     let mut buffer = String::new(alloc);
     let values = T::bind_row(alloc, key, row, &mut buffer)?;
-    tx.execute(T::update_text(), values.as_slice())
+    tx.execute(T::UPDATE.text(), values.as_slice())
 }
 
 /// Takes the rows of a key away.
-pub fn remove<T: Table, S: Alter>(tx: &mut Transaction<'_, S>, key: &T::Key) -> Result<usize, Error>
+pub fn remove<T: Record, S: Alter>(
+    tx: &mut Transaction<'_, S>,
+    key: &T::Key,
+) -> Result<usize, Error>
     ensures same_reference { tx.new.conn.ghost_name ≡ tx.old.conn.ghost_name }
-    ensures ran { Inside (Removes T.search.tree (T.search.at key.now)) (state S.Store tx.old.conn.now) (state S.Store tx.new.conn.now) result }
+    ensures ran { Inside (Removes T.table.search.tree (T.table.search.at key.now)) (state S.Store tx.old.conn.now) (state S.Store tx.new.conn.now) result }
     ensures open { Opens (state S.Store tx.old.conn.now) (state S.Store tx.new.conn.now) result }
-    ensures formed { OnOk result (T.form.is_key key.now ≡ true) }
+    ensures formed { OnOk result (T.table.form.is_key key.now ≡ true) }
 {
     let values = T::bind_key(key)?;
-    tx.execute(T::delete_text(), values.as_slice())
+    tx.execute(T::writes().delete(), values.as_slice())
 }

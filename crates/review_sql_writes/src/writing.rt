@@ -23,19 +23,19 @@ use review_sql_records::projects::Projects;
 use review_sql_records::rows::DeskRow;
 use review_sql_tables::changes::{change_all, rewrite, set};
 use review_sql_tables::fronts::change_parts;
-use review_sql_tables::table::Single;
+use review_sql_tables::table::Record;
 use review_words::{ChangeNo, Epoch};
 use sqlite::{Alter, Connection, Error, Transaction};
 use std::alloc::Global;
 
 // Puts a row, where there is one.
-fn put_row<T: Single, S: Alter>(
+fn put_row<T: Record, S: Alter>(
     tx: &mut Transaction<'_, S>,
     alloc: Global,
     put: &Option<Put<T::Key, T::Item>>,
 ) -> Result<(), Error>
     ensures same_reference { tx.new.conn.ghost_name ≡ tx.old.conn.ghost_name }
-    ensures ran { Inside (SetsPut T.search put.now) (state S.Store tx.old.conn.now) (state S.Store tx.new.conn.now) result }
+    ensures ran { Inside (SetsPut T.table.search put.now) (state S.Store tx.old.conn.now) (state S.Store tx.new.conn.now) result }
 {
     match put {
         Some(put) => set::<T, S>(tx, alloc, &put.key, &put.row),

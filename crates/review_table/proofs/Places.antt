@@ -1,5 +1,9 @@
 -- Laws of places and rows.
-use Rattle.std.proofs.Common.{◌≡◌, ◌≤◌, map, subst, List, [], ◌∷◌, ◌++◌, Option, Some, None, Bool, true, false, cond, refl, ap, sym, ◌∙◌, append-nil, length, length-append, arith, ◌&&◌, not}
+use denote.Enum.Compared.{Each, by}
+use denote.Enum.Declared.{Choice}
+use denote.Struct.Field.{Field}
+use denote.Struct.Values.{Values}
+use Rattle.std.proofs.Common.{◌≡◌, ◌≤◌, map, subst, List, [], ◌∷◌, ◌++◌, Option, Some, None, Bool, true, false, cond, refl, ap, sym, ◌∙◌, append-nil, length, length-append, arith, ◌&&◌, not, inl, inr}
 use Rattle.std.proofs.lemmas.Cmp.{tied_itself, alike_right}
 use Rattle.std.proofs.lemmas.List.Elements.{All-head, All-tail, filter-append}
 use Rattle.std.proofs.lemmas.Map.{NonePasses}
@@ -91,7 +95,7 @@ rows_sorted R [] h = tt
 rows_sorted R ((k, None) ∷ t) h = rows_sorted R t h.1
 rows_sorted R ((k, Some v) ∷ t) h = (all_rows (λ y. R k y ≡ Less) t h.0, rows_sorted R t h.1)
 
-both_equal : (a b : Ordering) → ordering_then a b ≡ Equal → (a ≡ Equal) × (b ≡ Equal)
+pub both_equal : (a b : Ordering) → ordering_then a b ≡ Equal → (a ≡ Equal) × (b ≡ Equal)
 both_equal Less b e = absurd (cc)
 both_equal Equal b e = (refl, e)
 both_equal Greater b e = absurd (cc)
@@ -99,6 +103,19 @@ both_equal Greater b e = absurd (cc)
 -- an order by two parts ties only equal keys, where those of the parts do
 pub exact_by_parts : {K A B : Type 0} (P : A → A → Ordering) (Q : B → B → Ordering) (f : K → A) (g : K → B) → CmpEqualImpliesEq P → CmpEqualImpliesEq Q → ((x y : K) → f x ≡ f y → g x ≡ g y → x ≡ y) → CmpEqualImpliesEq (λ x y. ordering_then (P (f x) (f y)) (Q (g x) (g y)))
 exact_by_parts P Q f g p q parts x y e = let both = both_equal (P (f x) (f y)) (Q (g x) (g y)) e in parts x y (p (f x) (f y) both.0) (q (g x) (g y) both.1)
+
+-- each variant's order ties only equal values
+abbrev pub Exacts : (Fss : List (List Field)) → Each Ordering Fss → Type 0
+Exacts [] rs = Unit {0}
+Exacts (Fs ∷ Fss) rs = ((x y : Values Fs) → rs.0 x y ≡ Equal → x ≡ y) × Exacts Fss rs.1
+
+-- then the derived order of an enum does
+pub by_exact : (Fss : List (List Field)) (rs : Each Ordering Fss) → Exacts Fss rs → (c d : Choice Fss) → by Less Greater Fss rs c d ≡ Equal → c ≡ d
+by_exact [] rs all c d e = absurd c
+by_exact (Fs ∷ Fss) rs all (inl x) (inl y) e = ap inl (all.0 x y e)
+by_exact (Fs ∷ Fss) rs all (inl x) (inr y) e = absurd (cc)
+by_exact (Fs ∷ Fss) rs all (inr x) (inl y) e = absurd (cc)
+by_exact (Fs ∷ Fss) rs all (inr x) (inr y) e = ap inr (by_exact Fss rs.1 all.1 x y e)
 
 -- a place without a row may go
 removed_here : {K X : Type 0} (b : Bool) (test : K → Bool) (e : K × Option X) (t : List (K × Option X)) → test e.0 ≡ b → cond b (Some e.1) (lookup test t) ≡ Some None → (lookup test t ≡ Some None → rows_of (remove_entry test t) ≡ rows_of t)

@@ -61,6 +61,11 @@ after_row_edit (Some now) was = now
 abbrev pub changed : {K X : Type 0} → (K → K → Ordering) → List (RowEdit K X) → K → Option X → Option X
 changed cmp edits q was = after_row_edit (row_edit_of cmp edits q) was
 
+-- no edit names the key of one before it
+abbrev pub NamesOnce : {K X : Type 0} → (K → K → Ordering) → List (RowEdit K X) → Type 0
+NamesOnce cmp [] = Unit {0}
+NamesOnce cmp (c ∷ cs) = (row_edit_of cmp cs c.key ≡ None) × NamesOnce cmp cs
+
 -- ---- places without a row
 
 -- the place of a key: none, or one with a row or none

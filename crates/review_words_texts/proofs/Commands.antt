@@ -1,9 +1,7 @@
 -- A command is what its fields are read as.
-use Rattle.std.proofs.Common.{◌≡◌, ℕ, zero, suc, ℤ, pos, negsuc, ◌+◌, ◌*◌, ◌-◌, ◌<◌, ◌≤◌, List, [], ◌∷◌, ◌++◌, append_assoc, append-nil, length, map, take, drop, slice_index, refl, sym, ap, ◌∙◌, arith, Option, Some, None, Bool, true, false}
-use Rattle.std.proofs.lemmas.{Bool.Decides.nat_tests, Int.Digits.all_below_base_digits_of, List.take_at, List.drop_at}
+use Rattle.std.proofs.Common.{◌≡◌, ℕ, zero, suc, ℤ, pos, negsuc, ◌+◌, ◌*◌, ◌-◌, ◌<◌, ◌≤◌, List, [], ◌∷◌, ◌++◌, append_assoc, append-nil, length, map, take, drop, slice_index, refl, sym, ap, ◌∙◌, arith, Option, Some, None, Bool, true, false, take_at, drop_at, codes, flat_map, if◌then◌else◌, ◌==◌, unwrap_or, bytes_eq}
+use Rattle.std.proofs.lemmas.{Bool.Decides.nat_tests, Int.Digits.all_below_base_digits_of}
 use Rattle.std.specs.{Int.Digits.digits_of, List.AllByRecursion}
-use Rattle.std.specs.Prelude.{codes, flat_map, if◌then◌else◌, ◌==◌, unwrap_or}
-use Rattle.std.specs.Str.{bytes_eq}
 use Rattle.review_names.proofs.Numerals.{value, value_numeral}
 use Rattle.review_names.specs.Kinds.{kind_name, kind_named}
 use Rattle.review_names.specs.{Numerals.numeral, Numerals.shown_digits, declared.kinds.ChangeKind.ChangeKind}

@@ -1,7 +1,5 @@
 -- Texts cut into their fields: equal texts have equal fields.
-use mathlib.Core.List.{append_assoc}
-use Rattle.std.proofs.Common.{◌≡◌, ℕ, List, [], ◌∷◌, ◌++◌, length, refl, sym, ap, ◌∙◌, arith}
-use Rattle.std.specs.Prelude.{flat_map}
+use Rattle.std.proofs.Common.{append_assoc, ◌≡◌, ℕ, List, [], ◌∷◌, ◌++◌, length, refl, sym, ap, ◌∙◌, arith, flat_map}
 use Rattle.review_names.proofs.Numerals.{Plain, plain_numeral, numeral-injective}
 use Rattle.review_names.specs.Numerals.{numeral}
 use Rattle.review_words.specs.Texts.{field, text_of}

@@ -6,10 +6,10 @@ use Rattle.review_words_texts.proofs.Commands.{command_of, command_back}
 use Rattle.review_words_texts.proofs.{Cutting.text_of-injective, Told.reply_back}
 use Rattle.review_words_texts.specs.Reading.{reply_of}
 
-pub content_text-injective : (c d : Command) → content_text c ≡ content_text d → c ≡ d
-content_text-injective c d e = sym (command_back c) ∙ (ap command_of (text_of-injective (command_fields c) (command_fields d) e) ∙ command_back d)
+pub content_text_injective : (c d : Command) → content_text c ≡ content_text d → c ≡ d
+content_text_injective c d e = sym (command_back c) ∙ (ap command_of (text_of-injective (command_fields c) (command_fields d) e) ∙ command_back d)
 
-pub reply_text-injective : (r s : Reply) → IsStored r → IsStored s → reply_text r ≡ reply_text s → r ≡ s
-reply_text-injective r s a b e =
+pub reply_text_injective : (r s : Reply) → IsStored r → IsStored s → reply_text r ≡ reply_text s → r ≡ s
+reply_text_injective r s a b e =
     let same : Some r ≡ Some s = sym (reply_back r a) ∙ (ap reply_of (text_of-injective (reply_fields r) (reply_fields s) e) ∙ reply_back s b) in
     cc

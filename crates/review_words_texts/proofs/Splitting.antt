@@ -1,10 +1,9 @@
 -- Fields cut off their text one by one.
-use Rattle.std.proofs.Common.{◌≡◌, ℕ, suc, ◌+◌, ◌*◌, ◌-◌, ◌<◌, List, [], ◌∷◌, ◌++◌, append_assoc, append-nil, length, map, take, drop, refl, sym, ap, ◌∙◌, arith, cond, Option, Some, None, true, false, length-append, slice_index}
+use Rattle.std.proofs.Common.{◌≡◌, ℕ, suc, ◌+◌, ◌*◌, ◌-◌, ◌<◌, List, [], ◌∷◌, ◌++◌, append_assoc, append-nil, length, map, take, drop, refl, sym, ap, ◌∙◌, arith, cond, Option, Some, None, true, false, length-append, slice_index, take_at, nat_le, nat_lt, ◌&&◌, ◌==◌, flat_map}
 use Rattle.std.proofs.lemmas.Bool.Decides.{nat_tests}
 use Rattle.std.proofs.lemmas.Int.Digits.{all_below_base_digits_of, number_digits_of, number_after_ge}
-use Rattle.std.proofs.lemmas.List.{take_at}
 use Rattle.std.specs.Int.Digits.{digits_of, number_from_digits, number_from_digits_after}
-use Rattle.std.specs.{List.AllByRecursion, Prelude.nat_le, Prelude.nat_lt, Prelude.◌&&◌, Prelude.◌==◌, Prelude.flat_map}
+use Rattle.std.specs.List.{AllByRecursion}
 use Rattle.review_names.specs.Numerals.{shown_digits, numeral}
 use Rattle.review_words.specs.Texts.{field, text_of}
 use Rattle.review_words_texts.proofs.Cutting.{field_shape, field_not_empty}

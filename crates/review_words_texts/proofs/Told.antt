@@ -1,8 +1,7 @@
 -- A stored reply is what its fields are read as.
-use Rattle.std.proofs.Common.{◌≡◌, ℕ, ◌<◌, ◌≤◌, ◌+◌, List, [], ◌∷◌, length, refl, sym, ap, ◌∙◌, subst, arith, cond, Option, Some, None, Bool, true, false}
+use Rattle.std.proofs.Common.{◌≡◌, ℕ, ◌<◌, ◌≤◌, ◌+◌, List, [], ◌∷◌, length, refl, sym, ap, ◌∙◌, subst, arith, cond, Option, Some, None, Bool, true, false, option_map, nat_le, ◌&&◌, if◌then◌else◌, codes, map, Result, Ok, Err, IfOk}
 use Rattle.std.proofs.lemmas.{Bool.Decides.nat_tests, Int.Digits.length-digits_of-le, List.length-map}
 use Rattle.std.specs.{Int.Digits.digits_of, List.AllByRecursion}
-use Rattle.std.specs.Prelude.{option_map, nat_le, ◌&&◌, if◌then◌else◌, codes, map, Result, Ok, Err, IfOk}
 use Rattle.review_names.proofs.{Accounts.account_back, Numerals.number_back}
 use Rattle.review_names.specs.Forms.{is_label, is_within, most_changes, most_comments, most_patches}
 use Rattle.review_names.specs.Numerals.{shown_digits, numeral, ◌>>=◌, number_of}

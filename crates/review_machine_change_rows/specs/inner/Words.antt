@@ -1,15 +1,9 @@
 -- Words that only proofs and private clauses use.
-use Rattle.std.specs.Ordering.{nat_cmp}
-use Rattle.std.specs.Prelude.{[], ℕ, ◌+◌, List, ◌∷◌, Some, ◌≡◌}
-use Rattle.review_table.specs.{Rows.row_in, declared.table.RowEdit.RowEdit}
+use Rattle.std.specs.{Ordering.nat_cmp, Prelude.[], Prelude.ℕ, Prelude.◌+◌, Prelude.List, Prelude.◌∷◌, Prelude.◌≡◌}
+use Rattle.review_table.specs.Rows.{row_in}
 use Rattle.review_core_rules.specs.Change.{of_number}
 use Rattle.review_machine_change_rows.specs.declared.loading.ChangeFault.{ChangeFault}
 use Rattle.review_machine_change_rows.specs.declared.loading.ChangeFault.TheVariants.{Memory, Gap}
-
--- the changes that put rows under the numbers after one
-abbrev pub puts_after : {X : Type 0} → ℕ → List X → List (RowEdit ℕ X)
-puts_after n [] = []
-puts_after n (x ∷ xs) = record { key = n + 1; row = Some x } ∷ puts_after (n + 1) xs
 
 -- the rows are these, each under its number
 abbrev pub AreInOrder : {X : Type 0} → List (ℕ × X) → List X → Type 0

@@ -10,7 +10,6 @@ use Rattle.review_machine_rows.specs.{Files.File, Links.links_in, Submits.HasBad
 use Rattle.review_machine_rows.specs.declared.rows.{Delta.Delta, Rows.Rows}
 use Rattle.review_machine_accounts.specs.Decisions.{IsEmpty}
 use Rattle.review_machine_submits.specs.Submits.{IsChecked, HasUnsound}
-use Rattle.review_machine_rows.specs.declared.rows.Want.TheVariants as want
 
 -- what a submit that no check of its change refuses is told, and what it changes
 abbrev pub IsSubmitted : File → Rows → ℕ → Change → Delta → Reply → Type 0

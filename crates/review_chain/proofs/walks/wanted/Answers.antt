@@ -1,6 +1,5 @@
-use Rattle.std.proofs.Common.{◌≡◌, sym, ap, subst}
-use Rattle.std.specs.Prelude.{IfOk, option_map}
-use Rattle.review_chain.proofs.Wanting.{found_decided, found_wanted, walked_alone}
+use Rattle.std.proofs.Common.{◌≡◌, sym, ap, subst, IfOk, option_map}
+use Rattle.review_chain.proofs.Parting.{found_decided, found_wanted, walked_alone}
 use Rattle.review_chain.specs.{Parts.HasWalked, Steps.want_of, Steps.wanted}
 use Rattle.review_chain.proofs.walks.wanted.Goals as goal
 

@@ -1,5 +1,5 @@
 use Rattle.std.proofs.Common.{refl, sym, ap, ◌∙◌, arith}
-use Rattle.review_chain.proofs.Wanting.{walked_on, walked_wants}
+use Rattle.review_chain.proofs.Parting.{walked_on, walked_wants}
 use Rattle.review_chain.specs.Steps.{TheBase, Bad, Wants, wanted, want_of}
 use Rattle.review_chain.specs.inner.Words.{before_of}
 use Rattle.review_chain.proofs.walks.wanted_on.Goals as goal

@@ -1,6 +1,5 @@
-use Rattle.std.proofs.Common.{◌≡◌, ℕ, List, drop}
-use Rattle.std.specs.{BTreeMap.get, Cmp.Lexicographic.slice_cmp, Option.option_or, Ordering.nat_cmp}
-use Rattle.std.specs.{Prelude.find, Prelude.option_map, Str.bytes_eq}
+use Rattle.std.proofs.Common.{◌≡◌, ℕ, List, drop, nat_cmp, find, option_map, bytes_eq}
+use Rattle.std.specs.{BTreeMap.get, Cmp.Lexicographic.slice_cmp, Option.option_or}
 use Rattle.review_core_rules.specs.Change.{range_of}
 use Rattle.review_core_standing.proofs.facts.ranges_of.Given as goal
 

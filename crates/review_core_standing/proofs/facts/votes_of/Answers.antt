@@ -5,7 +5,7 @@ use Rattle.std.specs.{List.Sorted.IsStrictlySortedBy, Map.keys_of, Map.lookup, M
 use Rattle.review_table.specs.Rows.{row_in}
 use Rattle.review_expr_judging.specs.Holds.{votes_on}
 use Rattle.review_core_rules.specs.Seen.{vote_cmp}
-use Rattle.review_core_tables.{proofs.VoteKeys.vote_key, proofs.VoteKeys.vote_tied, specs.Tables.put_in}
+use Rattle.review_core_tables.{proofs.Copied.vote_key, proofs.Copied.vote_tied, specs.Tables.put_in}
 use Rattle.review_core_standing.proofs.Made.{voted_more}
 use Rattle.review_core_standing.specs.inner.Made.{is_voted, vote_at}
 use Rattle.review_core_standing.proofs.facts.votes_of.Goals as goal

@@ -1,7 +1,6 @@
-use Rattle.std.proofs.Common.{◌≡◌, ◌∷◌, ◌++◌, [], ◌∙◌, Bool, true, false, not, ap, sym, refl}
-use Rattle.std.proofs.lemmas.List.{append_assoc}
+use Rattle.std.proofs.Common.{◌≡◌, ◌∷◌, ◌++◌, [], ◌∙◌, Bool, true, false, not, ap, sym, refl, append_assoc}
 use Rattle.review_core_rules.specs.Change.{has_unresolved}
-use Rattle.review_core_standing.proofs.FromLast.{stays_unresolved, unresolved_here}
+use Rattle.review_core_standing.proofs.InThreads.{stays_unresolved, unresolved_here}
 use Rattle.review_core_standing.proofs.unresolved.ends_unresolved.Goals as goal
 
 not_seen : (b : Bool) → not b ≡ true → b ≡ false

@@ -1,5 +1,4 @@
-use Rattle.std.proofs.Common.{Some, ◌≡◌, sym, ap, ◌∙◌, subst, IfOk, rules, w8, to_z, of_z}
-use Rattle.std.specs.Option.{option_copied}
+use Rattle.std.proofs.Common.{Some, ◌≡◌, sym, ap, ◌∙◌, subst, IfOk, rules, w8, to_z, of_z, option_copied}
 use Rattle.review_core_rules.specs.Change.{condition_holds}
 use Rattle.review_core_tables.proofs.Compiled.{copied_never, copied_none, copied_where}
 use Rattle.review_core_tables.specs.Copies.{with_groups}

@@ -1,6 +1,6 @@
 use Rattle.std.proofs.Common.{◌++◌, ap, sym, ◌∙◌, arith, string_bytes}
 use Rattle.review_expr_terms.specs.Views.{view}
-use Rattle.review_expr_printing.proofs.Behind.{first_written, next_written}
+use Rattle.review_expr_printing.proofs.Levels.{first_written, next_written}
 use Rattle.review_expr_printing.proofs.printer.+print.Goals.{push_members-then-index-gt0+in_ok-push_str, push_members-else-index-gt0}
 use Rattle.review_expr_printing.specs.Printed.{member_text}
 use Rattle.review_expr_printing.proofs.printer.+print.Goals as goal

@@ -1,5 +1,4 @@
-use Rattle.std.proofs.Common.{rules, ◌≡◌, to_z, of_z, w8}
-use Rattle.std.specs.Str.{bytes_eq}
+use Rattle.std.proofs.Common.{rules, ◌≡◌, to_z, of_z, w8, bytes_eq}
 use Rattle.review_names.specs.Groups.{has_account}
 use Rattle.review_file_rules.specs.Rights.{granted, least_of, greatest_of}
 use Rattle.review_file.proofs.Ranges.{range_ends}

@@ -1,5 +1,5 @@
 use Rattle.std.proofs.Common.{subst, sym}
-use Rattle.review_file_rules.{proofs.Sound.inherited_sound, specs.Sound.IsSoundFile}
+use Rattle.review_file_rules.{proofs.Known.inherited_sound, specs.Sound.IsSoundFile}
 use Rattle.review_file_lines.proofs.inheriting.inherit_stored.Goals as goal
 
 pub new-requires : goal.new-requires

@@ -1,4 +1,4 @@
-use Rattle.review_file_rules.proofs.{Covered.child_covers, Covered.label_of_both, Sound.inherited_sound}
+use Rattle.review_file_rules.proofs.Known.{child_covers, label_of_both, inherited_sound}
 use Rattle.review_file_rules.proofs.inheritance_laws.children_keep_labels.Goals as goal
 
 pub returns-clause-label : goal.returns-clause-label

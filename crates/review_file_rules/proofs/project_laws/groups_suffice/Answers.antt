@@ -1,4 +1,4 @@
-use Rattle.review_file_rules.proofs.Alike.{vote_alike, change_alike}
+use Rattle.review_file_rules.proofs.Trees.{vote_alike, change_alike}
 use Rattle.review_file_rules.proofs.project_laws.groups_suffice.Goals as goal
 
 pub returns-clause-vote : goal.returns-clause-vote

@@ -1,4 +1,4 @@
-use Rattle.review_file_rules.proofs.{OneFile.one_file, Together.same_covers}
+use Rattle.review_file_rules.proofs.{Together.same_covers, Trees.one_file}
 use Rattle.review_file_rules.proofs.reading.one_file.Goals as goal
 
 pub returns-clause-trees : goal.returns-clause-trees

@@ -1,5 +1,5 @@
 use Rattle.std.proofs.Common.{◌≡◌, ◌≤◌, drop}
-use Rattle.review_http_requests.proofs.Digits.{told}
+use Rattle.review_http_requests.proofs.Given.{told}
 use Rattle.review_http_requests.specs.Fields.{digits_after, most}
 use Rattle.review_http_requests.proofs.fields.number_shown.Given as goal
 

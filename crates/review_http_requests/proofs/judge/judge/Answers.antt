@@ -1,5 +1,5 @@
 use Rattle.std.proofs.Common.{ℕ, List, subst, Err}
-use Rattle.review_http_requests.proofs.Judging.{judged_refused}
+use Rattle.review_http_requests.proofs.Telling.{judged_refused}
 use Rattle.review_http_requests.specs.inner.Words.{HeadIs}
 use Rattle.review_http_requests.proofs.judge.judge.Goals as goal
 

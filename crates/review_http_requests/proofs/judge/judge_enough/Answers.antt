@@ -1,4 +1,4 @@
-use Rattle.review_http_requests.proofs.Judging.{still_waits}
+use Rattle.review_http_requests.proofs.Telling.{still_waits}
 use Rattle.review_http_requests.proofs.judge.judge_enough.Goals as goal
 
 pub returns-then-bytes-wanted : goal.returns-then-bytes-wanted

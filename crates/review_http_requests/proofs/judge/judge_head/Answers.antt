@@ -1,4 +1,4 @@
-use Rattle.review_http_requests.proofs.Judging.{judged_body, front_within}
+use Rattle.review_http_requests.proofs.Telling.{judged_body, front_within}
 use Rattle.review_http_requests.proofs.judge.judge_head.Goals as goal
 
 pub returns-in-Asks : goal.returns-in-Asks

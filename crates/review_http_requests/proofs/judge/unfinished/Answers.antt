@@ -1,6 +1,6 @@
 use Rattle.std.proofs.Common.{◌<◌, arith, length, inl, inr, refl}
 use Rattle.std.proofs.lemmas.Bool.Decides.{nat_tests}
-use Rattle.review_http_requests.proofs.Judging.{ended_in_head, awaits_head}
+use Rattle.review_http_requests.proofs.Telling.{ended_in_head, awaits_head}
 use Rattle.review_http_requests.proofs.judge.unfinished.Goals as goal
 
 pub returns-then-bytes-ge-FRONT : goal.returns-then-bytes-ge-FRONT

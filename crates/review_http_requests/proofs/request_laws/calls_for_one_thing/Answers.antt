@@ -1,4 +1,4 @@
-use Rattle.review_http_requests.proofs.One.{one}
+use Rattle.review_http_requests.proofs.Telling.{one}
 use Rattle.review_http_requests.proofs.request_laws.calls_for_one_thing.Goals as goal
 
 pub returns : goal.returns

@@ -1,4 +1,4 @@
-use Rattle.review_http_requests.proofs.Longer.{whole}
+use Rattle.review_http_requests.proofs.Telling.{whole}
 use Rattle.review_http_requests.proofs.request_laws.cuts_do_not_matter.Goals as goal
 
 pub returns : goal.returns

@@ -1,4 +1,4 @@
-use Rattle.review_http_requests.proofs.Nothing.{nothing}
+use Rattle.review_http_requests.proofs.Telling.{nothing}
 use Rattle.review_http_requests.proofs.request_laws.nothing_calls_for_nothing.Goals as goal
 
 pub returns : goal.returns

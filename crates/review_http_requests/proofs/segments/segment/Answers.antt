@@ -1,5 +1,5 @@
 use Rattle.std.proofs.Common.{◌≡◌, ℕ, rules, arith, subst}
-use Rattle.review_http_requests.proofs.Segmented.{IsLeft, next, found, last, none}
+use Rattle.review_http_requests.proofs.Given.{IsLeft, next, found, last, none}
 use Rattle.review_http_requests.proofs.segments.segment.Goals as goal
 
 pub returns-in-None : goal.returns-in-None

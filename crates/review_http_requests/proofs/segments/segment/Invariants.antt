@@ -1,6 +1,6 @@
 use denote.Shadow.{shadow}
 use denote.Text.{Utf8}
-use Rattle.review_http_requests.proofs.Segmented.{IsLeft}
+use Rattle.review_http_requests.proofs.Given.{IsLeft}
 use Rattle.review_http_requests.proofs.segments.segment.Given as goal
 
 abbrev pub invariant-loop : goal.invariant-loop

@@ -1,6 +1,6 @@
 use Rattle.std.proofs.Common.{◌≤◌, ◌+◌, ◌∙◌, arith, ℕ, List, subst, take, drop, length, length-drop}
 use Rattle.std.{proofs.KnownBytes.Appends-kept, specs.Io.KnownBytes.Appends}
-use Rattle.review_http_requests.proofs.Written.{wrote_more, took_some, first_part}
+use Rattle.review_http_requests.proofs.Given.{wrote_more, took_some, first_part}
 use Rattle.review_http_requests.proofs.writing.write_whole.Goals as goal
 
 pub loop-start-preserved : goal.loop-start-preserved

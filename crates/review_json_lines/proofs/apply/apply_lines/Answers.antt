@@ -1,5 +1,5 @@
 use Rattle.std.proofs.{Common.rules, Common.◌++◌, Common.◌∙◌, KnownBytes.Appends-trans}
-use Rattle.review_json_lines.proofs.Left.{if_err, part_either, part_left, sent_less}
+use Rattle.review_json_lines.proofs.Answering.{if_err, part_either, part_left, sent_less}
 use Rattle.review_json_lines.proofs.apply.apply_lines.Goals as goal
 
 pub returns-in_err-send : goal.returns-in_err-send

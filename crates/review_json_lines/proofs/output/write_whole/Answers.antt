@@ -1,6 +1,6 @@
 use Rattle.std.proofs.Common.{◌≤◌, ◌+◌, arith, ℕ, List, subst, take, drop, length, length-drop}
 use Rattle.std.{proofs.KnownBytes.Appends-kept, specs.Io.KnownBytes.Appends}
-use Rattle.review_json_lines.proofs.{Left.taken_part, Written.wrote_more}
+use Rattle.review_json_lines.proofs.Answering.{taken_part, wrote_more}
 use Rattle.review_json_lines.proofs.output.write_whole.Goals as goal
 
 pub loop-start-preserved : goal.loop-start-preserved

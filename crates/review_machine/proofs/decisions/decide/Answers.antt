@@ -1,11 +1,10 @@
-use Rattle.std.proofs.Common.{IfOk, Option, Result, Ok, Err, ◌≡◌, ◌<◌, ℕ, List, length, true, sym, ◌∙◌}
-use Rattle.std.specs.Option.{option_copied}
+use Rattle.std.proofs.Common.{IfOk, Option, Result, Ok, Err, ◌≡◌, ◌<◌, ℕ, List, length, true, sym, ◌∙◌, option_copied}
 use Rattle.review_words.specs.{History.Entry, History.is_account, declared.command.Command.Command}
 use Rattle.review_words.specs.declared.reply.{NotTaken.NotTaken, Refusal.TheVariants.UnknownCaller, Reply.Reply}
 use Rattle.review_machine_rows.specs.{Answer.most_requests, Changes.Reading, Decisions.RestsOn, Files.File}
 use Rattle.review_machine_rows.specs.{Steps.OfCommand, View.AreEnough, View.IsDecidedAt}
 use Rattle.review_machine_rows.specs.declared.rows.{Delta.Delta, Rows.Rows}
-use Rattle.review_machine_accounts.proofs.{Closing.refused_pair_in, Decided.caller_is, Decided.unknown_refused}
+use Rattle.review_machine_accounts.proofs.Decided.{refused_pair_in, caller_is, unknown_refused}
 use Rattle.review_machine.proofs.decisions.decide.Goals as goal
 
 -- what is decided for an account is decided, where rows know that the caller is one

@@ -1,5 +1,4 @@
-use Rattle.std.proofs.Common.{IfOk, Option, Result, Ok, Err, ◌≡◌, ◌<◌, ℕ, List, length, true, sym, subst}
-use Rattle.std.specs.Option.{option_copied}
+use Rattle.std.proofs.Common.{IfOk, Option, Result, Ok, Err, ◌≡◌, ◌<◌, ℕ, List, length, true, sym, subst, option_copied}
 use Rattle.review_words.specs.{History.Entry, History.is_account, declared.command.Command.Command}
 use Rattle.review_words.specs.declared.command.Command.TheVariants.{CreateAccount, PutGroup, PutProject, RecordBase, CreateChange, OnChange, Submit, CloseEpoch}
 use Rattle.review_words.specs.declared.reply.{NotTaken.NotTaken, Reply.Reply}
@@ -7,7 +6,7 @@ use Rattle.review_machine_rows.specs.Answer.{IsAnswerBy, IsAnswerAt, most_reques
 use Rattle.review_machine_rows.specs.{Changes.Reading, Decisions.RestsOn, Files.File, Steps.OfCommand}
 use Rattle.review_machine_rows.specs.View.{AreEnough, IsDecided, IsDecidedAt}
 use Rattle.review_machine_rows.specs.declared.rows.{Delta.Delta, Rows.Rows}
-use Rattle.review_machine_accounts.proofs.Closing.{decided_in}
+use Rattle.review_machine_accounts.proofs.Decided.{decided_in}
 use Rattle.review_machine.proofs.decisions.decide_for.Goals as goal
 
 -- a command of an account is decided, where this file was read

@@ -1,5 +1,4 @@
-use Rattle.std.proofs.Common.{◌≡◌, ◌+◌, true, false, refl, sym, ap, ◌∙◌, arith}
-use Rattle.std.{proofs.lemmas.Bool.le-ltb, proofs.lemmas.Bool.lt-ltb, specs.Prelude.is_some, specs.Prelude.nat_lt}
+use Rattle.std.proofs.Common.{◌≡◌, ◌+◌, true, false, refl, sym, ap, ◌∙◌, arith, le-ltb, lt-ltb, is_some, nat_lt}
 use Rattle.review_words.specs.History.{account_count, name_taken}
 use Rattle.review_words.specs.declared.command.Command.TheVariants.{CreateAccount}
 use Rattle.review_words.specs.declared.reply.Refusal.TheVariants.{NotAdmin, NameTaken, Limit}

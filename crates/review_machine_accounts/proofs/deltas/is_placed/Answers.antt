@@ -1,4 +1,4 @@
-use Rattle.review_machine_accounts.proofs.Refusing.{plain_fault}
+use Rattle.review_machine_accounts.proofs.Decided.{plain_fault}
 use Rattle.review_machine_accounts.proofs.deltas.is_placed.Goals as goal
 
 pub returns-in_default : goal.returns-in_default

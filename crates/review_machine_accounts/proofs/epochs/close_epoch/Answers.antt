@@ -3,8 +3,8 @@ use Rattle.std.{proofs.lemmas.Bool.Decides.nat_tests, specs.Prelude.nat_le, spec
 use Rattle.review_words.specs.{History.least_open, declared.command.Command.TheVariants.CloseEpoch}
 use Rattle.review_words.specs.declared.reply.Refusal.TheVariants.{NotAdmin, EpochAhead, SameState}
 use Rattle.review_words.specs.declared.reply.Reply.TheVariants.{Refused}
-use Rattle.review_machine_accounts.proofs.Closing.{close_answer, close_refused, close_decided}
-use Rattle.review_machine_accounts.proofs.{Decided.admin_is, Decided.asked_beside, Told.least_told}
+use Rattle.review_machine_accounts.proofs.Decided.{close_answer, close_refused, close_decided, admin_is, asked_beside}
+use Rattle.review_machine_accounts.proofs.Told.{least_told}
 use Rattle.review_machine_accounts.proofs.epochs.close_epoch.Goals as goal
 
 pub returns-then-not-admin-clause-decided : goal.returns-then-not-admin-clause-decided

@@ -1,17 +1,60 @@
-use Rattle.std.{proofs.Common.◌∙◌, proofs.Common.sym, proofs.Common.ap, specs.Ordering.nat_cmp}
-use Rattle.review_table.specs.Rows.{changed}
-use Rattle.review_core_rules.specs.Change.{of_number}
-use Rattle.review_machine_change_rows.proofs.Edited.{turned}
+use Rattle.std.proofs.Common.{◌≡◌, ◌≤◌, ◌+◌, ◌∙◌, ◌++◌, ap, length, length-append, arith, refl, subst, sym, nat_cmp, nat_le, true, ℕ}
+use Rattle.std.proofs.lemmas.Bool.Decides.{nat_tests}
+use Rattle.review_names.specs.Forms.{most_comments, most_patches}
+use Rattle.review_table.specs.Rows.{NamesOnce}
+use Rattle.review_core_rules.{proofs.Stays.within_parts, specs.Seen.vote_cmp}
+use Rattle.review_machine_change_rows.proofs.Edited.{added, noted, turned, numbers_once}
+use Rattle.review_machine_change_rows.specs.Edits.{puts_after}
 use Rattle.review_machine_change_rows.proofs.edits.edit_of.Goals as goal
+
+pub more_patches-requires : goal.more_patches-requires
+more_patches-requires c =
+    let d = c.args.edited in
+    let old = d.rows.now.patches in
+    let size : c.len.result ≡ length old.items = c.len.ensures ∙ old.ok.0 in
+    let both : length (old.items ++ d.patches.items) ≡ length old.items + length d.patches.items = length-append old.items d.patches.items in
+    let most = (within_parts most_patches (length (old.items ++ d.patches.items)) c.requires.sound.patches).1 in
+    omega (arith, size, both, most)
+
+pub more_comments-requires : goal.more_comments-requires
+more_comments-requires c =
+    let d = c.args.edited in
+    let old = d.rows.now.comments in
+    let size : c.len-2.result ≡ length old.items = c.len-2.ensures ∙ old.ok.0 in
+    let both : length (old.items ++ d.comments.items) ≡ length old.items + length d.comments.items = length-append old.items d.comments.items in
+    let most = below (length (old.items ++ d.comments.items)) c.requires.sound.comments in
+    omega (arith, size, both, most)
+  where
+    below : (n : ℕ) → nat_le n most_comments ≡ true → n ≤ most_comments
+    below n is = grind (arith, nat_tests)
 
 pub returns-clause-becomes : goal.returns-clause-becomes
 returns-clause-becomes c =
-    let m = c.in_ok-marks.marks in
-    turned (record { change = c.args.change; header = c.in_ok-header.header; patches = c.in_ok-patches.patches; votes = m.votes; roles = m.roles; comments = c.in_ok-comments.comments; attention = m.attention }) c.args.old.now c.args.new.now (record {
-      header = c.in_ok-header.ensures;
-      patches = λ n. (λ i. changed nat_cmp c.in_ok-patches.patches.items n (of_number (sym c.deref.ensures.value i) n)) ∙ (c.in_ok-patches.ensures.becomes n ∙ ap (λ l. of_number l n) c.deref-2.ensures.value);
-      votes = c.in_ok-marks.ensures.votes;
-      roles = c.in_ok-marks.ensures.roles;
-      comments = λ n. (λ i. changed nat_cmp c.in_ok-comments.comments.items n (of_number (sym c.deref-3.ensures.value i) n)) ∙ (c.in_ok-comments.ensures.becomes n ∙ ap (λ l. of_number l n) c.deref-4.ensures.value);
-      attention = c.in_ok-marks.ensures.attention;
+    let d = c.args.edited in
+    turned (record { change = c.args.change; header = d.header; patches = c.in_ok-patches.patches; votes = c.in_ok-votes.votes; roles = c.in_ok-roles.roles; comments = c.in_ok-comments.comments; attention = c.in_ok-attention.attention }) d (record {
+      header = refl;
+      patches = added c.in_ok-patches.patches.items c.len.result d.rows.now.patches.items d.patches.items (c.len.ensures ∙ d.rows.now.patches.ok.0) c.in_ok-patches.ensures;
+      votes = noted vote_cmp c.in_ok-votes.votes.items d.votes d.rows.now.votes c.in_ok-votes.ensures.edits d.over.votes_are;
+      roles = noted nat_cmp c.in_ok-roles.roles.items d.roles d.rows.now.roles c.in_ok-roles.ensures.edits d.over.roles_are;
+      comments = added c.in_ok-comments.comments.items c.len-2.result d.rows.now.comments.items d.comments.items (c.len-2.ensures ∙ d.rows.now.comments.ok.0) c.in_ok-comments.ensures;
+      attention = noted nat_cmp c.in_ok-attention.attention.items d.attention d.rows.now.attention c.in_ok-attention.ensures.edits d.over.attention_is;
     })
+
+pub returns-clause-noted : goal.returns-clause-noted
+returns-clause-noted c =
+    let d = c.args.edited in record {
+      patches = c.in_ok-patches.ensures ∙ ap (λ n. puts_after n d.patches.items) (c.len.ensures ∙ d.rows.now.patches.ok.0);
+      votes = c.in_ok-votes.ensures.edits;
+      roles = c.in_ok-roles.ensures.edits;
+      comments = c.in_ok-comments.ensures ∙ ap (λ n. puts_after n d.comments.items) (c.len-2.ensures ∙ d.rows.now.comments.ok.0);
+      attention = c.in_ok-attention.ensures.edits;
+    }
+
+pub returns-clause-once : goal.returns-clause-once
+returns-clause-once c = record {
+  patches = subst (NamesOnce nat_cmp) (sym c.in_ok-patches.ensures) (numbers_once c.len.result c.args.edited.patches.items);
+  votes = c.in_ok-votes.ensures.once;
+  roles = c.in_ok-roles.ensures.once;
+  comments = subst (NamesOnce nat_cmp) (sym c.in_ok-comments.ensures) (numbers_once c.len-2.result c.args.edited.comments.items);
+  attention = c.in_ok-attention.ensures.once;
+}

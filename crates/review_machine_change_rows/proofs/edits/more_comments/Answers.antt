@@ -1,21 +1,17 @@
-use Rattle.std.proofs.Common.{◌≡◌, ◌≤◌, ◌+◌, Some, None, cond, sym, ap, ◌∙◌, length, arith}
-use Rattle.review_names.specs.Forms.{most_comments}
-use Rattle.review_machine_change_rows.proofs.Numbered.{all_put, has_number, once_put}
+use Rattle.std.proofs.Common.{◌≡◌, ◌+◌, ◌∙◌, ◌++◌, Some, None, cond, length, true, ap, sym, arith}
+use Rattle.review_names.specs.Forms.{is_within, most_comments}
+use Rattle.review_core_rules.proofs.Stays.{within_from}
+use Rattle.review_machine_change_rows.proofs.Edited.{has_number}
+use Rattle.review_machine_change_rows.specs.Edits.{puts_after}
 use Rattle.review_machine_change_rows.proofs.edits.more_comments.Goals as goal
 
 pub unreachable-requires : goal.unreachable-requires
 unreachable-requires c =
-    let n = c.loop-index.index + 1 in
-    let within = has_number most_comments c.loop-index.index c.args.old.now c.args.new.now c.requires c.loop-index-test.true in
+    let put = c.loop-comment.edits.items in
+    let left = ap (λ rest. put ++ puts_after (c.args.before + length put) rest) (sym c.in-Some.ensures.steps.0) ∙ c.loop-comment.invariant in
+    let n = c.args.before + c.len-in-loop-comment.result + 1 in
+    let size : c.len-in-loop-comment.result ≡ length put = c.len-in-loop-comment.ensures ∙ c.loop-comment.edits.ok.0 in
+    let most = has_number most_comments c.args.before put c.in-Some.comment c.next.new.self.rest.items c.args.comments.items c.requires left in
+    let within : is_within most_comments n ≡ true = within_from most_comments n (omega arith) (omega (arith, most, size)) in
     let bad : None ≡ Some n = sym c.in_default.is ∙ (c.from_number.ensures ∙ ap (λ b. cond b (Some n) None) within) in
     absurd (cc)
-
-pub returns-clause-becomes : goal.returns-clause-becomes
-returns-clause-becomes c = λ n.
-    let past : length c.args.new.now ≤ c.loop-index.index = let f = c.loop-index-test.false in omega arith in
-    all_put most_comments c.args.old.now c.args.new.now c.loop-index.more.items c.loop-index.index n c.requires past c.loop-index.invariant
-
-pub returns-clause-once : goal.returns-clause-once
-returns-clause-once c =
-    let past : length c.args.new.now ≤ c.loop-index.index = let f = c.loop-index-test.false in omega arith in
-    once_put c.args.old.now c.args.new.now c.loop-index.more.items c.loop-index.index past c.loop-index.invariant

@@ -1,6 +1,7 @@
-use Rattle.std.proofs.Common.{◌≡◌, ◌++◌, drop, length}
-use Rattle.review_machine_change_rows.specs.inner.Words.{puts_after}
+use Rattle.std.proofs.Common.{◌≡◌, ◌++◌, ◌+◌, length}
+use Rattle.review_machine_change_rows.specs.Edits.{puts_after}
 use Rattle.review_machine_change_rows.proofs.edits.more_comments.Given as goal
 
-abbrev pub invariant-loop-index : goal.invariant-loop-index
-invariant-loop-index l = l.more.items ++ puts_after l.index (drop l.index l.new) ≡ puts_after (length l.old) (drop (length l.old) l.new)
+-- the edits so far and those of the rows that are left are all
+abbrev pub invariant-loop-comment : goal.invariant-loop-comment
+invariant-loop-comment l = l.edits.items ++ puts_after (l.before + length l.edits.items) l.comment-iterator.rest.items ≡ puts_after l.before l.fn.comments.items

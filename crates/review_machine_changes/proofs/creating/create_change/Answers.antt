@@ -1,13 +1,11 @@
-use Rattle.std.proofs.Common.{◌≡◌, ◌+◌, ◌∙◌, ap, sym, subst, length, true, arith}
-use Rattle.std.specs.Option.{option_copied}
+use Rattle.std.proofs.Common.{◌≡◌, ◌+◌, ◌∙◌, ap, sym, subst, length, true, arith, option_copied}
 use Rattle.review_names.specs.Forms.{is_within, most_changes}
 use Rattle.review_words.specs.declared.command.Command.TheVariants.{CreateChange}
 use Rattle.review_core_rules.specs.Change.{begun}
 use Rattle.review_machine_rows.{proofs.Asked.requests_are, specs.View.view}
 use Rattle.review_machine_accounts.proofs.Decided.{asked_beside, refused_pair}
-use Rattle.review_machine_changes.proofs.Created.{create_decided, number_left, refused_told}
 use Rattle.review_machine_changes.proofs.Made.{change_within, first_within, stored_numbers}
-use Rattle.review_machine_changes.proofs.Told.{last_change_told}
+use Rattle.review_machine_changes.proofs.Told.{create_decided, number_left, refused_told, last_change_told}
 use Rattle.review_machine_changes.proofs.creating.create_change.Goals as goal
 
 pub returns-in-Some-clause-decided : goal.returns-in-Some-clause-decided

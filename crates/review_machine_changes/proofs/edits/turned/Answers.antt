@@ -1,5 +1,5 @@
-use Rattle.std.proofs.{Common.◌∙◌, Common.ap, lemmas.Result.IfOk-weaker}
-use Rattle.review_core_rules.specs.{Parts.part_row, Seen.seen}
+use Rattle.std.proofs.lemmas.Result.{IfOk-weaker}
+use Rattle.review_core_rules.specs.{EditedChanges.after_edits, Seen.seen}
 use Rattle.review_machine_rows.specs.Decisions.{NamesEachOnce, NamesRowsOnce}
 use Rattle.review_machine_changes.specs.Facts.{EditsChange, MakesChange}
 use Rattle.review_machine_changes.proofs.edits.turned.Goals as goal
@@ -7,14 +7,9 @@ use Rattle.review_machine_changes.proofs.edits.turned.Goals as goal
 pub returns-clause-made : goal.returns-clause-made
 returns-clause-made c =
     let a = c.args in
-    IfOk-weaker c.edited.result (EditsChange c.in_ok-edit.edit) (MakesChange a.change (seen a.found.now) (seen a.new.rows))
-    (λ delta edits. record {
-      edit = c.in_ok-edit.edit;
-      edits = edits;
-      named = c.in_ok-edit.ensures.change;
-      becomes = λ part. c.in_ok-edit.ensures.becomes part ∙ ap (λ r. part_row (seen r) part) c.rows.ensures.same;
-    })
-    c.edited.ensures.edits
+    IfOk-weaker c.delta_of.result (EditsChange c.in_ok-edit.edit) (MakesChange a.change (seen a.edited.rows.now) (after_edits a.edited))
+    (λ delta edits. record { edit = c.in_ok-edit.edit; edits = edits; named = c.in_ok-edit.ensures.change; becomes = c.in_ok-edit.ensures.becomes })
+    c.delta_of.ensures.edits
 
 pub returns-clause-once : goal.returns-clause-once
-returns-clause-once c = IfOk-weaker c.edited.result (λ delta. NamesRowsOnce c.in_ok-edit.edit → NamesEachOnce delta) NamesEachOnce (λ delta once. once c.in_ok-edit.ensures.once) c.edited.ensures.once
+returns-clause-once c = IfOk-weaker c.delta_of.result (λ delta. NamesRowsOnce c.in_ok-edit.edit → NamesEachOnce delta) NamesEachOnce (λ delta once. once c.in_ok-edit.ensures.once) c.delta_of.ensures.once

@@ -8,6 +8,6 @@ returns-clause-made c =
     let a = c.args in
     let request : c.saturating_add-request.result ≡ next_request a.rows.now = c.saturating_add-request.ensures ∙ ap (λ n. min (n + 1) 18446744073709551615) c.number.ensures in
     record {
-      made = subst (λ n. MakesChange a.change (seen a.found.now) (after_plain a.command.now a.caller n (seen a.found.now)) c.in_ok-delta.delta) request c.in_ok-delta.ensures.made;
+      made = subst (λ n. MakesChange a.change (seen a.file.now.rows.now) (after_plain a.command.now a.caller n (seen a.file.now.rows.now)) c.in_ok-delta.delta) request c.in_ok-delta.ensures.made;
       reply_is = refl;
     }

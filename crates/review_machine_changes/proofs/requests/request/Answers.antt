@@ -1,14 +1,12 @@
-use Rattle.std.proofs.Common.{◌∙◌, ap, subst, sym}
-use Rattle.std.specs.{Option.option_copied, Prelude.option_map}
+use Rattle.std.proofs.Common.{◌≡◌, ◌∙◌, ap, subst, sym, true, option_copied, option_map}
 use Rattle.review_words.specs.declared.{command.Command.TheVariants.OnChange, reply.Refusal.TheVariants.NoChange}
-use Rattle.review_core_rules.specs.Seen.{seen}
+use Rattle.review_core_rules.specs.{Change.Change, Seen.seen, Sound.fits}
 use Rattle.review_machine_rows.specs.Answer.{first_refusal}
 use Rattle.review_machine_accounts.proofs.Decided.{asked_beside, refused_pair}
-use Rattle.review_machine_changes.proofs.Plain.{lacking_undecided, plain_decided, plain_fits, plain_told}
-use Rattle.review_machine_changes.proofs.Told.{change_told}
-use Rattle.review_machine_changes.proofs.Undecided.{change_is, err_with, none_there, unsound_undecided}
-use Rattle.review_machine_changes.proofs.Written.{request_is}
-use Rattle.review_machine_changes.specs.{Facts.IsChecked, Requests.plain_list}
+use Rattle.review_machine_changes.proofs.Made.{request_is}
+use Rattle.review_machine_changes.proofs.Requested.{lacking_undecided, plain_decided, plain_fits, plain_told}
+use Rattle.review_machine_changes.proofs.Told.{change_told, change_is, err_with, none_there, unsound_undecided}
+use Rattle.review_machine_changes.specs.{Facts.IsChecked, Requests.plain_list, inner.Words.IsPlainlyDone}
 use Rattle.review_machine_changes.proofs.requests.request.Goals as goal
 
 pub returns-in_default-clause-decided : goal.returns-in_default-clause-decided
@@ -44,16 +42,18 @@ returns-in-Fails-clause-decided c = λ reading h room account l.
 pub done-requires-clause-fits : goal.done-requires-clause-fits
 done-requires-clause-fits c =
     let a = c.args in
-    plain_fits (option_copied a.effective) a.rows.now a.caller a.command.now (seen c.in-Some.found.now) c.requires
-    (subst (IsChecked (first_refusal (plain_list (option_copied c.args.effective) c.args.rows.now c.args.caller c.args.command.now (seen c.in-Some.found.now))) (seen c.in-Some.found.now)) c.in-Passes.is c.in_ok-checked.ensures.checked).0
+    let x = seen c.in-Some.found.now in
+    let passed = subst (IsChecked (first_refusal (plain_list (option_copied a.effective) a.rows.now a.caller a.command.now x)) x) c.in-Passes.is c.in_ok-checked.ensures.checked in
+    subst (λ (y : Change). fits a.command.now y ≡ true) (sym passed.1) (plain_fits (option_copied a.effective) a.rows.now a.caller a.command.now x c.requires passed.0)
 
 pub returns-in_ok-done-in-Passes-clause-decided : goal.returns-in_ok-done-in-Passes-clause-decided
 returns-in_ok-done-in-Passes-clause-decided c = λ reading h room account l.
     let a = c.args in
     let x = seen c.in-Some.found.now in
     let there = sym c.change.ensures ∙ ap (λ o. option_map (λ r. seen r) (option_copied o)) c.in-Some.is in
-    let passes = plain_told c.one_effective_file.ensures reading h a.caller a.change a.command.now (option_copied a.effective) a.rows.now x account there l c.requires (sym c.lacks_file.ensures ∙ c.if-lacks_file.false)
-    ∙ (subst (IsChecked (first_refusal (plain_list (option_copied c.args.effective) c.args.rows.now c.args.caller c.args.command.now (seen c.in-Some.found.now))) (seen c.in-Some.found.now)) c.in-Passes.is c.in_ok-checked.ensures.checked).0 in
+    let passed = subst (IsChecked (first_refusal (plain_list (option_copied a.effective) a.rows.now a.caller a.command.now x)) x) c.in-Passes.is c.in_ok-checked.ensures.checked in
+    let passes = plain_told c.one_effective_file.ensures reading h a.caller a.change a.command.now (option_copied a.effective) a.rows.now x account there l c.requires (sym c.lacks_file.ensures ∙ c.if-lacks_file.false) ∙ passed.0 in
+    let made = subst (λ y. IsPlainlyDone a.change a.command.now a.caller a.rows.now y c.in_ok-done-in-Passes.field-0.0 c.in_ok-done-in-Passes.field-0.1) passed.1 c.in_ok-done-in-Passes.ensures.made in
     plain_decided reading h a.caller a.change a.command.now a.rows.now x c.in_ok-done-in-Passes.field-0.0 c.in_ok-done-in-Passes.field-0.1 c.requires passes
     (change_is reading h a.caller a.change a.command.now (option_copied a.effective) a.rows.now x there l)
-    (request_is reading h a.caller (OnChange a.change a.command.now) (option_copied a.effective) a.rows.now room l) c.in_ok-done-in-Passes.ensures.made
+    (request_is reading h a.caller (OnChange a.change a.command.now) (option_copied a.effective) a.rows.now room l) made

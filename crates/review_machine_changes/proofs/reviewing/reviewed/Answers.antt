@@ -1,28 +1,28 @@
-use Rattle.std.proofs.Common.{◌≡◌, ◌≤◌, ◌+◌, ◌∙◌, ap, sym, subst, length, min, arith, rules}
+use Rattle.std.proofs.Common.{◌≡◌, ◌≤◌, ◌+◌, ◌∙◌, ap, sym, subst, length, min, arith, Bor}
 use Rattle.std.specs.List.{AllByRecursion}
 use Rattle.review_names.specs.Forms.{most_comments}
 use Rattle.review_words.specs.{Texts.IsCommentNumber, declared.command.ChangeCommand.TheVariants.Review as ReviewOf}
 use Rattle.review_words.specs.declared.reply.{Answer.TheVariants.Reviewed, Reply.TheVariants.Done}
-use Rattle.review_core_rules.specs.{Change.after_plain, Change.said, Seen.seen}
-use Rattle.review_machine_changes.proofs.Reviewed.{numbers_count, numbers_fit, room_for}
+use Rattle.review_core_rules.specs.{Change.after_plain, Change.said, Seen.seen, declared.rows.ChangeRows.ChangeRows}
+use Rattle.review_machine_changes.proofs.Requested.{numbers_count, numbers_fit, room_for}
 use Rattle.review_machine_changes.specs.{Facts.MakesChange, Facts.next_request, inner.Facts.next_numbers}
 use Rattle.review_machine_changes.proofs.reviewing.reviewed.Goals as goal
 
 pub returns-clause-made : goal.returns-clause-made
 returns-clause-made c =
     let a = c.args in
-    let count : c.len.result ≡ length a.found.now.comments.items = search rules in
+    let count : c.len-stored.result ≡ length a.file.now.rows.now.comments.items = c.len-stored.ensures ∙ c.rows.result.now.comments.ok.0 ∙ ap (λ (r : Bor ChangeRows). length r.now.comments.items) c.rows.ensures.same in
     let request : c.saturating_add-request.result ≡ next_request a.rows.now = c.saturating_add-request.ensures ∙ ap (λ n. min (n + 1) 18446744073709551615) c.number.ensures in
     record {
-      made = subst (λ n. MakesChange a.change (seen a.found.now) (after_plain (ReviewOf a.review.now) a.caller n (seen a.found.now)) c.in_ok-delta.delta) request c.in_ok-delta.ensures.made;
+      made = subst (λ n. MakesChange a.change (seen a.file.now.rows.now) (after_plain (ReviewOf a.review.now) a.caller n (seen a.file.now.rows.now)) c.in_ok-delta.delta) request c.in_ok-delta.ensures.made;
       reply_is = λ i. Done (Reviewed ((c.in_ok-numbers.ensures ∙ (λ j. next_numbers (count j) (c.said_count.ensures j))) i));
     }
 
 pub returns-clause-stored : goal.returns-clause-stored
 returns-clause-stored c =
     let a = c.args in
-    let count : c.len.result ≡ length a.found.now.comments.items = search rules in
-    let is : c.in_ok-numbers.numbers ≡ next_numbers (length a.found.now.comments.items) (length (said a.review.now)) = c.in_ok-numbers.ensures ∙ (λ j. next_numbers (count j) (c.said_count.ensures j)) in
-    let room = room_for a.review.now (seen a.found.now) c.requires.fits in
+    let count : c.len-stored.result ≡ length a.file.now.rows.now.comments.items = c.len-stored.ensures ∙ c.rows.result.now.comments.ok.0 ∙ ap (λ (r : Bor ChangeRows). length r.now.comments.items) c.rows.ensures.same in
+    let is : c.in_ok-numbers.numbers ≡ next_numbers (length a.file.now.rows.now.comments.items) (length (said a.review.now)) = c.in_ok-numbers.ensures ∙ (λ j. next_numbers (count j) (c.said_count.ensures j)) in
+    let room = room_for a.review.now (seen a.file.now.rows.now) c.requires in
     subst (λ l. (length l ≤ most_comments) × AllByRecursion IsCommentNumber l) (sym is)
-    (subst (λ n. n ≤ most_comments) (sym (numbers_count (length a.found.now.comments.items) (length (said a.review.now)))) (omega arith), numbers_fit (length a.found.now.comments.items) (length (said a.review.now)) room)
+    (subst (λ n. n ≤ most_comments) (sym (numbers_count (length a.file.now.rows.now.comments.items) (length (said a.review.now)))) (omega arith), numbers_fit (length a.file.now.rows.now.comments.items) (length (said a.review.now)) room)

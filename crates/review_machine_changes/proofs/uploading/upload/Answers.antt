@@ -1,17 +1,15 @@
-use Rattle.std.proofs.Common.{◌∙◌, ap, subst, sym}
-use Rattle.std.specs.{Option.option_copied, Prelude.option_map}
+use Rattle.std.proofs.Common.{◌≡◌, ◌∙◌, ap, subst, sym, true, option_copied, option_map}
 use Rattle.review_words.specs.declared.command.ChangeCommand.TheVariants.{Upload as UploadCommand}
 use Rattle.review_words.specs.declared.command.Command.TheVariants.{OnChange}
 use Rattle.review_words.specs.declared.reply.{NotTaken.TheVariants.Damaged, Refusal.TheVariants.NoChange}
-use Rattle.review_core_rules.specs.Seen.{seen}
+use Rattle.review_core_rules.specs.{Change.Change, Seen.seen, Sound.fits}
 use Rattle.review_machine_rows.specs.{Answer.first_refusal, Decisions.IsUndecided, Rows.HasNoEffect, Steps.OfCommand}
 use Rattle.review_machine_rows.specs.View.{AreEnough}
 use Rattle.review_machine_accounts.proofs.Decided.{asked_beside, empty_changes, refused_pair}
-use Rattle.review_machine_changes.proofs.Told.{change_told}
-use Rattle.review_machine_changes.proofs.Undecided.{change_is, err_with, none_there, unsound_undecided, upload_undecided}
-use Rattle.review_machine_changes.proofs.Uploaded.{copied_told, upload_fits, upload_told}
-use Rattle.review_machine_changes.proofs.Written.{request_is, upload_decided}
-use Rattle.review_machine_changes.specs.{Facts.IsChecked, inner.Facts.upload_list}
+use Rattle.review_machine_changes.proofs.Made.{request_is, upload_decided}
+use Rattle.review_machine_changes.proofs.Requested.{copied_told, upload_fits, upload_told}
+use Rattle.review_machine_changes.proofs.Told.{change_told, change_is, err_with, none_there, unsound_undecided, upload_undecided}
+use Rattle.review_machine_changes.specs.{Facts.IsChecked, inner.Facts.IsUploaded, inner.Facts.upload_list}
 use Rattle.review_machine_changes.proofs.uploading.upload.Goals as goal
 
 pub returns-in_default-clause-decided : goal.returns-in_default-clause-decided
@@ -51,10 +49,13 @@ pub returns-in-Fails-clause-refused : goal.returns-in-Fails-clause-refused
 returns-in-Fails-clause-refused c =
     let r = c.refused-in-Fails in subst (λ reply. HasNoEffect reply r.result.0) (sym r.ensures.reply) (empty_changes r.result.0 r.ensures.empty)
 
-pub uploaded-requires-clause-fits : goal.uploaded-requires-clause-fits
-uploaded-requires-clause-fits c =
+pub uploaded-requires : goal.uploaded-requires
+uploaded-requires c =
     let a = c.args in
-    upload_fits c.in-Some-effective.project.now a.rows.now a.caller a.patch.now (seen c.in-Some.found.now) (subst (IsChecked (first_refusal (upload_list c.in-Some-effective.project.now c.args.rows.now c.args.caller c.args.patch.now (seen c.in-Some.found.now))) (seen c.in-Some.found.now)) c.in-Passes.is c.in_ok-checked.ensures.checked).0
+    let f = c.in-Some-effective.project.now in
+    let x = seen c.in-Some.found.now in
+    let passed = subst (IsChecked (first_refusal (upload_list f a.rows.now a.caller a.patch.now x)) x) c.in-Passes.is c.in_ok-checked.ensures.checked in
+    subst (λ (y : Change). fits (UploadCommand a.patch.now) y ≡ true) (sym passed.1) (upload_fits f a.rows.now a.caller a.patch.now x passed.0)
 
 pub returns-in_ok-uploaded-in-Passes-clause-decided : goal.returns-in_ok-uploaded-in-Passes-clause-decided
 returns-in_ok-uploaded-in-Passes-clause-decided c = λ reading h room account l.
@@ -64,8 +65,10 @@ returns-in_ok-uploaded-in-Passes-clause-decided c = λ reading h room account l.
     let x = seen c.in-Some.found.now in
     let there = sym c.change.ensures ∙ ap (λ o. option_map (λ r. seen r) (option_copied o)) c.in-Some.is in
     let enough = subst (λ effective. AreEnough reading h a.caller (OfCommand command) effective a.rows.now) (ap option_copied c.in-Some-effective.is) l in
-    let passes = upload_told c.one_effective_file.ensures reading h a.caller a.change a.patch.now f a.rows.now x account there enough ∙ (subst (IsChecked (first_refusal (upload_list c.in-Some-effective.project.now c.args.rows.now c.args.caller c.args.patch.now (seen c.in-Some.found.now))) (seen c.in-Some.found.now)) c.in-Passes.is c.in_ok-checked.ensures.checked).0 in
+    let passed = subst (IsChecked (first_refusal (upload_list f a.rows.now a.caller a.patch.now x)) x) c.in-Passes.is c.in_ok-checked.ensures.checked in
+    let passes = upload_told c.one_effective_file.ensures reading h a.caller a.change a.patch.now f a.rows.now x account there enough ∙ passed.0 in
+    let made = subst (λ y. IsUploaded f a.change a.patch.now a.caller a.rows.now y c.in_ok-uploaded-in-Passes.field-0.0 c.in_ok-uploaded-in-Passes.field-0.1) passed.1 c.in_ok-uploaded-in-Passes.ensures.made in
     upload_decided reading h a.caller a.change a.patch.now f a.rows.now x c.in_ok-uploaded-in-Passes.field-0.0 c.in_ok-uploaded-in-Passes.field-0.1 passes
     (change_is reading h a.caller a.change (UploadCommand a.patch.now) (option_copied a.effective) a.rows.now x there l)
     (request_is reading h a.caller command (option_copied a.effective) a.rows.now room l)
-    (copied_told c.one_effective_file.ensures c.groups_suffice.ensures.vote reading h a.caller a.change a.patch.now f a.rows.now x there enough) c.in_ok-uploaded-in-Passes.ensures.made
+    (copied_told c.one_effective_file.ensures c.groups_suffice.ensures.vote reading h a.caller a.change a.patch.now f a.rows.now x there enough) made

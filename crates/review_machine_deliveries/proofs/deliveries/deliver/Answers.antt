@@ -1,5 +1,5 @@
 use Rattle.std.proofs.Common.{◌∷◌, []}
-use Rattle.review_machine_deliveries.proofs.{Formed.history_formed, Served.stopped}
+use Rattle.review_machine_deliveries.proofs.{Histories.history_formed, Served.stopped}
 use Rattle.review_machine_deliveries.proofs.deliveries.deliver.Goals as goal
 
 pub returns : goal.returns

@@ -1,5 +1,4 @@
-use Rattle.std.proofs.Common.{inl, rules, subst, sym}
-use Rattle.std.specs.Prelude.{option_copied}
+use Rattle.std.proofs.Common.{inl, rules, subst, sym, option_copied}
 use Rattle.review_machine_rows.specs.Steps.{OfCommand}
 use Rattle.review_machine_deliveries.proofs.Deciding.{counts_none, leaves_alike, ungathered_undecided, was_decided, was_stored, was_undecided}
 use Rattle.review_machine_deliveries.proofs.Filed.{passed_on}

@@ -1,7 +1,7 @@
 use Rattle.std.proofs.Common.{◌∙◌, None, rules, sym, subst}
 use Rattle.review_words.specs.{History.Identity, declared.command.Delivery.TheVariants.Write}
 use Rattle.review_machine_rows.specs.{Rows.kept_row, Shelf.Answers, Shelf.IsRecalled, Shelf.Shows}
-use Rattle.review_machine_deliveries.proofs.Effects.{repeated, repeat_keeps}
+use Rattle.review_machine_deliveries.proofs.Histories.{repeated, repeat_keeps}
 use Rattle.review_machine_deliveries.proofs.Served.{closed_served, repeat_served, after_read, views_stay, unrecalled}
 use Rattle.review_machine_deliveries.specs.Replies.{StoresOnce, KeepsUntaken}
 use Rattle.review_machine_deliveries.specs.inner.Words.{IsToldAgain, reply_of}

@@ -1,7 +1,6 @@
-use Rattle.std.proofs.Common.{◌∙◌, ap, refl, rules, sym, subst}
-use Rattle.std.specs.{Option.option_copied, Prelude.IfSome}
+use Rattle.std.proofs.Common.{◌∙◌, ap, refl, rules, sym, subst, option_copied, IfSome}
 use Rattle.review_machine_rows.specs.{Known.Agrees, Shelf.Shows, Steps.ComesTo, Steps.topic_of, Steps.wants_in}
-use Rattle.review_machine_deliveries.proofs.Asking.{step_lowers, none_asked, so_far_added, so_far_shown, stays_added}
+use Rattle.review_machine_deliveries.proofs.Filed.{step_lowers, none_asked, so_far_added, so_far_shown, stays_added}
 use Rattle.review_machine_deliveries.proofs.gathering.gather_from.Goals as goal
 
 pub loop-need-init : goal.loop-need-init

@@ -1,6 +1,6 @@
 use Rattle.std.proofs.Common.{Some, inr, rules, sym, subst}
 use Rattle.review_machine_rows.specs.{Known.Agrees, Shelf.Shows, Steps.HasFile, Steps.texts_for, Steps.topic_of}
-use Rattle.review_machine_deliveries.proofs.{Asking.come_to_file, Filed.file_stays, Filed.unread_is, Filed.passed_on}
+use Rattle.review_machine_deliveries.proofs.Filed.{come_to_file, file_stays, unread_is, passed_on}
 use Rattle.review_machine_deliveries.specs.Gathered.{IsUngathered}
 use Rattle.review_machine_deliveries.proofs.gathering.gathered.Goals as goal
 

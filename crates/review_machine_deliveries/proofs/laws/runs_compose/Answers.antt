@@ -1,4 +1,4 @@
-use Rattle.review_machine_deliveries.proofs.Going.{history_after-append, right-append}
+use Rattle.review_machine_deliveries.proofs.Ran.{history_after-append, right-append}
 use Rattle.review_machine_deliveries.proofs.laws.runs_compose.Goals as goal
 
 pub returns : goal.returns

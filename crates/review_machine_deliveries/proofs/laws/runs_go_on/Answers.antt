@@ -1,4 +1,4 @@
-use Rattle.review_machine_deliveries.proofs.Sessions.{run_is_session, runs_go_on}
+use Rattle.review_machine_deliveries.proofs.Ran.{run_is_session, runs_go_on}
 use Rattle.review_machine_deliveries.proofs.laws.runs_go_on.Goals as goal
 
 pub returns-clause-first : goal.returns-clause-first

@@ -1,4 +1,4 @@
-use Rattle.review_machine_laws.proofs.{Fresh.entry_is_new, Ready.entry_accepted, Ready.entry_may_join}
+use Rattle.review_machine_laws.proofs.Parents.{entry_is_new, entry_accepted, entry_may_join}
 use Rattle.review_machine_laws.proofs.branch_laws.accepted_submit.Goals as goal
 
 pub returns : goal.returns

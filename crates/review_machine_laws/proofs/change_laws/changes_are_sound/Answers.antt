@@ -1,4 +1,4 @@
-use Rattle.review_machine_laws.proofs.SoundChanges.{are_sound}
+use Rattle.review_machine_laws.proofs.Changes.{are_sound}
 use Rattle.review_machine_laws.proofs.change_laws.changes_are_sound.Goals as goal
 
 pub returns : goal.returns

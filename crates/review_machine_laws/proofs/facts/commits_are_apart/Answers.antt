@@ -1,4 +1,4 @@
-use Rattle.review_machine_laws.proofs.Apart.{commits_apart, sent_no_base}
+use Rattle.review_machine_laws.proofs.Patches.{commits_apart, sent_no_base}
 use Rattle.review_machine_laws.proofs.facts.commits_are_apart.Goals as goal
 
 pub returns-clause-apart : goal.returns-clause-apart

@@ -1,4 +1,4 @@
-use Rattle.review_machine_laws.proofs.StandingShown.{one_standing}
+use Rattle.review_machine_laws.proofs.Shown.{one_standing}
 use Rattle.review_machine_laws.proofs.facts.standings_are_shown.Goals as goal
 
 pub returns : goal.returns

@@ -1,7 +1,6 @@
-use Rattle.std.proofs.Common.{sym, ap, ◌∙◌}
-use Rattle.std.specs.Prelude.{option_and_then, option_copied}
+use Rattle.std.proofs.Common.{sym, ap, ◌∙◌, option_and_then, option_copied}
 use Rattle.review_machine_rows.specs.Steps.{line_steps, next_of}
-use Rattle.review_machine_needs.proofs.Lined.{line_goes_on, no_length, no_line}
+use Rattle.review_machine_needs.proofs.Going.{line_goes_on, no_length, no_line}
 use Rattle.review_machine_needs.proofs.lines.line_wants.Goals as goal
 
 pub returns-in_default : goal.returns-in_default

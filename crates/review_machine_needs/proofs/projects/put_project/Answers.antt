@@ -1,5 +1,4 @@
-use Rattle.std.proofs.Common.{◌∙◌, true, false, subst, sym}
-use Rattle.std.specs.{Option.option_copied, Prelude.IfOk}
+use Rattle.std.proofs.Common.{◌∙◌, true, false, subst, sym, option_copied, IfOk}
 use Rattle.review_words.specs.declared.{command.Command.TheVariants.PutProject, reply.Refusal.TheVariants.NotAdmin}
 use Rattle.review_machine_accounts.proofs.Decided.{admin_is, refused_pair, project_refused}
 use Rattle.review_machine_needs.proofs.Filed.{put_project_by, undecided_by, fault_by, unreadable_by}

@@ -1,18 +1,21 @@
-use Rattle.std.proofs.Common.{◌≡◌, ◌∙◌, [], ap}
-use Rattle.review_core_rules.specs.{Change.joined_at, Seen.seen}
-use Rattle.review_machine_changes.proofs.Edited.{comments_go, patches_go, unchanged}
+use Rattle.std.proofs.Common.{◌≡◌, IfOk, subst}
+use Rattle.review_table.specs.Rows.{after_row_edit}
+use Rattle.review_core_rules.specs.Change.{Change, joined_at}
+use Rattle.review_core_rules.specs.{Parts.Part, Parts.part_row, Seen.seen, declared.rows.ChangeRows.ChangeRows}
+use Rattle.review_machine_rows.specs.Rows.{part_change}
+use Rattle.review_machine_changes.proofs.Made.{draft_sound}
 use Rattle.review_machine_submits.proofs.joining.edit_by.Goals as goal
 
-pub edit_of-requires-clause-patches : goal.edit_of-requires-clause-patches
-edit_of-requires-clause-patches c =
+pub edit_of-requires : goal.edit_of-requires
+edit_of-requires c =
     let a = c.args in
-    let is : seen c.rows.result.now ≡ joined_at a.place a.request (seen a.found.now) =
-    ap seen c.rows.ensures.same ∙ (c.merged-new.ensures ∙ ap (joined_at a.place a.request) c.requires) in
-    patches_go a.found.now c.rows.result.now (joined_at a.place a.request (seen a.found.now)) [] c.rows.ensures.sound is (unchanged a.found.now.patches.items)
+    let rows = a.file.now.rows.now in
+    record { sound = draft_sound rows (joined_at a.place a.request (seen rows)) c.in_ok-edited.edited c.in_ok-edited.ensures }
 
-pub edit_of-requires-clause-comments : goal.edit_of-requires-clause-comments
-edit_of-requires-clause-comments c =
+pub returns-clause-becomes : goal.returns-clause-becomes
+returns-clause-becomes c =
     let a = c.args in
-    let is : seen c.rows.result.now ≡ joined_at a.place a.request (seen a.found.now) =
-    ap seen c.rows.ensures.same ∙ (c.merged-new.ensures ∙ ap (joined_at a.place a.request) c.requires) in
-    comments_go a.found.now c.rows.result.now (joined_at a.place a.request (seen a.found.now)) [] c.rows.ensures.sound is (unchanged a.found.now.comments.items)
+    let d = c.in_ok-edited.edited in
+    let m = c.in_ok-edited.ensures in
+    subst (λ (x : ChangeRows). IfOk c.edit_of.result (λ e. (part : Part) → after_row_edit (part_change e part) (part_row (seen x) part) ≡ part_row (joined_at a.place a.request (seen a.file.now.rows.now)) part)) m.over
+    (subst (λ (y : Change). IfOk c.edit_of.result (λ e. (part : Part) → after_row_edit (part_change e part) (part_row (seen d.rows.now) part) ≡ part_row y part)) m.made c.edit_of.ensures.becomes)

@@ -1,5 +1,5 @@
 use Rattle.std.proofs.Common.{◌∙◌, List, ℕ, ap, map, refl}
-use Rattle.review_machine_submits.proofs.{Members.there_placed, Once.chain_once}
+use Rattle.review_machine_submits.proofs.Decided.{there_placed, chain_once}
 use Rattle.review_machine_submits.proofs.joining.join_chain.Goals as goal
 
 pub join_edits-requires : goal.join_edits-requires

@@ -1,9 +1,7 @@
-use Rattle.std.proofs.Common.{◌∙◌, ap, sym}
-use Rattle.std.specs.{Option.option_copied, Prelude.option_map}
+use Rattle.std.proofs.Common.{◌∙◌, ap, sym, option_copied, option_map}
 use Rattle.review_words.specs.declared.command.Query.TheVariants.{OnChange}
 use Rattle.review_core_rules.specs.Seen.{seen}
-use Rattle.review_machine_submits.proofs.Answered.{answered, none_there}
-use Rattle.review_machine_submits.proofs.Loaded.{change_told, err_with, untold}
+use Rattle.review_machine_submits.proofs.Loaded.{answered, none_answered, change_told, err_with, untold}
 use Rattle.review_machine_submits.proofs.questions.show_on.Goals as goal
 
 pub returns-then-not-known-clause-shown : goal.returns-then-not-known-clause-shown
@@ -15,7 +13,7 @@ pub returns-in_default-clause-shown : goal.returns-in_default-clause-shown
 returns-in_default-clause-shown c = λ reading h l.
     let a = c.args in
     let known = sym (c.is_asker-known.ensures.told reading (option_copied a.effective) h (OnChange a.change a.query) l) ∙ c.if-not-known.false in
-    none_there reading h a.caller a.change a.query known
+    none_answered reading h a.caller a.change a.query known
     (sym (change_told reading h a.caller a.change a.query (option_copied a.effective) a.rows.now l) ∙ (sym c.change.ensures ∙ ap (λ o. option_map (λ r. seen r) (option_copied o)) c.in_default.is))
 
 pub returns-in_err-told-clause-cause : goal.returns-in_err-told-clause-cause

@@ -1,15 +1,13 @@
-use Rattle.std.proofs.Common.{◌∙◌, ap, subst, sym}
+use Rattle.std.proofs.Common.{◌∙◌, ap, subst, sym, option_copied, option_map}
 use Rattle.std.proofs.lemmas.Result.{IfOk-weaker, IfErr-weaker}
-use Rattle.std.specs.{Option.option_copied, Prelude.option_map}
 use Rattle.review_words.specs.declared.command.Command.TheVariants.{Submit}
 use Rattle.review_words.specs.declared.reply.{NotTaken.TheVariants.Damaged, Refusal.TheVariants.NoChange}
 use Rattle.review_core_rules.specs.Seen.{seen}
 use Rattle.review_machine_rows.specs.{Decisions.IsUndecided, Steps.OfCommand, View.AreEnough}
-use Rattle.review_machine_laws.proofs.SoundChanges.{all_pass}
+use Rattle.review_machine_laws.proofs.Changes.{all_pass}
 use Rattle.review_machine_accounts.proofs.Decided.{asked_beside, refused_pair}
 use Rattle.review_machine_changes.proofs.Told.{change_told}
-use Rattle.review_machine_submits.proofs.Decided.{submit_decided}
-use Rattle.review_machine_submits.proofs.Told.{lacking_undecided, none_there, not_true, refused_told, unchained_undecided}
+use Rattle.review_machine_submits.proofs.Decided.{submit_decided, lacking_undecided, none_there, not_true, refused_told, unchained_undecided}
 use Rattle.review_machine_submits.specs.Submits.{submit_list}
 use Rattle.review_machine_submits.proofs.submitting.submit.Goals as goal
 

@@ -1,7 +1,7 @@
 use Rattle.std.proofs.Common.{inl}
 use Rattle.review_core_rules.specs.Seen.{seen}
 use Rattle.review_machine_rows.specs.Links.{links_in}
-use Rattle.review_machine_submits.proofs.Linked.{bad_link}
+use Rattle.review_machine_submits.proofs.Decided.{bad_link}
 use Rattle.review_machine_submits.proofs.submitting.submit_chain.Goals as goal
 
 pub returns-in_ok-refusal_of-in-Err-clause-submitted : goal.returns-in_ok-refusal_of-in-Err-clause-submitted

@@ -1,6 +1,6 @@
 use Rattle.std.{proofs.Common.subst, specs.Ordering.nat_cmp}
 use Rattle.review_table.specs.Rows.{is_named, HavePlaces}
-use Rattle.review_memory_rows.proofs.Spare.{none_spare, only_for}
+use Rattle.review_memory_rows.proofs.Dropped.{none_spare, only_for}
 use Rattle.review_memory_rows.specs.Kept.{place_cmp, sent_cmp}
 use Rattle.review_memory_rows.proofs.kept.reserve.Goals as goal
 

@@ -21,7 +21,7 @@ loop-left-preserved g c =
     record {
       within = omega (arith, inv.within);
       reference = c.change.ensures.same_reference ∙ inv.reference;
-      ran = subst (λ cs. Inside (SetsRows g.T.Table.search cs) a b (Ok (tt {0}))) (sym split) both;
+      ran = subst (λ cs. Inside (SetsRows g.T.Record.table.search cs) a b (Ok (tt {0}))) (sym split) both;
     }
 
 pub returns-in_err-change-clause-ran : goal.returns-in_err-change-clause-ran
@@ -31,4 +31,4 @@ returns-in_err-change-clause-ran g c =
     let b = state g.S.Store c.change.new.tx.conn.now in
     let is : c.from_residual.result ≡ Err c.in_err-change.field-0.0 = search rules in
     let both = next _ _ a m b _ _ c.loop-left.invariant.ran c.in_err-change.ensures.ran in
-    subst (Inside (SetsRows g.T.Table.search c.args.changes.now) a b) (sym is) (stop _ _ a b _ _ both)
+    subst (Inside (SetsRows g.T.Record.table.search c.args.changes.now) a b) (sym is) (stop _ _ a b _ _ both)

@@ -9,8 +9,8 @@ returns-clause-ran g c =
     let a = state g.S.Store c.args.tx.now.conn.now in
     let m = state g.S.Store c.remove.new.tx.conn.now in
     let b = state g.S.Store c.insert.new.tx.conn.now in
-    let s = g.T.Table.search in
+    let s = g.T.Record.table.search in
     let key = c.args.key.now in
     let row = c.args.row.now in
-    told _ (SetsRow s key (Some row)) a b _ (tt {0}) (λ old new h. row_put s g.T.Table.form g.met.T.Table.lawful key row c.in_ok-remove.ensures.formed c.in_ok-insert.ensures.good old new h)
+    told _ (SetsRow s key (Some row)) a b _ (tt {0}) (λ old new h. row_put s g.T.Record.table.form g.T.Record.table.keeps key row c.in_ok-remove.ensures.formed c.in_ok-insert.ensures.good old new h)
     (next _ _ a m b _ _ c.in_ok-remove.ensures.ran c.in_ok-insert.ensures.ran)

@@ -21,7 +21,7 @@ loop-left-preserved g c =
     record {
       within = omega (arith, inv.within);
       reference = c.change_part.ensures.same_reference ∙ inv.reference;
-      ran = subst (λ cs. Inside (SetsParts g.T.Table.search c.args.owner.now cs) a b (Ok (tt {0}))) (sym split) both;
+      ran = subst (λ cs. Inside (SetsParts g.T.Record.table.search c.args.owner.now cs) a b (Ok (tt {0}))) (sym split) both;
     }
 
 pub returns-in_err-change_part-clause-ran : goal.returns-in_err-change_part-clause-ran
@@ -31,4 +31,4 @@ returns-in_err-change_part-clause-ran g c =
     let b = state g.S.Store c.change_part.new.tx.conn.now in
     let is : c.from_residual.result ≡ Err c.in_err-change_part.field-0.0 = search rules in
     let both = next _ _ a m b _ _ c.loop-left.invariant.ran c.in_err-change_part.ensures.ran in
-    subst (Inside (SetsParts g.T.Table.search c.args.owner.now c.args.changes.now) a b) (sym is) (stop _ _ a b _ _ both)
+    subst (Inside (SetsParts g.T.Record.table.search c.args.owner.now c.args.changes.now) a b) (sym is) (stop _ _ a b _ _ both)

@@ -8,10 +8,10 @@ pub returns-clause-ran : goal.returns-clause-ran
 returns-clause-ran g c =
     let old = state g.S.Store c.args.tx.now.conn.now in
     let new = state g.S.Store c.execute.new.self.conn.now in
-    let s = g.T.Table.search in
+    let s = g.T.Record.table.search in
     let key = c.args.key.now in
     let values : bound c.as_slice.result.now ≡ values_of (s.at key) = c.as_slice.ensures ∙ c.in_ok-values.ensures.values in
-    one_inside _ _ old new c.execute.result _ (λ count ready h. deleted _ old new ready count s.tree (s.at key) (g.met.T.Table.deletes key) h) (λ clean on. rw (c.delete_text.ensures, values) at (c.execute.ensures.runs clean on)) c.execute.ensures.survives
+    one_inside _ _ old new c.execute.result _ (λ count ready h. deleted _ old new ready count s.tree (s.at key) (g.T.Record.table.deletes key) h) (λ clean on. rw (c.delete.ensures, c.writes.ensures, values) at (c.execute.ensures.runs clean on)) c.execute.ensures.survives
 
 pub returns-clause-open : goal.returns-clause-open
 returns-clause-open g c clean on =

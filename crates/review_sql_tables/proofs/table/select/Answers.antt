@@ -13,4 +13,4 @@ returns-clause-looks g c =
     let asks = g.met.L.Lookup.asks key in
     let values : bound c.as_slice.result.now ≡ values_of (s.at key) = c.as_slice.ensures ∙ c.in_ok-values.ensures in
     look (λ v. v.items) _ _ old new c.query_all.result _ asks.plain (λ x has h. asked _ s.tree (s.at key) s.columns asks old new x.items has h)
-    (λ clean. rw (c.text.ensures, values) at (c.query_all.ensures.ok clean)) (λ clean. rw (c.text.ensures, values) at (c.query_all.ensures.err clean)) c.query_all.ensures.survives
+    (λ clean. rw (c.text.ensures, c.SQL.ensures, values) at (c.query_all.ensures.ok clean)) (λ clean. rw (c.text.ensures, c.SQL.ensures, values) at (c.query_all.ensures.err clean)) c.query_all.ensures.survives

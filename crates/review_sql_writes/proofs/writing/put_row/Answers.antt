@@ -6,5 +6,5 @@ use Rattle.review_sql_writes.proofs.writing.put_row.Goals as goal
 
 pub returns-in-None-clause-ran : goal.returns-in-None-clause-ran
 returns-in-None-clause-ran g c =
-    let it = still (SetsPut g.T.Table.search None) (state g.S.Store c.args.tx.now.conn.now) (tt {0}) (λ db. refl) in
+    let it = still (SetsPut g.T.Record.table.search None) (state g.S.Store c.args.tx.now.conn.now) (tt {0}) (λ db. refl) in
     search rules

@@ -1,5 +1,4 @@
-use Rattle.std.proofs.Common.{◌≡◌, [], ◌∷◌, subst}
-use Rattle.std.specs.Prelude.{IfOk, codes, string_bytes}
+use Rattle.std.proofs.Common.{◌≡◌, [], ◌∷◌, subst, IfOk, codes, string_bytes}
 use Rattle.review_words.specs.Texts.{text_of}
 use Rattle.review_words_texts.proofs.content.account_text.Goals as goal
 

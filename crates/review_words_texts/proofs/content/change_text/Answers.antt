@@ -1,5 +1,4 @@
-use Rattle.std.proofs.Common.{◌≡◌, [], ◌∷◌, ◌++◌, length, map, ap, subst, ◌∙◌}
-use Rattle.std.specs.Prelude.{IfOk, codes, string_bytes}
+use Rattle.std.proofs.Common.{◌≡◌, [], ◌∷◌, ◌++◌, length, map, ap, subst, ◌∙◌, IfOk, codes, string_bytes}
 use Rattle.review_names.specs.Numerals.{numeral}
 use Rattle.review_words.specs.Texts.{command_fields, shown_truth, text_of}
 use Rattle.review_words.specs.declared.command.Command.TheVariants.{CreateChange}

@@ -1,5 +1,4 @@
-use Rattle.std.proofs.Common.{◌≡◌, ◌∷◌, [], IfOk, string_bytes, sym, subst}
-use Rattle.std.specs.Prelude.{codes}
+use Rattle.std.proofs.Common.{◌≡◌, ◌∷◌, [], IfOk, string_bytes, sym, subst, codes}
 use Rattle.review_names.specs.Numerals.{numeral}
 use Rattle.review_words.specs.Texts.{content_text, text_of}
 use Rattle.review_words_texts.proofs.content.content_text.Goals as goal

@@ -1,5 +1,4 @@
-use Rattle.std.proofs.Common.{◌≡◌, ◌++◌, drop, map}
-use Rattle.std.specs.Prelude.{string_bytes}
+use Rattle.std.proofs.Common.{◌≡◌, ◌++◌, drop, map, string_bytes}
 use Rattle.review_words.specs.Texts.{text_of}
 use Rattle.review_words_texts.specs.Shown.{shown}
 use Rattle.review_words_texts.proofs.pieces.joined.Given as goal

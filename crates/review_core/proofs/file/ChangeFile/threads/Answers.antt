@@ -1,5 +1,4 @@
-use Rattle.std.proofs.Common.{◌≡◌, ◌∙◌, true, length, sym, ap, subst}
-use Rattle.std.specs.Prelude.{nat_le}
+use Rattle.std.proofs.Common.{◌≡◌, ◌∙◌, true, length, sym, ap, subst, nat_le}
 use Rattle.review_names.specs.Forms.{most_comments}
 use Rattle.review_core_rules.specs.Threads.{threads}
 use Rattle.review_core.proofs.file.ChangeFile.threads.Goals as goal

@@ -1,5 +1,5 @@
 use Rattle.std.proofs.Common.{ℕ, List, ◌≤◌, ◌∙◌, length, drop, slice_range, sym, ap, subst}
-use Rattle.review_json_lines.proofs.Parts.{advanced}
+use Rattle.review_json_lines.proofs.Begun.{advanced}
 use Rattle.review_json_lines.proofs.lines.Piece.take.Goals as goal
 
 pub returns : goal.returns

@@ -1,7 +1,6 @@
-use Rattle.std.proofs.Common.{◌≡◌, ◌∙◌, Some, ap, sym, inl, subst, arith}
-use Rattle.std.specs.Prelude.{OnOk, OnErr}
+use Rattle.std.proofs.Common.{◌≡◌, ◌∙◌, Some, ap, sym, inl, subst, arith, OnOk, OnErr}
 use Rattle.review_machine_rows.specs.{Rows.kept_row, Shelf.IsCommitted, Shelf.LeavesUndone}
-use Rattle.review_memory.proofs.{Applied.made_stops, Lengths.view_length}
+use Rattle.review_memory.proofs.{Applied.made_stops, First.view_length}
 use Rattle.review_memory.proofs.memory.MemoryShelfShelf.commit.Goals.{in-Ok, in-Err}
 use Rattle.review_memory.specs.Desk.{Desk, tables_of, desk_of}
 use Rattle.review_memory.proofs.memory.MemoryShelfShelf.commit.Goals as goal

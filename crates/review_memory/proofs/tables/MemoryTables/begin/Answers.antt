@@ -1,6 +1,6 @@
 use Rattle.std.proofs.Common.{sym, subst}
 use Rattle.review_table.specs.Rows.{rows_of}
-use Rattle.review_memory.proofs.{Applied.room_stored, Applied.spare_stored, Spare.on_ok}
+use Rattle.review_memory.proofs.{Applied.room_stored, Applied.spare_stored, Lower.on_ok}
 use Rattle.review_memory.specs.Desk.{AreIndexed, HasRoom, HasRoomOnlyFor}
 use Rattle.review_memory.specs.declared.tables.MemoryTables.{MemoryTables}
 use Rattle.review_memory.proofs.tables.MemoryTables.begin.Goals as goal

@@ -1,7 +1,7 @@
 use Rattle.std.proofs.Common.{◌≡◌, ◌∙◌, List, None, ap, cond}
 use Rattle.review_table.specs.Rows.{row_in, rows_of}
 use Rattle.review_memory_rows.specs.{Answers.answer_cmp, Answers.is_among, declared.answer_keys.AnswerKey.AnswerKey}
-use Rattle.review_memory.proofs.{Lower.all_committed, Lower.sound_beside, Spare.on_err}
+use Rattle.review_memory.proofs.Lower.{all_committed, sound_beside, on_err}
 use Rattle.review_memory.specs.Desk.{desk_of, tables_of}
 use Rattle.review_memory.proofs.tables.MemoryTables.commit.Goals as goal
 

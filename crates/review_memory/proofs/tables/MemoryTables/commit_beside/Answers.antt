@@ -3,7 +3,7 @@ use Rattle.std.{proofs.lemmas.List.Elements.All-contains, specs.List.All, specs.
 use Rattle.review_table.specs.Rows.{changed, row_in, rows_of}
 use Rattle.review_machine_rows.specs.{Rows.kept_row, Shelf.IsCommitted}
 use Rattle.review_memory.proofs.Applied.{applied_bounded, applied_indexed, applied_numbered, committed, made_held}
-use Rattle.review_memory.proofs.Spare.{on_err}
+use Rattle.review_memory.proofs.Lower.{on_err}
 use Rattle.review_memory.specs.Desk.{Desk, desk_of, tables_of, beside_epoch, name_cmp, AreInUse, AreIndexed, HasChanged, IsBounded, IsGiven, IsHeld, IsIndexed, IsNameOf, IsNumbered, IsUsed}
 use Rattle.review_memory.proofs.tables.MemoryTables.commit_beside.Goals as goal
 

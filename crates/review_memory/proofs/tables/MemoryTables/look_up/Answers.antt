@@ -3,7 +3,7 @@ use Rattle.review_machine_rows.specs.Known.{Holder, IsFound, IsLastJoined, Joins
 use Rattle.review_machine_change_rows.specs.Tables.{fault_of as change_fault}
 use Rattle.review_memory_rows.specs.Loads.{fault_of as bases_fault}
 use Rattle.review_memory.proofs.Changed.{change_unread, joined_here, last_joined_here, sent_here}
-use Rattle.review_memory.proofs.Looked.{bases_unread, passed_on}
+use Rattle.review_memory.proofs.First.{bases_unread, passed_on}
 use Rattle.review_memory.specs.Desk.{desk_of, row_of, tables_of}
 use Rattle.review_memory.proofs.tables.MemoryTables.look_up.Goals as goal
 

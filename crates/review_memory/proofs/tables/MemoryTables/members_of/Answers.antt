@@ -1,11 +1,10 @@
-use Rattle.std.proofs.Common.{◌≡◌, ◌∙◌, ap, sym, cond, Option, Some, None, Bool, true, false, map, not, ◌&&◌, refl}
+use Rattle.std.proofs.Common.{◌≡◌, ◌∙◌, ap, sym, cond, Option, Some, None, Bool, true, false, map, not, ◌&&◌, refl, nat_cmp, is_eq, is_le, is_lt}
 use Rattle.std.proofs.lemmas.Cmp.{nat_cmp_total, nat_list_cmp_total, nat_list_eq_equiv, tied_itself}
-use Rattle.std.{proofs.lemmas.Slice.Eq.bytes_eq-Decides, specs.BTreeMap.is_at}
-use Rattle.std.specs.{Cmp.eq_by_cmp_equiv, Cmp.Lexicographic.slice_cmp, Map.Iter.deref_pair, Option.option_or}
-use Rattle.std.specs.Ordering.{nat_cmp, ordering_then, is_eq, is_le, is_lt}
+use Rattle.std.{proofs.lemmas.Slice.Eq.bytes_eq-Decides, specs.BTreeMap.is_at, specs.Cmp.eq_by_cmp_equiv}
+use Rattle.std.specs.{Cmp.Lexicographic.slice_cmp, Map.Iter.deref_pair, Option.option_or, Ordering.ordering_then}
 use Rattle.review_table.specs.Rows.{row_in, rows_of}
 use Rattle.review_machine_rows.specs.{Rows.member_cmp, declared.rows.MemberKey.MemberKey}
-use Rattle.review_memory.proofs.{Orders.member_total, Orders.row_between_numbers, Picked.taken_over}
+use Rattle.review_memory.proofs.Applied.{member_total, row_between_numbers, taken_over}
 use Rattle.review_memory.proofs.tables.MemoryTables.members_of.Goals as goal
 
 or_none : {X : Type 0} (o : Option X) → option_or o None ≡ o

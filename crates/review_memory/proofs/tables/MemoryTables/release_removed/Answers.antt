@@ -2,7 +2,7 @@ use Rattle.std.proofs.Common.{◌∙◌, sym, subst}
 use Rattle.std.specs.{Cmp.Lexicographic.slice_cmp, Ordering.nat_cmp}
 use Rattle.review_table.specs.Rows.{HasEmptyOnly, rows_of}
 use Rattle.review_machine_rows.specs.Rows.{member_cmp}
-use Rattle.review_memory.proofs.Spare.{file_stays}
+use Rattle.review_memory.proofs.Lower.{file_stays}
 use Rattle.review_memory.specs.Desk.{is_removed}
 use Rattle.review_memory.proofs.tables.MemoryTables.release_removed.Goals as goal
 

@@ -2,7 +2,7 @@ use Rattle.std.proofs.Common.{◌≡◌, ◌∙◌, ap, cond, Option, Some, None
 use Rattle.std.{proofs.lemmas.Grind.common_steps, specs.Map.Iter.deref_pair, specs.Ordering.is_le, specs.Ordering.is_lt}
 use Rattle.review_table.specs.Rows.{row_in, rows_of}
 use Rattle.review_machine_rows.specs.{Rows.place_cmp, declared.rows.PlaceKey.PlaceKey}
-use Rattle.review_memory_rows.proofs.BasesPlaced.{between_places}
+use Rattle.review_memory_rows.proofs.Based.{between_places}
 use Rattle.review_memory_rows.specs.{Bases.BranchesView, Bases.commit_cmp, declared.keys.CommitKey.CommitKey}
 use Rattle.review_memory_rows.proofs.bases.Branches.has.Goals as goal
 

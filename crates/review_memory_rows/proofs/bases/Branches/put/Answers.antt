@@ -1,12 +1,10 @@
-use Rattle.std.proofs.Common.{◌≡◌, ◌≤◌, ◌+◌, ◌∙◌, ◌∷◌, [], List, ℕ, Some, None, cond, ap, ◌<◌, sym, subst, arith}
-use Rattle.std.specs.{Cmp.Lexicographic.slice_cmp, List.All, Option.is_some, Option.option_map, Option.IsSome}
-use Rattle.std.specs.Ordering.{nat_cmp}
+use Rattle.std.proofs.Common.{◌≡◌, ◌≤◌, ◌+◌, ◌∙◌, ◌∷◌, [], List, ℕ, Some, None, cond, ap, ◌<◌, sym, subst, arith, All, is_some, option_map, IsSome, nat_cmp}
+use Rattle.std.specs.Cmp.Lexicographic.{slice_cmp}
 use Rattle.review_table.specs.{Rows.rows_of, Rows.row_in, Rows.changed, declared.table.RowEdit.RowEdit}
 use Rattle.review_machine_rows.specs.Rows.{branch_cmp, place_cmp}
 use Rattle.review_machine_rows.specs.declared.rows.{BranchKey.BranchKey, PlaceKey.PlaceKey, Put.Put}
-use Rattle.review_memory_rows.proofs.Based.{WithRow, IsGreater, with_row, last_more, last_unique, greater_of, still_last, total_more, total_is, one_has}
-use Rattle.review_memory_rows.proofs.BasesListed.{listed_alike, listed_more, stood_before}
-use Rattle.review_memory_rows.proofs.Options.{some_mapped_is}
+use Rattle.review_memory_rows.proofs.Based.{WithRow, IsGreater, with_row, last_more, last_unique, greater_of, still_last, total_more, total_is, one_has, listed_alike, listed_more, stood_before}
+use Rattle.review_memory_rows.proofs.Dropped.{some_mapped_is}
 use Rattle.review_memory_rows.specs.Bases.{BranchesView, IsPut, IsLastPlace, commit_cmp, commit_at, has_commit, last_in, total_in, greatest_place}
 use Rattle.review_memory_rows.specs.declared.keys.CommitKey.{CommitKey}
 use Rattle.review_memory_rows.proofs.bases.Branches.put.Goals as goal

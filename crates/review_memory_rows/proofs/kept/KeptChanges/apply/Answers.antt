@@ -1,8 +1,7 @@
-use Rattle.std.proofs.Common.{◌∙◌, ap, refl, subst, sym}
-use Rattle.std.specs.{Ordering.nat_cmp, Prelude.flat_map}
+use Rattle.std.proofs.Common.{◌∙◌, ap, refl, subst, sym, nat_cmp, flat_map}
 use Rattle.review_table.specs.Rows.{rows_of, row_in, changed}
-use Rattle.review_memory_rows.proofs.{Made.made_by, Made.all_some, Placed.placed_after, Placed.by_puts as places_put}
-use Rattle.review_memory_rows.proofs.{Puts.all_put, Sent.listed_after, Sent.by_puts}
+use Rattle.review_memory_rows.proofs.Joined.{placed_after, by_puts as places_put}
+use Rattle.review_memory_rows.proofs.{Sent.all_put, Sent.listed_after, Sent.by_puts, Turned.made_by, Turned.all_some}
 use Rattle.review_memory_rows.specs.Kept.{place_cmp, placed_in, sent_by, sent_cmp, AreNumbered, ArePlaceKeys, KeptView, HasRoomFor, IsFullBut, PutAllEdited}
 use Rattle.review_memory_rows.proofs.kept.KeptChanges.apply.Goals as goal
 

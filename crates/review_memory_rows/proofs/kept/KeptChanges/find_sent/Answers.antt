@@ -1,9 +1,7 @@
-use Rattle.std.proofs.Common.{◌≡◌, ◌∙◌, ap, cond, Option, Some, None, map, not, ◌&&◌, [], arith, subst, sym, true}
-use Rattle.std.proofs.lemmas.Grind.{common_steps}
-use Rattle.std.specs.{Map.Iter.deref_pair, Ordering.is_le, Ordering.is_lt, Ordering.nat_cmp, Prelude.MatchBool}
+use Rattle.std.proofs.Common.{◌≡◌, ◌∙◌, ap, cond, Option, Some, None, map, not, ◌&&◌, [], arith, subst, sym, true, is_le, is_lt, nat_cmp, MatchBool}
+use Rattle.std.{proofs.lemmas.Grind.common_steps, specs.Map.Iter.deref_pair}
 use Rattle.review_table.specs.Rows.{row_in, rows_of}
-use Rattle.review_memory_rows.proofs.{Left.still_left, Merged.sent_of, Sending.between, Sending.listed_is}
-use Rattle.review_memory_rows.proofs.Sent.{exact_sent}
+use Rattle.review_memory_rows.proofs.{Dropped.still_left, Sent.sent_of, Sent.between, Sent.listed_is, Sent.exact_sent}
 use Rattle.review_memory_rows.specs.Kept.{is_sent, sent_cmp, IsSentAs, KeptView}
 use Rattle.review_memory_rows.specs.declared.kept.SentKey.{SentKey}
 use Rattle.review_memory_rows.proofs.kept.KeptChanges.find_sent.Goals as goal

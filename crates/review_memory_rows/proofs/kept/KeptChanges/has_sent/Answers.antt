@@ -1,5 +1,4 @@
-use Rattle.std.proofs.Common.{ap, subst, sym, ◌∙◌}
-use Rattle.std.specs.{Ordering.nat_cmp, Prelude.MatchBool}
+use Rattle.std.proofs.Common.{ap, subst, sym, ◌∙◌, nat_cmp, MatchBool}
 use Rattle.review_table.specs.Rows.{row_in, rows_of}
 use Rattle.review_memory_rows.specs.Kept.{IsSentAs, KeptView}
 use Rattle.review_memory_rows.proofs.kept.KeptChanges.has_sent.Goals as goal

@@ -1,0 +1,15 @@
+use Rattle.std.proofs.Common.{◌==◌, ◌&&◌, ◌∙◌, not, true, None}
+use Rattle.review_words.specs.declared.command.ChangeCommand.TheVariants.{SetWip}
+use Rattle.review_core_rules.specs.{Change.eligible, Change.no_copying, Change.settled, Seen.seen}
+use Rattle.review_core_tables.proofs.Accounts.{kept_nothing}
+use Rattle.review_core.proofs.states.wip.Goals as goal
+
+pub returns-clause-made : goal.returns-clause-made
+returns-clause-made c =
+    let rows = c.args.rows.now in
+    let same = c.in_ok-edited.ensures.same in
+    let after = settled no_copying SetWip c.args.caller c.args.request (seen rows) in
+    λ i. record (same i) {
+      wip = true;
+      attention = λ u. (c.in_ok-clear.ensures.rows u ∙ kept_nothing (eligible after u && (not (c.args.caller == u) && not after.wip)) None c.args.request) i;
+    }

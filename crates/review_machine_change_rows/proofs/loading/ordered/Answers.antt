@@ -1,0 +1,25 @@
+use Rattle.std.proofs.Common.{refl}
+use Rattle.review_machine_change_rows.proofs.Shown.{comments_fault, passed, patches_fault, shown}
+use Rattle.review_machine_change_rows.specs.Tables.{HaveFault}
+use Rattle.review_machine_change_rows.proofs.loading.ordered.Goals as goal
+
+pub returns-in_err-patches-clause-fault : goal.returns-in_err-patches-clause-fault
+returns-in_err-patches-clause-fault c =
+    passed (HaveFault c.args.tables) c.in_err-patches.field-0.0 c.from_residual.result c.from_residual.ensures (patches_fault c.args.tables c.in_err-patches.field-0.0 c.in_err-patches.ensures.fault)
+
+pub returns-in_err-comments-clause-fault : goal.returns-in_err-comments-clause-fault
+returns-in_err-comments-clause-fault c =
+    passed (HaveFault c.args.tables) c.in_err-comments.field-0.0 c.from_residual-in_err-comments.result c.from_residual-in_err-comments.ensures
+    (comments_fault c.args.tables c.in_err-comments.field-0.0 c.in_err-comments.ensures.fault)
+
+pub returns-clause-shown : goal.returns-clause-shown
+returns-clause-shown c =
+    let t = c.args.tables in
+    shown t (record { header = t.header; patches = c.in_ok-patches.patches; votes = t.votes; roles = t.roles; comments = c.in_ok-comments.comments; attention = t.attention }) (record {
+      header = refl;
+      patches = c.in_ok-patches.ensures.rows;
+      votes = λ q. refl;
+      roles = λ u. refl;
+      comments = c.in_ok-comments.ensures.rows;
+      attention = λ u. refl;
+    })

@@ -1,0 +1,6 @@
+use Rattle.std.proofs.Common.{◌≡◌, true, subst}
+use Rattle.std.{proofs.lemmas.Bool.and_from, specs.Str.is_utf8}
+use Rattle.review_sql_records.proofs.projects.ProjectsRecord.bind_row.Goals as goal
+
+pub returns-clause-good : goal.returns-clause-good
+returns-clause-good c = and_from _ _ (subst (λ t. is_utf8 t ≡ true) c.as_str-2.ensures c.text-values.ensures.read) c.parent_text.ensures.good
