@@ -1,7 +1,6 @@
 -- Parts of a branch: what they have of a chain, and what is wanted of it.
 use Rattle.std.proofs.Common.{◌≡◌, ◌≢◌, ℕ, Bool, true, false, not, List, [], ◌∷◌, length, Option, Some, None, IsSome, ◌⊎◌, inl, inr, refl, sym, ap, ◌∙◌, subst, eqb-true, ◌==◌, if◌then◌else◌, option_and_then, option_map, zero, suc, ◌+◌, ◌-◌, ◌<◌, arith, Result, Ok, Err, IfOk, IfSome, IfNone}
-use Rattle.std.proofs.lemmas.Bool.{false≢true}
-use Rattle.review_words.specs.declared.shown.State.{State}
+use Rattle.{std.proofs.lemmas.Bool.false≢true, review_words.specs.declared.shown.State.State}
 use Rattle.review_words.specs.declared.shown.State.TheVariants.{New, Merged as MergedState, Abandoned as AbandonedState}
 use Rattle.review_chain.proofs.Walking.{Meets, IsEnd, IsTold, ending, one_walk, one_end, chain_meets, bad_meets, meets_chain, meets_bad, meets_wanted, told_end, met, decided, goes_on, wanted_meets}
 use Rattle.review_chain.specs.Branches.{Branch, IsWhole, parent_standing}

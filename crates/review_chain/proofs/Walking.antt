@@ -1,8 +1,7 @@
 -- Walks from a change to the base, and how they end.
 use Rattle.std.proofs.Common.{◌≡◌, ℕ, ◌<◌, ◌≤◌, Bool, true, false, not, List, Option, Some, None, inl, inr, refl, sym, ap, ◌∙◌, subst, arith, eqb-true, eq-eqb, if◌then◌else◌, ◌==◌, option_and_then, option_map, ◌≢◌, zero, suc, ◌+◌, [], ◌∷◌, ◌++◌, length, ◌⊎◌, append_assoc, length-append, ⊎_elim, rules, All}
 use Rattle.std.proofs.lemmas.{Bool.false≢true, Bool.cases_Bool, Bool.Decides.nat_tests, List.Elements.All-cons}
-use Rattle.std.specs.List.{AllByRecursion, IsDistinct}
-use Rattle.review_words.specs.declared.shown.State.{State}
+use Rattle.{std.specs.List.AllByRecursion, std.specs.List.IsDistinct, review_words.specs.declared.shown.State.State}
 use Rattle.review_words.specs.declared.shown.State.TheVariants.{New, Merged as MergedState, Abandoned as AbandonedState}
 use Rattle.review_chain.specs.Branches.{Branch, parent_standing}
 use Rattle.review_chain.specs.Parts.{Want, TheChange, TheCommit, Lacks, NeedsChange, IsWanted, IsDecided}

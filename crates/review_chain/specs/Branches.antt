@@ -1,8 +1,7 @@
 -- What is known of the changes for a branch.
 use Rattle.std.specs.Prelude.{◌≡◌, ◌≢◌, ℕ, List, Option, Some, IsSome, option_and_then}
-use Rattle.review_words.specs.declared.shown.State.TheVariants.{Merged}
-use Rattle.review_chain.specs.declared.links.{Link.Link, Standing.Standing}
-use Rattle.review_chain.specs.declared.links.Standing.TheVariants.{InBranch, PatchSet}
+use Rattle.{review_words.specs.declared.shown.State.TheVariants.Merged, review_chain.specs.declared.links.Link.Link}
+use Rattle.review_chain.specs.declared.links.Standing.{Standing, TheVariants.InBranch, TheVariants.PatchSet}
 
 -- What is known of a branch: the link of a change, and what a commit is to the branch; none where nothing is known.
 pub record Branch : Type 0 where

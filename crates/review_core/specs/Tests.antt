@@ -1,8 +1,7 @@
 -- What is tested of stored rows, one by one.
 use Rattle.std.specs.Prelude.{ℕ, Bool, ◌&&◌, nat_le, ℤ, not, ◌||◌, ◌==◌, Option, is_some}
 use Rattle.review_names.specs.Forms.{is_within, most_comments, most_patches}
-use Rattle.review_words.specs.declared.changes.Role.{Role}
-use Rattle.review_core_rules.specs.Votes.{voted}
+use Rattle.{review_words.specs.declared.changes.Role.Role, review_core_rules.specs.Votes.voted}
 use Rattle.review_core_rules.specs.declared.rows.{AttentionEntry.AttentionEntry, VoteKey.VoteKey}
 
 -- there are so many patch sets and comments as there may be

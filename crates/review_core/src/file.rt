@@ -5,8 +5,7 @@ ghost use Rattle.review_core_rules.specs.Change.{after, after_plain, carried, co
 ghost use Rattle.review_core_rules.specs.{EditedChanges.Makes, Seen.seen, Sound.IsSound, Sound.fits, Threads.threads};
 ghost use Rattle.review_core_rules.specs.Votes.{voted};
 ghost use Rattle.review_core_tables.specs.Copies.{AreMany, group_list};
-ghost use Rattle.review_core_standing.specs.Grouped.{IsStatus};
-ghost use Rattle.review_core.specs.Faults.{IsRefused};
+ghost use Rattle.{review_core_standing.specs.Grouped.IsStatus, review_core.specs.Faults.IsRefused};
 
 use crate::sound::{are_all, are_counted, are_eligible, are_in_order, are_in_place};
 use crate::uploading::{self, Copied};

@@ -1,9 +1,8 @@
 -- A change, and what each accepted request makes of it.
 use Rattle.std.specs.{Cmp.Lexicographic.pointwise, List.list_any, Option.option_map_or}
 use Rattle.std.specs.Prelude.{ℕ, zero, suc, ℤ, pos, ◌+◌, ◌==◌, ◌&&◌, ◌||◌, not, Bool, true, false, List, [], ◌∷◌, ◌++◌, length, map, find, slice_get, Option, Some, None, if◌then◌else◌, is_some, is_none, unwrap_or, option_map, codes}
-use Rattle.std.specs.Str.{bytes_eq}
-use Rattle.review_names.specs.{Forms.patch_set_level, Groups.GroupList, Numerals.numeral}
-use Rattle.review_names.specs.declared.kinds.ChangeKind.TheVariants.{Rework}
+use Rattle.{std.specs.Str.bytes_eq, review_names.specs.Forms.patch_set_level}
+use Rattle.review_names.specs.{Groups.GroupList, Numerals.numeral, declared.kinds.ChangeKind.TheVariants.Rework}
 use Rattle.review_words.specs.declared.changes.{Given.Given, NewChange.NewChange, NewComment.NewComment}
 use Rattle.review_words.specs.declared.changes.{NewPatch.NewPatch, Review.Review as ReviewOf, Role.Role}
 use Rattle.review_words.specs.declared.changes.Role.TheVariants.{Reviewer, Cc}

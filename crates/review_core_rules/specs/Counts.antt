@@ -1,8 +1,7 @@
 -- How many votes pass a test.
 use Rattle.std.specs.List.{list_any}
 use Rattle.std.specs.Prelude.{ℕ, ◌≡◌, ◌==◌, ◌&&◌, List, [], ◌∷◌, length, Bool, false}
-use Rattle.std.specs.Str.{bytes_eq}
-use Rattle.review_core_rules.specs.declared.rows.VoteKey.{VoteKey}
+use Rattle.{std.specs.Str.bytes_eq, review_core_rules.specs.declared.rows.VoteKey.VoteKey}
 
 -- one of these votes is that of an account on a label
 abbrev pub has_vote : List VoteKey → ℕ → List ℕ → Bool

@@ -3,8 +3,7 @@ use Rattle.std.specs.Ordering.{nat_cmp}
 use Rattle.std.specs.Prelude.{ℕ, ℤ, ◌≡◌, Bool, true, false, List, [], ◌∷◌, Option, Some, None, map, option_map, if◌then◌else◌, MatchOption}
 use Rattle.review_words.specs.declared.shown.ShownRequirement.{ShownRequirement}
 use Rattle.review_words.specs.declared.shown.Status.{Status, TheVariants.Unsatisfied}
-use Rattle.review_expr_judging.specs.declared.facts.ChangeFacts.{ChangeFacts}
-use Rattle.review_expr.specs.declared.expr.Expr.{Expr}
+use Rattle.{review_expr_judging.specs.declared.facts.ChangeFacts.ChangeFacts, review_expr.specs.declared.expr.Expr.Expr}
 use Rattle.review_file_rules.specs.View.{RequirementView}
 use Rattle.review_core_rules.specs.Change.{Change, Setting, current, has_unresolved, label_in, paths, posts, range_of, uploader}
 use Rattle.review_core_rules.specs.{Listed.AreListed, Status.status_of, Votes.voted}

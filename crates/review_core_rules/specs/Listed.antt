@@ -1,8 +1,7 @@
 -- Lists of what a change has by keys.
 use Rattle.std.specs.{List.list_any, List.Sorted.IsStrictlySortedBy, Map.keys_of, Ordering.nat_cmp}
 use Rattle.std.specs.Prelude.{ℕ, ◌≡◌, ◌==◌, Bool, List, Option}
-use Rattle.std.specs.declared.cmp.Ordering.{Ordering}
-use Rattle.review_table.specs.Rows.{row_in}
+use Rattle.{std.specs.declared.cmp.Ordering.Ordering, review_table.specs.Rows.row_in}
 
 -- Rows in the order of their keys, each key once: just what each key has.
 pub record AreListed {K V : Type 0} (cmp : K → K → Ordering) (what : K → Option V) (rows : List (K × V)) : Type 0 where

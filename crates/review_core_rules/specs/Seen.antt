@@ -1,8 +1,7 @@
 -- What the rows of a change show.
 use Rattle.std.specs.{Cmp.Lexicographic.slice_cmp, Ordering.nat_cmp, Ordering.ordering_then}
 use Rattle.std.specs.Prelude.{ℕ, ℤ, pos, List, Option, Some, None}
-use Rattle.std.specs.declared.cmp.Ordering.{Ordering}
-use Rattle.review_table.specs.Rows.{row_in, rows_of}
+use Rattle.{std.specs.declared.cmp.Ordering.Ordering, review_table.specs.Rows.row_in, review_table.specs.Rows.rows_of}
 use Rattle.review_core_rules.specs.{Change.Change, declared.rows.ChangeRows.ChangeRows, declared.rows.VoteKey.VoteKey}
 
 -- by patch set, then by label, then by account

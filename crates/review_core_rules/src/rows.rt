@@ -64,8 +64,7 @@ pub struct Vote {
 }
 
 impl Model for Vote {
-    ghost use Rattle.std.specs.Prelude.{ℤ, IsTrue};
-    ghost use Rattle.review_core_rules.specs.Votes.{voted};
+    ghost use Rattle.{std.specs.Prelude.ℤ, std.specs.Prelude.IsTrue, review_core_rules.specs.Votes.voted};
 
     ghost Value = { ℤ };
 

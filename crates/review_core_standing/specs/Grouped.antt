@@ -1,8 +1,6 @@
 -- The facts of a change, where tables tell who is in which group, and how a requirement stands by them.
-use Rattle.std.specs.Prelude.{◌≡◌}
-use Rattle.review_words.specs.declared.shown.Status.{Status}
-use Rattle.review_expr_judging.specs.declared.facts.ChangeFacts.{ChangeFacts}
-use Rattle.review_expr.specs.declared.expr.Expr.{Expr}
+use Rattle.{std.specs.Prelude.◌≡◌, review_words.specs.declared.shown.Status.Status}
+use Rattle.{review_expr_judging.specs.declared.facts.ChangeFacts.ChangeFacts, review_expr.specs.declared.expr.Expr.Expr}
 use Rattle.review_file_rules.specs.View.{RequirementView}
 use Rattle.review_core_rules.specs.{Change.Change, Change.Setting, Facts.AreFacts, Status.status_of}
 use Rattle.review_core_tables.specs.Copies.{GroupTable, group_list}

@@ -77,8 +77,7 @@ fn label_holds(
 }
 
 impl<'c> Judged<GroupedChange<'c>> for RequirementTerm {
-    ghost use Rattle.review_expr_judging.specs.Holds.{requirement_holds};
-    ghost use Rattle.review_core_standing.specs.Grouped.{grouped};
+    ghost use Rattle.{review_expr_judging.specs.Holds.requirement_holds, review_core_standing.specs.Grouped.grouped};
 
     ghost is_held = { λ c t. requirement_holds (grouped c.facts.now c.groups.now) t };
 

@@ -1,8 +1,7 @@
 -- The copy conditions of a file, compiled.
 use Rattle.std.specs.{List.All, Prelude.◌≡◌, Prelude.List, Prelude.map, Prelude.Option, Prelude.Some, Prelude.None}
 use Rattle.review_expr.specs.{Exprs.AreTermsOf, declared.compiled.Terms.Terms, declared.expr.Expr.Expr}
-use Rattle.review_file_rules.specs.View.{LabelView}
-use Rattle.review_core_tables.specs.declared.copying.Condition.{Condition}
+use Rattle.{review_file_rules.specs.View.LabelView, review_core_tables.specs.declared.copying.Condition.Condition}
 
 -- The terms are those of an expression, where there is one.
 abbrev pub AreTermsOfAny : Option Expr → Option Terms → Type 0

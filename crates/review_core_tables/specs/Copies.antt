@@ -1,10 +1,8 @@
 -- The votes of a patch set that are copied to the next one, and the others.
 use Rattle.std.specs.{Map.keys_of, Option.option_map_or}
 use Rattle.std.specs.Prelude.{◌≡◌, ℕ, ℤ, List, [], ◌∷◌, map, find, Option, option_map, Bool, false, not, ◌==◌, ◌&&◌, if◌then◌else◌}
-use Rattle.review_names.specs.Groups.{GroupList}
-use Rattle.review_table.specs.Rows.{rows_of}
-use Rattle.review_expr_judging.specs.declared.facts.VoteFacts.{VoteFacts}
-use Rattle.review_expr.specs.declared.expr.Expr.{Expr}
+use Rattle.{review_names.specs.Groups.GroupList, review_table.specs.Rows.rows_of}
+use Rattle.{review_expr_judging.specs.declared.facts.VoteFacts.VoteFacts, review_expr.specs.declared.expr.Expr.Expr}
 use Rattle.review_file_rules.specs.View.{FileView, LabelView}
 use Rattle.review_core_rules.specs.{Change.condition_holds, Change.label_in, Change.range_of, Votes.voted}
 use Rattle.review_core_rules.specs.declared.rows.{VoteKey.VoteKey, Why.Why, Why.TheVariants.NotCopied}

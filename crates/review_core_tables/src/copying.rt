@@ -1,9 +1,7 @@
 //! Votes that are copied to a new patch set.
 ghost use Rattle.std.specs.{List.Sorted.IsStrictlySortedBy, Map.keys_of, Map.Iter.deref_pair};
 ghost use Rattle.std.specs.Prelude.{◌≡◌, ◌++◌, [], ◌∷◌, Some, find, map, option_copied, IfOk, OnOk};
-ghost use Rattle.std.specs.Str.{bytes_eq};
-ghost use Rattle.review_names.specs.Groups.{has_account};
-ghost use Rattle.review_table.specs.Rows.{rows_of};
+ghost use Rattle.{std.specs.Str.bytes_eq, review_names.specs.Groups.has_account, review_table.specs.Rows.rows_of};
 ghost use Rattle.review_expr_judging.specs.Holds.{copy_holds};
 ghost use Rattle.review_expr.specs.{Exprs.AreTermsOf, declared.expr.Expr.Expr};
 ghost use Rattle.review_core_rules.specs.{Change.condition_holds, Seen.vote_cmp};
@@ -43,8 +41,7 @@ struct GroupedVote<'v> {
 }
 
 impl<'v> Judged<GroupedVote<'v>> for CopyTerm {
-    ghost use Rattle.review_expr_judging.specs.Holds.{copy_holds};
-    ghost use Rattle.review_core_tables.specs.Copies.{with_groups};
+    ghost use Rattle.{review_expr_judging.specs.Holds.copy_holds, review_core_tables.specs.Copies.with_groups};
 
     ghost is_held = { λ v t. copy_holds (with_groups v.facts.now v.groups.now) t };
 

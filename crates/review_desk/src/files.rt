@@ -3,8 +3,7 @@
 //! `open` supposes nothing of a file and its log but `F`, which `main` names. A job begins from what the run before left, or a stop of it.
 //! Where `serve_file` opens a file again, that is said of each opening by itself.
 ghost use Rattle.std.specs.Prelude.{◌≡◌, ◌⊎◌, Bool, true, false, Result, IfOk, IfErr};
-ghost use Rattle.sqlite.specs.Files.{over_files};
-ghost use Rattle.sqlite_wal.specs.Files.{image_at};
+ghost use Rattle.{sqlite.specs.Files.over_files, sqlite_wal.specs.Files.image_at};
 ghost use Rattle.review_desk_work.specs.OnFile.{ClosedAs, IsTold, OpenedFrom, ThenClosed};
 ghost use Rattle.review_desk_work.specs.Turns.{ServedInTurns};
 ghost use Rattle.review_desk_work.specs.Worked.{Known, WasMade, WasMigrated, Worked};

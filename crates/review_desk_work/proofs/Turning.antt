@@ -1,9 +1,7 @@
 -- How serving ends.
 use Rattle.std.proofs.Common.{◌≡◌, ◌<◌, ◌+◌, ◌⊎◌, ◌∙◌, ℕ, Bool, true, false, List, [], ◌∷◌, Some, None, Result, Ok, Err, inl, inr, length, zero, suc, refl, sym, ap, arith, subst, ◌==◌, if◌then◌else◌, ◌≤◌, IsErrAnd}
-use Rattle.std.proofs.lemmas.Bool.Decides.{nat_tests}
-use Rattle.sqlite.specs.Held.{Held}
-use Rattle.sqlite_trees.specs.declared.store.Store.{Ghosts}
-use Rattle.review_machine_rows.specs.Shelf.{Shown}
+use Rattle.{std.proofs.lemmas.Bool.Decides.nat_tests, sqlite.specs.Held.Held}
+use Rattle.{sqlite_trees.specs.declared.store.Store.Ghosts, review_machine_rows.specs.Shelf.Shown}
 use Rattle.review_http.specs.Peers.{Exchange, Peers, ServedAll, ServedEach}
 use Rattle.review_http.specs.declared.connections.ConnectionsFault.{ConnectionsFault}
 use Rattle.review_http.specs.declared.connections.ConnectionsFault.TheVariants.{Network, Output}

@@ -4,8 +4,7 @@ use Rattle.sqlite.specs.{Closing.IsCopied, Files.file_state, Files.IsClosed, Fil
 use Rattle.sqlite.specs.State.{HasCleanDisk}
 use Rattle.sqlite_disk.specs.declared.{Disk.Ghosts, Files.Files}
 use Rattle.sqlite_store.specs.FileStore.{files, log_frames, view}
-use Rattle.sqlite_store.specs.declared.store.FileStore.{FileStore}
-use Rattle.sqlite_trees.specs.View.{IsClean}
+use Rattle.{sqlite_store.specs.declared.store.FileStore.FileStore, sqlite_trees.specs.View.IsClean}
 use Rattle.sqlite_wal.specs.{Reads.AreClean, Recovery.Image}
 use Rattle.review_json_lines.specs.declared.fault.Outcome.{Outcome, TheVariants.Complete}
 use Rattle.review_desk_work.specs.{Faults.after_closing, declared.fault.ProgramFault.ProgramFault}

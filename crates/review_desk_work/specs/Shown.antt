@@ -2,8 +2,7 @@
 use Rattle.std.specs.Io.KnownBytes.{Appends}
 use Rattle.std.specs.Prelude.{◌≡◌, ℕ, List, [], Option, Result, Ok, Err, length, take}
 use Rattle.review_words.specs.declared.{command.Delivery.Delivery, reply.Reply.Reply}
-use Rattle.review_machine_rows.specs.Shelf.{Shown}
-use Rattle.review_machine_deliveries.specs.Delivered.{WasRun}
+use Rattle.{review_machine_rows.specs.Shelf.Shown, review_machine_deliveries.specs.Delivered.WasRun}
 use Rattle.review_json_lines.specs.Answers.{IsPartOf}
 use Rattle.review_desk_work.specs.declared.show_fault.ShowFault.{ShowFault, TheVariants.Memory, TheVariants.Output}
 

@@ -1,11 +1,9 @@
 -- Serving on a desk that is opened again where a fault has shut its store.
 use Rattle.std.specs.Prelude.{◌≡◌, ◌⊎◌, ◌+◌, ◌≤◌, ◌==◌, ℕ, Bool, true, false, if◌then◌else◌, List, [], ◌∷◌, Option, Some, None, Result, Err, IsTrue}
 use Rattle.sqlite.specs.{Held.Held, Held.state, State.HasCleanDisk}
-use Rattle.sqlite_trees.specs.declared.store.Store.{Ghosts}
-use Rattle.review_json_lines.specs.declared.fault.Outcome.{Outcome}
-use Rattle.review_sql.specs.Shelf.{Stays}
-use Rattle.review_desk_work.specs.{Faults.after_closing, Worked.Known, Worked.Worked}
-use Rattle.review_desk_work.specs.declared.fault.ProgramFault.{ProgramFault}
+use Rattle.{sqlite_trees.specs.declared.store.Store.Ghosts, review_json_lines.specs.declared.fault.Outcome.Outcome}
+use Rattle.{review_sql.specs.Shelf.Stays, review_desk_work.specs.Faults.after_closing}
+use Rattle.review_desk_work.specs.{Worked.Known, Worked.Worked, declared.fault.ProgramFault.ProgramFault}
 use Rattle.review_desk_work.specs.declared.fault.ProgramFault.TheVariants.{Memory, ServedInPart, Store}
 use Rattle.review_desk_work.specs.declared.task.Task.TheVariants.{Serve}
 

@@ -2,11 +2,9 @@
 use Rattle.std.specs.Io.KnownBytes.{Appends}
 use Rattle.std.specs.Prelude.{◌≡◌, ◌≢◌, ◌⊎◌, ◌||◌, ℕ, Bool, true, false, not, List, [], Option, Result, Ok, Err, IsTrue, IfOk, IfErr}
 use Rattle.sqlite.specs.{Held.Held, Held.state, State.HasCleanDisk}
-use Rattle.sqlite_trees.specs.declared.store.Store.{Ghosts}
-use Rattle.review_words.specs.declared.{command.Delivery.Delivery, reply.Reply.Reply}
-use Rattle.review_sql_tables.specs.Desk.{schema_0}
-use Rattle.review_machine_rows.specs.Shelf.{Shown}
-use Rattle.review_machine_deliveries.specs.Delivered.{WasRun}
+use Rattle.{sqlite_trees.specs.declared.store.Store.Ghosts, review_words.specs.declared.command.Delivery.Delivery}
+use Rattle.{review_words.specs.declared.reply.Reply.Reply, review_sql_tables.specs.Desk.schema_0}
+use Rattle.{review_machine_rows.specs.Shelf.Shown, review_machine_deliveries.specs.Delivered.WasRun}
 use Rattle.review_machine_deliveries.specs.Restart.{RepliesFollowHistory, RestartAfterCut, RestartAfterStop, RestartCompletes, RestartIsRun, RestartKeepsHistory, RunIsSession, RunsCompose, RunsGoOn}
 use Rattle.review_http.specs.{Peers.Peers, Peers.ServedAll, declared.connections.ConnectionsFault.ConnectionsFault}
 use Rattle.review_json_lines.specs.{Answers.WereAnswered, declared.fault.Fault.Fault, declared.fault.Outcome.Outcome}

@@ -2,8 +2,7 @@
 use lib.Utf8.{encode}
 use Rattle.std.proofs.Common.{◌≡◌, ◌≢◌, ℕ, Bool, true, false, ◌==◌, List, [], ◌∷◌, ◌++◌, length, refl, sym, ap, ◌∙◌, arith, append_assoc, slice_index, lit<, inl, inr}
 use Rattle.std.proofs.lemmas.{Bool.Decides.nat_tests, List.map-append, Str.encode_ascii}
-use Rattle.std.specs.Prelude.{if◌then◌else◌}
-use Rattle.review_expr_terms.specs.Views.{tok, toks}
+use Rattle.{std.specs.Prelude.if◌then◌else◌, review_expr_terms.specs.Views.tok, review_expr_terms.specs.Views.toks}
 use Rattle.review_expr_terms.specs.Words.{Reading, Bad, Flaw, NoTerm, NoValue, Zero, IsWordFault}
 use Rattle.review_expr_terms.specs.declared.{token.Token.Token, word.WordFault.WordFault}
 use Rattle.review_expr.specs.Tokens.{meaning, alone, behind_minus, lone_minus, after_minus, unsigned, word_tokens}

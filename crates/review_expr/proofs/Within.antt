@@ -1,8 +1,7 @@
 -- A fault's place lies within the text.
 use Rattle.std.proofs.Common.{◌≡◌, inl, inr, ℕ, ◌+◌, ◌≤◌, ◌<◌, List, [], ◌∷◌, ◌++◌, length, ap, arith, length-append}
 use Rattle.review_expr_terms.specs.Lexemes.{Lexeme, Word, Open, Close, IsCut}
-use Rattle.review_expr_terms.specs.Words.{Reading}
-use Rattle.review_words.specs.declared.faults.ExprCode.{ExprCode}
+use Rattle.{review_expr_terms.specs.Words.Reading, review_words.specs.declared.faults.ExprCode.ExprCode}
 use Rattle.review_expr.specs.Faults.{IsReached, IsFault}
 use Rattle.review_words.specs.declared.faults.ExprCode.TheVariants as code
 

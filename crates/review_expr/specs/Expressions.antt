@@ -1,9 +1,8 @@
 -- Which texts are expressions, and the tree that each has.
 use Rattle.std.specs.Prelude.{◌≡◌, ℕ, ◌≤◌, List, length, Some, IsTrue}
 use Rattle.review_expr_terms.specs.Grammar.{Tok, Tree, HasTree}
-use Rattle.review_expr_terms.specs.Lexemes.{Lexeme, IsCut, balanced}
-use Rattle.review_expr_terms.specs.{Views.view, Words.Reading, declared.tree.Node.Node}
-use Rattle.review_expr.specs.Tokens.{tokens}
+use Rattle.review_expr_terms.specs.{Lexemes.Lexeme, Lexemes.IsCut, Lexemes.balanced, Views.view, Words.Reading}
+use Rattle.{review_expr_terms.specs.declared.tree.Node.Node, review_expr.specs.Tokens.tokens}
 
 -- The text has at most 4,096 bytes, and is made of these words and parentheses: at least one, and each parenthesis has its other half.
 abbrev pub IsLaidOut : List Lexeme → List ℕ → Type 0

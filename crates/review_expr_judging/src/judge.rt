@@ -1,8 +1,7 @@
 //! Whether expressions hold.
 ghost use Rattle.std.specs.List.{list_any};
 ghost use Rattle.std.specs.Prelude.{◌≡◌, ◌==◌, ℕ, ℤ, Bool, IfOk, IfErr, Some, map, count_by};
-ghost use Rattle.std.specs.Str.{bytes_eq};
-ghost use Rattle.review_names.specs.Forms.{components};
+ghost use Rattle.{std.specs.Str.bytes_eq, review_names.specs.Forms.components};
 ghost use Rattle.review_expr_terms.specs.{Grammar.trees, Views.view};
 ghost use Rattle.review_expr_judging.specs.Holds.{all_hold, any_holds, compares, copy_holds, holds, is_count, is_counted, is_value, is_voter, kind_matches, label_holds, meets, requirement_holds};
 

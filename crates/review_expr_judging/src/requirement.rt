@@ -1,8 +1,7 @@
 //! Whether a term of a submit requirement holds for a change.
 ghost use Rattle.std.specs.{List.list_any, List.Sorted.IsStrictlySortedBy, Map.keys_of, Ordering.nat_cmp};
 ghost use Rattle.std.specs.Prelude.{◌≡◌, ◌==◌, ℕ, ℤ, Bool, IfOk, Some, map, count_by};
-ghost use Rattle.std.specs.Str.{bytes_eq};
-ghost use Rattle.review_names.specs.Forms.{components};
+ghost use Rattle.{std.specs.Str.bytes_eq, review_names.specs.Forms.components};
 ghost use Rattle.review_expr_judging.specs.Holds.{compares, is_count, is_counted, is_value, is_voter, label_holds, meets, range_of, requirement_holds, votes_of};
 
 use crate::facts::{ChangeFacts, ValueRange};

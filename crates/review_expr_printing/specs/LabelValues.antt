@@ -1,8 +1,7 @@
 -- The value of a `label:` word, in other words than those by which it is read.
 use Rattle.std.specs.Prelude.{ℕ, ◌≡◌, ◌⊎◌, ◌↔◌, ◌++◌, List, [], ◌∷◌, Option, Some, None, true, false}
-use Rattle.review_names.specs.Forms.{is_label}
-use Rattle.review_expr_terms.specs.declared.terms.{Count.Count, LabelTerm.LabelTerm}
-use Rattle.review_expr_terms.specs.declared.terms.Voters.{Voters, TheVariants.Everyone}
+use Rattle.{review_names.specs.Forms.is_label, review_expr_terms.specs.declared.terms.Count.Count}
+use Rattle.review_expr_terms.specs.declared.terms.{LabelTerm.LabelTerm, Voters.Voters, Voters.TheVariants.Everyone}
 use Rattle.review_expr_spelling.specs.{Labels.voters_in, Labels.count_in, Labels.label_in, Values.comparison_in}
 
 -- a label's name in front of the rest of a text, where no longer front is one

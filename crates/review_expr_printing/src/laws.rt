@@ -3,8 +3,7 @@ ghost use Rattle.std.specs.Prelude.{◌≡◌, ◌≤◌, ℕ, List, length};
 ghost use Rattle.review_expr_terms.specs.Grammar.{Tree};
 ghost use Rattle.review_expr_terms.specs.declared.terms.{CopyTerm.CopyTerm, RequirementTerm.RequirementTerm};
 ghost use Rattle.review_expr_spelling.specs.Words.{copy_reading, requirement_reading};
-ghost use Rattle.review_expr.specs.Expressions.{HasExpr};
-ghost use Rattle.review_expr_printing.specs.Printed.{printed};
+ghost use Rattle.{review_expr.specs.Expressions.HasExpr, review_expr_printing.specs.Printed.printed};
 ghost use Rattle.review_expr_printing.specs.Written.{AreOneWord, ReadAgain, copy_word, requirement_word};
 
 use crate::written::Written;

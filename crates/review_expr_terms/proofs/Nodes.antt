@@ -1,7 +1,6 @@
 -- The equations of `view` at a list.
 use Rattle.std.proofs.Common.{◌≡◌, ◌≢◌, Bool, true, false, map, length, Vec, Global, sym, ap, ◌∙◌}
-use Rattle.std.proofs.lemmas.List.{length-map}
-use Rattle.review_expr_terms.proofs.Steps.{listed_many}
+use Rattle.{std.proofs.lemmas.List.length-map, review_expr_terms.proofs.Steps.listed_many}
 use Rattle.review_expr_terms.specs.Grammar.{Tree, All, Any, trees, listed}
 use Rattle.review_expr_terms.specs.Views.{node, view}
 use Rattle.review_expr_terms.specs.declared.tree.Node.{Node, Node-F, fold-roll-Node}

@@ -2,9 +2,8 @@
 use Rattle.std.proofs.Common.{◌≡◌, inl, inr, ◌&&◌, ℕ, ◌<◌, ◌≤◌, List, Bool, true, false, Option, Some, None, IfSome, IsSomeAnd, refl, ap, ◌∙◌, arith}
 use Rattle.std.{proofs.lemmas.Bool.Decides.nat_tests, specs.Prelude.nat_le, specs.Str.chars}
 use Rattle.regex.specs.{Failures.IsPattern, Names.names_of, declared.string.regex.Regex.Regex}
-use Rattle.regex_hir.specs.Re.{Re}
-use Rattle.regex_syntax.specs.{Brackets.Nested, Grammar.Names, Grammar.read}
-use Rattle.regex_syntax.specs.Verdict.{Reads, Refuses, default_config}
+use Rattle.{regex_hir.specs.Re.Re, regex_syntax.specs.Brackets.Nested}
+use Rattle.regex_syntax.specs.{Grammar.Names, Grammar.read, Verdict.Reads, Verdict.Refuses, Verdict.default_config}
 use Rattle.regex_syntax.specs.declared.error.ErrorKind.{ErrorKind, TheVariants.OutOfMemory}
 use Rattle.review_expr_terms.specs.Patterns.{anchored, is_within, is_read, is_pattern, NestsTooDeep, IsDeepPattern, IsEnginePattern, IsReadFrom, IsLawful}
 use Rattle.review_expr_terms.specs.declared.pattern.PatternFault.{PatternFault}

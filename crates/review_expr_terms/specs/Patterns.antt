@@ -2,8 +2,7 @@
 use Rattle.std.specs.Prelude.{ℕ, List, ◌++◌, codes, Bool, false, Option, Some, None, is_some, chars, nat_le, ◌&&◌, ◌<◌, IsSomeAnd, ◌⊎◌, ◌≡◌, true}
 use Rattle.regex.specs.Patterns.{find_str, default_config}
 use Rattle.regex.specs.Strings.{regex_source, regex_config, IsReadFromSource}
-use Rattle.regex.specs.declared.string.regex.Regex.{Regex}
-use Rattle.regex_hir.specs.Re.{Re}
+use Rattle.{regex.specs.declared.string.regex.Regex.Regex, regex_hir.specs.Re.Re}
 use Rattle.regex_syntax.specs.{Brackets.Nested, Grammar.Names, Grammar.read}
 use Rattle.review_expr_terms.specs.declared.pattern.PatternFault.{PatternFault}
 use Rattle.review_expr_terms.specs.declared.pattern.PatternFault.TheVariants.{Syntax, Engine, Memory}

@@ -1,6 +1,5 @@
 -- What a word of an expression is read as.
-use Rattle.std.specs.Prelude.{◌≡◌, ◌⊎◌}
-use Rattle.review_expr_terms.specs.declared.word.WordFault.{WordFault}
+use Rattle.{std.specs.Prelude.◌≡◌, std.specs.Prelude.◌⊎◌, review_expr_terms.specs.declared.word.WordFault.WordFault}
 use Rattle.review_expr_terms.specs.declared.word.WordFault.TheVariants as fault
 
 -- Why a word is no term: it is written as none, or its value is none of its key's, or 0 meets its comparison.

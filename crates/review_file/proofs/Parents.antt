@@ -1,7 +1,6 @@
 -- The parent of a file.
 use Rattle.std.proofs.Common.{◌≡◌, ◌∙◌, ℕ, List, None, cond, sym, ap, option_and_then}
-use Rattle.toml.specs.{Data.table, Parse.parse_document}
-use Rattle.review_expr.specs.declared.expr.Expr.{Expr}
+use Rattle.{toml.specs.Data.table, toml.specs.Parse.parse_document, review_expr.specs.declared.expr.Expr.Expr}
 use Rattle.review_file_rules.specs.{Reading.IsRead, Reading.named_parent, Spelled.parent_in, View.FileView}
 
 -- the parent of a file is the one that its text names

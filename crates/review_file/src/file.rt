@@ -70,8 +70,7 @@ pub(crate) struct LabelParts {
 }
 
 impl Model for LabelParts {
-    ghost use Rattle.std.specs.Coded.{codes};
-    ghost use Rattle.review_expr.specs.declared.expr.Expr.{Expr};
+    ghost use Rattle.{std.specs.Coded.codes, review_expr.specs.declared.expr.Expr.Expr};
     ghost use Rattle.review_file_rules.specs.View.{LabelView};
     ghost use Rattle.review_expr.specs.contracts.expr.Expr as expr;
 
@@ -89,8 +88,7 @@ pub struct Label {
 }
 
 impl Model for Label {
-    ghost use Rattle.std.specs.Coded.{codes};
-    ghost use Rattle.review_expr.specs.declared.expr.Expr.{Expr};
+    ghost use Rattle.{std.specs.Coded.codes, review_expr.specs.declared.expr.Expr.Expr};
     ghost use Rattle.review_file_rules.specs.View.{LabelView};
     ghost use Rattle.review_expr.specs.contracts.expr.Expr as expr;
 
@@ -204,8 +202,7 @@ pub(crate) struct RequirementParts {
 
 impl Model for RequirementParts {
     ghost use Rattle.std.specs.{Coded.codes, Prelude.option_map, Prelude.string_bytes};
-    ghost use Rattle.review_expr.specs.declared.expr.Expr.{Expr};
-    ghost use Rattle.review_file_rules.specs.View.{RequirementView};
+    ghost use Rattle.{review_expr.specs.declared.expr.Expr.Expr, review_file_rules.specs.View.RequirementView};
     ghost use Rattle.review_expr.specs.contracts.expr.Expr as expr;
 
     ghost Value = { RequirementView Expr };
@@ -229,8 +226,7 @@ pub struct Requirement {
 }
 
 impl Model for Requirement {
-    ghost use Rattle.std.specs.Coded.{codes};
-    ghost use Rattle.review_expr.specs.declared.expr.Expr.{Expr};
+    ghost use Rattle.{std.specs.Coded.codes, review_expr.specs.declared.expr.Expr.Expr};
     ghost use Rattle.review_file_rules.specs.View.{RequirementView};
     ghost use Rattle.review_expr.specs.contracts.expr.Expr as expr;
 
@@ -320,8 +316,7 @@ pub struct Content {
 
 impl Model for Content {
     ghost use Rattle.std.specs.{Coded.codes, Prelude.option_map, Prelude.string_bytes};
-    ghost use Rattle.review_expr.specs.declared.expr.Expr.{Expr};
-    ghost use Rattle.review_file_rules.specs.View.{FileView};
+    ghost use Rattle.{review_expr.specs.declared.expr.Expr.Expr, review_file_rules.specs.View.FileView};
     ghost use Rattle.review_expr.specs.contracts.expr.Expr as expr;
 
     ghost Value = { FileView Expr };
@@ -345,8 +340,7 @@ pub struct ProjectFile {
 }
 
 impl Model for ProjectFile {
-    ghost use Rattle.std.specs.Coded.{codes};
-    ghost use Rattle.review_expr.specs.declared.expr.Expr.{Expr};
+    ghost use Rattle.{std.specs.Coded.codes, review_expr.specs.declared.expr.Expr.Expr};
     ghost use Rattle.review_file_rules.specs.{Sound.IsSoundFile, View.FileView};
     ghost use Rattle.review_expr.specs.contracts.expr.Expr as expr;
 

@@ -1,8 +1,7 @@
 //! What a project file gives an account.
 ghost use Rattle.std.specs.{Int.int_min, Int.int_max, List.list_any};
 ghost use Rattle.std.specs.Prelude.{◌≡◌, ℤ, pos, true, map, filter, find, fold, IfSome};
-ghost use Rattle.std.specs.Str.{bytes_eq};
-ghost use Rattle.review_names.specs.Groups.{has_account};
+ghost use Rattle.{std.specs.Str.bytes_eq, review_names.specs.Groups.has_account};
 ghost use Rattle.review_file_rules.specs.Rights.{granted, grants_of, greatest_of, least_of, may};
 ghost use Rattle.review_file_rules.specs.Sound.{is_value};
 

@@ -1,8 +1,7 @@
 -- The values of a label.
 use Rattle.std.specs.{Int.is_in_range, List.list_any, Option.option_map_or, Ordering.int_eq}
 use Rattle.std.specs.Prelude.{ℕ, ℤ, pos, neg_ℤ, ◌+ℤ◌, ◌-ℤ◌, ◌-◌, ◌+◌, ◌*◌, ◌==◌, nat_lt, int_lt, int_le, length, codes, Bool, true, false, not, ◌||◌, ◌&&◌, List, [], ◌∷◌, Option, Some, None, if◌then◌else◌, option_map, option_and_then, unwrap_or}
-use Rattle.std.specs.Str.{bytes_eq}
-use Rattle.toml.specs.Data.{Data, as_integer, at}
+use Rattle.{std.specs.Str.bytes_eq, toml.specs.Data.Data, toml.specs.Data.as_integer, toml.specs.Data.at}
 use Rattle.review_file_document.specs.Document.{members_at}
 
 -- 1 to 99 in decimal, without leading zeros

@@ -1,7 +1,6 @@
 //! The values of labels.
 ghost use Rattle.std.specs.{List.list_any, Prelude.◌≡◌, Prelude.ℤ, Prelude.not, Prelude.◌&&◌, Prelude.codes};
-ghost use Rattle.std.specs.Str.{bytes_eq};
-ghost use Rattle.toml.specs.View.{table_view, view};
+ghost use Rattle.{std.specs.Str.bytes_eq, toml.specs.View.table_view, toml.specs.View.view};
 ghost use Rattle.review_file_document.specs.Document.{members, members_at};
 ghost use Rattle.review_file_document.specs.Values.{digits, end_at, has_bad_values, has_double, has_twice, has_value, has_value_twice, is_bad_grant, is_bad_key, is_bad_label, is_bad_value, is_no_run, spells, towards_zero, value_of};
 

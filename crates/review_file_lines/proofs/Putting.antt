@@ -3,8 +3,7 @@ use Rattle.std.proofs.Common.{◌≡◌, ℕ, suc, set, Bool, true, false, Less,
 use Rattle.std.proofs.lemmas.{Cmp.nat_list_cmp_total, Map.Text.is_eq-slice_cmp}
 use Rattle.std.specs.{Cmp.Lexicographic.slice_cmp, Option.option_map_or}
 use Rattle.std.specs.{Ordering.match_ordering, Ordering.ordering_reverse, declared.cmp.Ordering.Ordering}
-use Rattle.review_file_rules.specs.Inherited.{put_by}
-use Rattle.review_file_lines.specs.inner.Before.{count_before}
+use Rattle.{review_file_rules.specs.Inherited.put_by, review_file_lines.specs.inner.Before.count_before}
 
 below : (o : Ordering) → is_lt o ≡ true → ordering_reverse o ≡ Greater
 below Less h = refl

@@ -1,8 +1,7 @@
 -- Texts with the files that they spell.
 use Rattle.std.specs.{List.Contains, Prelude.ℕ, Prelude.List}
-use Rattle.review_expr.specs.declared.expr.Expr.{Expr}
-use Rattle.review_file_rules.specs.{Inherited.IsEffective, Patterns.HasPattern, View.FileView}
-use Rattle.review_file_rules.specs.declared.fault.ReadFault.{ReadFault}
+use Rattle.{review_expr.specs.declared.expr.Expr.Expr, review_file_rules.specs.Inherited.IsEffective}
+use Rattle.review_file_rules.specs.{Patterns.HasPattern, View.FileView, declared.fault.ReadFault.ReadFault}
 use Rattle.review_file_rules.specs.declared.fault.ReadFault.TheVariants.{File, Memory, Pattern}
 
 -- a text and a project file

@@ -1,8 +1,7 @@
 //! The effective file of a project, by its own file and its parent's.
 ghost use Rattle.std.specs.Option.{option_map_or};
 ghost use Rattle.std.specs.Prelude.{◌≡◌, ◌++◌, ◌≢◌, ◌<◌, ◌≤◌, length, slice_get, List, IfOk, IfErr, OnOk, find, fold, filter, false, true, option_copied};
-ghost use Rattle.std.specs.Str.{bytes_eq};
-ghost use Rattle.review_expr.specs.declared.expr.Expr.{Expr};
+ghost use Rattle.{std.specs.Str.bytes_eq, review_expr.specs.declared.expr.Expr.Expr};
 ghost use Rattle.review_file_rules.specs.Expressions.{names_unknown_label};
 ghost use Rattle.review_file_rules.specs.Inherited.{by_name, counts, inherit, inherited_labels, inherited_requirements, inherits_unknown_label, joined_access, put_by};
 ghost use Rattle.review_file_rules.specs.View.{LabelView, RequirementView};
@@ -46,8 +45,7 @@ pub trait Named: Drop + Sized {
 }
 
 impl Named for Label {
-    ghost use Rattle.review_expr.specs.declared.expr.Expr.{Expr};
-    ghost use Rattle.review_file_rules.specs.View.{LabelView};
+    ghost use Rattle.{review_expr.specs.declared.expr.Expr.Expr, review_file_rules.specs.View.LabelView};
 
     ghost name_of = { λ (l : LabelView Expr). l.name };
 
@@ -61,8 +59,7 @@ impl Named for Label {
 }
 
 impl Named for Requirement {
-    ghost use Rattle.review_expr.specs.declared.expr.Expr.{Expr};
-    ghost use Rattle.review_file_rules.specs.View.{RequirementView};
+    ghost use Rattle.{review_expr.specs.declared.expr.Expr.Expr, review_file_rules.specs.View.RequirementView};
 
     ghost name_of = { λ (r : RequirementView Expr). r.name };
 

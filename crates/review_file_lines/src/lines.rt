@@ -28,8 +28,7 @@ pub struct ReadLine {
 }
 
 impl Model for ReadLine {
-    ghost use Rattle.std.specs.Coded.{codes};
-    ghost use Rattle.review_file_rules.specs.Inherited.{IsEffective};
+    ghost use Rattle.{std.specs.Coded.codes, review_file_rules.specs.Inherited.IsEffective};
     ghost use Rattle.review_file_lines.specs.Texts.{LineView};
     ghost use Rattle.review_expr.specs.contracts.expr.Expr as expr;
 

@@ -16,8 +16,7 @@ pub struct ReadText {
 }
 
 impl Model for ReadText {
-    ghost use Rattle.std.specs.Coded.{codes};
-    ghost use Rattle.review_file_rules.specs.Reading.{IsRead};
+    ghost use Rattle.{std.specs.Coded.codes, review_file_rules.specs.Reading.IsRead};
     ghost use Rattle.review_file_lines.specs.Texts.{TextView};
     ghost use Rattle.review_expr.specs.contracts.expr.Expr as expr;
 

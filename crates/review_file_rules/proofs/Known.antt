@@ -4,8 +4,7 @@ use Rattle.std.proofs.lemmas.Bool.Decides.{Decides-int_eq}
 use Rattle.std.proofs.lemmas.List.Elements.{All-from_recursion, recursion_from_All}
 use Rattle.std.{proofs.lemmas.Map.Text.is_eq-slice_cmp, specs.Cmp.Lexicographic.slice_cmp}
 use Rattle.std.specs.List.{AllByRecursion, list_any, Sorted.IsStrictlySortedBy}
-use Rattle.std.specs.Option.{option_map_or, option_or}
-use Rattle.review_names.specs.Forms.{text_set}
+use Rattle.{std.specs.Option.option_map_or, std.specs.Option.option_or, review_names.specs.Forms.text_set}
 use Rattle.review_expr.specs.{Exprs.labels_in, declared.expr.Expr.Expr}
 use Rattle.review_file_rules.proofs.Named.{Sorted, alike, itself, named, named_both, no_both, sorted_by_name, finds_each, found_is, found_named, all_true, true_all, each_both, each_kept, none_true, true_none}
 use Rattle.review_file_rules.specs.Expressions.{names_other, names_unknown_label, requires_other}

@@ -2,8 +2,7 @@
 use Rattle.std.specs.{Cmp.Lexicographic.slice_cmp, List.list_any, Option.option_map_or}
 use Rattle.std.specs.Ordering.{match_ordering, nat_cmp}
 use Rattle.std.specs.Prelude.{◌≡◌, ℕ, List, [], ◌∷◌, ◌++◌, Bool, true, None, filter, find, fold}
-use Rattle.std.specs.Str.{bytes_eq}
-use Rattle.review_expr.specs.declared.expr.Expr.{Expr}
+use Rattle.{std.specs.Str.bytes_eq, review_expr.specs.declared.expr.Expr.Expr}
 use Rattle.review_file_rules.specs.{Expressions.requires_other, Reading.IsRead}
 use Rattle.review_file_rules.specs.View.{AccessView, LabelView, RequirementView, FileView}
 

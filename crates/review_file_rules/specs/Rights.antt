@@ -1,8 +1,7 @@
 -- What a project file gives an account, and when one file covers another.
 use Rattle.std.specs.{Int.int_min, Int.int_max, List.list_all, List.list_any, Option.option_map_or, Ordering.int_eq}
 use Rattle.std.specs.Prelude.{ℕ, ℤ, pos, List, [], Bool, ◌&&◌, map, filter, find, fold}
-use Rattle.std.specs.Str.{bytes_eq}
-use Rattle.review_names.specs.Groups.{GroupList, has_account}
+use Rattle.{std.specs.Str.bytes_eq, review_names.specs.Groups.GroupList, review_names.specs.Groups.has_account}
 use Rattle.review_file_rules.specs.View.{AccessView, LabelView, FileView}
 use Rattle.review_file_rules.specs.declared.parts.{Grant.Grant, Right.Right}
 use Rattle.review_file_rules.specs.declared.parts.Right.TheVariants.{Create, Upload, Submit, Abandon}

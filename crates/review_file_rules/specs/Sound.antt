@@ -2,8 +2,7 @@
 use Rattle.std.specs.{Cmp.Lexicographic.slice_cmp, List.All, List.list_all, List.list_any}
 use Rattle.std.specs.{List.Sorted.IsStrictlySortedBy, Ordering.int_eq, Ordering.nat_cmp}
 use Rattle.std.specs.Prelude.{◌≡◌, ℕ, ℤ, pos, neg_ℤ, List, [], ◌∷◌, Bool, true, false, not, ◌&&◌, ◌||◌, length, map, nat_lt, int_lt, int_le}
-use Rattle.review_file_document.specs.Values.{towards_zero}
-use Rattle.review_expr.specs.declared.expr.Expr.{Expr}
+use Rattle.{review_file_document.specs.Values.towards_zero, review_expr.specs.declared.expr.Expr.Expr}
 use Rattle.review_file_rules.specs.{View.LabelView, View.FileView, declared.parts.Grant.Grant}
 
 -- a number is one of these values

@@ -1,8 +1,7 @@
 //! Laws of effective files, as contracts of calls that do nothing.
 ghost use Rattle.std.specs.Option.{option_or};
 ghost use Rattle.std.specs.Prelude.{◌≡◌, ℕ, List, true, false, find};
-ghost use Rattle.std.specs.Str.{bytes_eq};
-ghost use Rattle.review_expr.specs.declared.expr.Expr.{Expr};
+ghost use Rattle.{std.specs.Str.bytes_eq, review_expr.specs.declared.expr.Expr.Expr};
 ghost use Rattle.review_file_rules.specs.Expressions.{names_unknown_label};
 ghost use Rattle.review_file_rules.specs.Inherited.{IsEffective, inherit, inherits_unknown_label};
 ghost use Rattle.review_file_rules.specs.{Rights.covers, Sound.HasNamesInOrder, Sound.IsSoundFile, Trees.file_trees};

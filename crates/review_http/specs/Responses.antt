@@ -2,8 +2,7 @@
 use Rattle.std.specs.Prelude.{ℕ, ◌+◌, List, [], ◌++◌, codes, decimal, length, Result, Ok, Err}
 use Rattle.http.specs.StatusCode.{status_text}
 use Rattle.serde_json.specs.{Data.Data, Data.string, Data.object, Data.no_members, Data.member, Written.compact_text}
-use Rattle.review_words.specs.declared.reply.Reply.{Reply}
-use Rattle.review_http_requests.specs.Methods.{methods_text}
+use Rattle.{review_words.specs.declared.reply.Reply.Reply, review_http_requests.specs.Methods.methods_text}
 use Rattle.review_http_requests.specs.declared.http_fault.HttpFault.{HttpFault, TheVariants.Method}
 use Rattle.review_json.specs.Answer.{reply_data}
 use Rattle.review_http.specs.Statuses.{fault_name, status_of}

@@ -7,9 +7,8 @@ use Rattle.httparse.proofs.GrammarLemmas.{print_request-append, request_unique}
 use Rattle.httparse.specs.Grammar.{RequestHead, ReadsRequest, HasNoRequest, NeverHasRequest, print_request, MayBecomeRequest, IsRequestHead, crlf, IsField, is_token_byte, is_uri_byte, print_blank, print_version, print_end, print_section, EndsInTarget}
 use Rattle.httparse.specs.Spans.{RequestExceeds, RequestOverflows}
 use Rattle.review_words.specs.declared.command.Delivery.{Delivery}
-use Rattle.review_http_requests.proofs.Given.{gave_more}
-use Rattle.review_http_requests.specs.{Bytes.Gave, Bytes.IsBrought, Counts.greatest, Counts.one_more, Heads.envelope}
-use Rattle.review_http_requests.specs.Judged.{Judges, WaitsFor}
+use Rattle.review_http_requests.{proofs.Given.gave_more, specs.Bytes.Gave, specs.Bytes.IsBrought}
+use Rattle.review_http_requests.specs.{Counts.greatest, Counts.one_more, Heads.envelope, Judged.Judges, Judged.WaitsFor}
 use Rattle.review_http_requests.specs.{RequestLaws.IsHeadFault, Told.WasTold, Told.IsToldOfInput}
 use Rattle.review_http_requests.specs.Wire.{front, HasHead, body_of, Follows, CallsFor, IsBadHead, IsHeadTooLarge, delivery_of, IsNotWhole, HasManyFields}
 use Rattle.review_http_requests.specs.declared.envelope.Envelope.{Envelope}

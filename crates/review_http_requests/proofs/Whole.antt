@@ -1,6 +1,5 @@
 -- The table of paths, computed.
-use Rattle.std.proofs.Common.{refl}
-use Rattle.matchit.specs.Route.{scan}
+use Rattle.{std.proofs.Common.refl, matchit.specs.Route.scan}
 use Rattle.review_http_requests.specs.{PathLaws.HoldsEachPath, Table.table, Table.with_path}
 
 pub whole : HoldsEachPath

@@ -1,7 +1,6 @@
 -- What methods ask of a resource.
 use Rattle.std.specs.Prelude.{ℕ, List, if◌then◌else◌, Result, Ok, Err, codes}
-use Rattle.std.specs.Str.{bytes_eq}
-use Rattle.review_json_routes.specs.declared.route.Route.{Route}
+use Rattle.{std.specs.Str.bytes_eq, review_json_routes.specs.declared.route.Route.Route}
 use Rattle.review_http_requests.specs.declared.methods.Methods.{Methods}
 use Rattle.review_http_requests.specs.declared.methods.Methods.TheVariants.{Get, GetAndPost, GetAndPut, Post, Put}
 use Rattle.review_http_requests.specs.declared.resources.Resource.{Resource}

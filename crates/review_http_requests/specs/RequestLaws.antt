@@ -1,7 +1,6 @@
 -- Laws of what the bytes of a request call for.
 use Rattle.std.specs.Prelude.{◌≡◌, ◌⊎◌, ℕ, List, [], Bool, true, false, Option, Some, Result, Err}
-use Rattle.httparse.specs.Grammar.{EndsInTarget}
-use Rattle.review_words.specs.declared.command.Delivery.{Delivery}
+use Rattle.{httparse.specs.Grammar.EndsInTarget, review_words.specs.declared.command.Delivery.Delivery}
 use Rattle.review_http_requests.specs.{Bytes.Gave, Told.IsToldOfInput}
 use Rattle.review_http_requests.specs.Wire.{CallsFor, IsBadHead, IsHeadTooLarge, IsNotWhole, HasManyFields}
 use Rattle.review_http_requests.specs.declared.fault.RequestFault.{RequestFault}

@@ -1,8 +1,7 @@
 -- The segments of a path, and the names and numbers that they are once decoded.
 use Rattle.std.specs.List.{slice_index_or}
 use Rattle.std.specs.Prelude.{ℕ, List, [], Bool, if◌then◌else◌, Option, Some, None, option_map, option_and_then, codes}
-use Rattle.std.specs.Str.{bytes_eq}
-use Rattle.percent_encoding.specs.Percent.{percent_decode}
+use Rattle.{std.specs.Str.bytes_eq, percent_encoding.specs.Percent.percent_decode}
 use Rattle.review_names.specs.Forms.{components, most_changes, most_patches}
 use Rattle.review_names.specs.Numerals.{account_of, number_of}
 use Rattle.review_json_routes.specs.{Parts.within, Texts.name_of_bytes}

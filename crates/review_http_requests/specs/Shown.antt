@@ -1,6 +1,5 @@
 -- What clauses see of a reader or a writer that counts.
-use Rattle.std.specs.Prelude.{ℕ}
-use Rattle.review_http_requests.specs.declared.counted.Counted.{Counted}
+use Rattle.{std.specs.Prelude.ℕ, review_http_requests.specs.declared.counted.Counted.Counted}
 
 -- what is wrapped
 abbrev pub inner_of : {T : Type 0} → Counted T → T

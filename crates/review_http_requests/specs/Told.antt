@@ -1,8 +1,7 @@
 -- What the reading of a request says of the bytes that it took.
 use Rattle.std.specs.Prelude.{◌≡◌, ◌≤◌, ℕ, List, [], length, Bool, true, false, Option, Result, Ok, Err}
-use Rattle.review_words.specs.declared.command.Delivery.{Delivery}
-use Rattle.review_http_requests.specs.{Bytes.Gave, Wire.CallsFor, Wire.IsNotWhole}
-use Rattle.review_http_requests.specs.declared.fault.RequestFault.{RequestFault}
+use Rattle.{review_words.specs.declared.command.Delivery.Delivery, review_http_requests.specs.Bytes.Gave}
+use Rattle.review_http_requests.specs.{Wire.CallsFor, Wire.IsNotWhole, declared.fault.RequestFault.RequestFault}
 use Rattle.review_http_requests.specs.declared.fault.RequestFault.TheVariants.{Empty, Http, Read, Reads, Memory}
 
 -- What was told of these bytes, where the reader ended after them or not. A read that doesn't tell the end gives a byte or more, so 4,096 of them gave 4,096 bytes or more.

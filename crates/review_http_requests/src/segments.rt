@@ -1,7 +1,6 @@
 //! The segments of a path, and the names and numbers that they are once decoded.
 ghost use Rattle.std.specs.Prelude.{◌≡◌, IfOk};
-ghost use Rattle.percent_encoding.specs.Percent.{percent_decode};
-ghost use Rattle.review_json_routes.specs.Parts.{Gives};
+ghost use Rattle.{percent_encoding.specs.Percent.percent_decode, review_json_routes.specs.Parts.Gives};
 ghost use Rattle.review_http_requests.specs.Segments.{segment, name_in, account_in, change_shown, change_in, patch_numbered, patch_shown, patch_in};
 
 use percent_encoding::percent_decode;

@@ -1,7 +1,6 @@
 -- Texts of whole numbers, and tokens that were put one after the other.
 use Rattle.std.proofs.Common.{◌≡◌, ℤ, pos, negsuc, List, [], ◌++◌, refl, ap, ◌∙◌, append_assoc}
-use Rattle.std.specs.Fmt.{signed_decimal}
-use Rattle.json.specs.{Print.print, Token.Token}
+use Rattle.{std.specs.Fmt.signed_decimal, json.specs.Print.print, json.specs.Token.Token}
 use Rattle.serde_json.proofs.Texts.{print-outline}
 use Rattle.serde_json.specs.{Data.Data, Find.of_integer, Written.compact_text, Written.number_text}
 use Rattle.review_json.specs.Tokens.{HasPut, value_tokens}

@@ -6,9 +6,8 @@ use Rattle.review_words.specs.declared.command.{Command.Command, Delivery.Delive
 use Rattle.review_words.specs.declared.command.Delivery.TheVariants.{Write, Read}
 use Rattle.review_json_routes.specs.Commands.{command_in}
 use Rattle.review_json_routes.specs.Parts.{or_absent, text_at, name_at, account_at, epoch_or_first}
-use Rattle.review_json_routes.specs.Questions.{query_of, is_question}
-use Rattle.review_json_routes.specs.{Texts.value_spelled, Texts.if_object, declared.route.Route.Route}
-use Rattle.review_json.specs.Routes.{route_named}
+use Rattle.review_json_routes.specs.{Questions.query_of, Questions.is_question, Texts.value_spelled, Texts.if_object}
+use Rattle.{review_json_routes.specs.declared.route.Route.Route, review_json.specs.Routes.route_named}
 
 -- the body of a line, an object, `{}` where it is absent
 unfoldable pub body_in : Data → Option Data

@@ -1,6 +1,5 @@
 //! The delivery that a line spells.
-ghost use Rattle.serde_json.specs.View.{view};
-ghost use Rattle.review_json_routes.specs.Parts.{Gives};
+ghost use Rattle.{serde_json.specs.View.view, review_json_routes.specs.Parts.Gives};
 ghost use Rattle.review_json.specs.Line.{command_in_line, write_in, read_in, delivery_in, delivery_spelled};
 
 use crate::routes::route_named;

@@ -1,7 +1,6 @@
 //! The routes that lines spell: the name of a delivery, and the members of its line that say where it goes.
 ghost use Rattle.std.specs.Prelude.{◌≡◌};
-ghost use Rattle.serde_json.specs.View.{view};
-ghost use Rattle.review_json_routes.specs.Parts.{Gives};
+ghost use Rattle.{serde_json.specs.View.view, review_json_routes.specs.Parts.Gives};
 ghost use Rattle.review_json.specs.Routes.{change_query_named, change_route_named, route_of_change, route_named};
 
 use review_json_routes::{BadBody, ChangeRoute, Route, account_at, change_at, name_at, patch_in};

@@ -1,10 +1,9 @@
 -- The answers to lines, one by one.
 use Rattle.std.proofs.Common.{◌≡◌, ◌<◌, ◌++◌, ◌==◌, ℕ, List, [], ◌∷◌, length, refl, false, Option, Some, None, arith, sym, ap, ◌∙◌, append_assoc, append-nil, inl, inr, subst, suc, ◌&&◌, Bool, true, length-append, Result, Ok, Err, IfOk, OnOk, take, drop, take-append-drop, IfErr, IsErrAnd, ◌+◌, ◌≤◌, length-take-le}
-use Rattle.std.proofs.KnownBytes.{Appends-nil, Appends-trans}
-use Rattle.std.proofs.{Math.Seq.take-append-add, lemmas.Bool.Decides.nat_tests}
-use Rattle.std.specs.{Io.KnownBytes.IsAtEnd, Io.KnownBytes.Appends, declared.alloc.AllocError.AllocError}
-use Rattle.review_words.specs.declared.{command.Delivery.Delivery, reply.Reply.Reply}
-use Rattle.review_machine_rows.specs.Shelf.{Shown}
+use Rattle.std.proofs.{KnownBytes.Appends-nil, KnownBytes.Appends-trans, Math.Seq.take-append-add}
+use Rattle.std.{proofs.lemmas.Bool.Decides.nat_tests, specs.Io.KnownBytes.IsAtEnd, specs.Io.KnownBytes.Appends}
+use Rattle.{std.specs.declared.alloc.AllocError.AllocError, review_words.specs.declared.command.Delivery.Delivery}
+use Rattle.{review_words.specs.declared.reply.Reply.Reply, review_machine_rows.specs.Shelf.Shown}
 use Rattle.review_machine_deliveries.{proofs.Ran.ran_none, proofs.Ran.ran-append, specs.Delivered.WasRun}
 use Rattle.review_json_lines.specs.Answers.{lines_of, HasLines, HasFirst, asked, with_asked, deliveries, answered, answers, bad_line, reply_line, is_taken, is_done, all_done, IsPartOf, IsLeftBy}
 use Rattle.review_json_lines.specs.{Lines.HasNoEnd, Lines.GaveLine, Lines.line_feed, declared.apply.Asked.Asked}

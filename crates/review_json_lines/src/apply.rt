@@ -1,8 +1,7 @@
 //! Deliveries by the line.
 ghost use Rattle.std.specs.{Io.KnownBytes.Appends, Io.KnownBytes.prepend_known, List.list_all};
 ghost use Rattle.std.specs.Prelude.{◌≡◌, ◌++◌, ◌∷◌, [], ℕ, List, length, IfOk, IfErr, OnOk, OnErr, string_bytes};
-ghost use Rattle.review_words.specs.declared.reply.Reply.{Reply};
-ghost use Rattle.review_machine_deliveries.specs.Delivered.{WasRun};
+ghost use Rattle.{review_words.specs.declared.reply.Reply.Reply, review_machine_deliveries.specs.Delivered.WasRun};
 ghost use Rattle.review_json_lines.specs.Answers.{asked, with_asked, reply_line, bad_line, answered, answers, deliveries, HasLines, HasFirst, is_taken, is_done, all_done, is_complete, IsLeftBy, WereAnswered};
 ghost use Rattle.review_json_lines.specs.{Lines.is_space, Lines.IsLineOf, inner.Words.IsRunOf, inner.Words.IsNextAsked};
 

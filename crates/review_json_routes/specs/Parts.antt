@@ -4,8 +4,7 @@ use Rattle.serde_json.specs.Data.{Data, Items, no_items, item}
 use Rattle.serde_json.specs.Find.{get, as_u64, as_number, as_str, as_bool, as_array}
 use Rattle.review_names.specs.Forms.{is_within, is_path, text_set, most_changes, most_paths}
 use Rattle.review_names.specs.{Kinds.kind_named, Names.is_account_number, Names.set_of, Names.most_members}
-use Rattle.review_names.specs.declared.kinds.ChangeKind.{ChangeKind}
-use Rattle.review_words.specs.Epochs.{is_epoch}
+use Rattle.{review_names.specs.declared.kinds.ChangeKind.ChangeKind, review_words.specs.Epochs.is_epoch}
 use Rattle.review_json_routes.specs.declared.fault.BadBody.{BadBody, TheVariants.Form, TheVariants.Memory}
 
 -- what is spelled was given, and Form exactly where nothing is spelled

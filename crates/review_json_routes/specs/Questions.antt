@@ -1,8 +1,7 @@
 -- Which routes are questions, and which need a body.
 use Rattle.std.specs.Prelude.{Bool, not, ◌&&◌, Option, Some, None, is_some, is_none}
 use Rattle.serde_json.specs.Data.{object, no_members}
-use Rattle.review_words.specs.declared.command.Query.{Query}
-use Rattle.review_json_routes.specs.Commands.{command_in}
+use Rattle.{review_words.specs.declared.command.Query.Query, review_json_routes.specs.Commands.command_in}
 use Rattle.review_json_routes.specs.declared.route.Route.{Route, TheVariants.Branch, TheVariants.AskChange}
 use Rattle.review_words.specs.declared.command.Query.TheVariants as query
 

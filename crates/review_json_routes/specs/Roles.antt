@@ -1,8 +1,8 @@
 -- The accounts that bodies name, and the roles that they give.
 use Rattle.std.specs.Prelude.{ℕ, List, Option, Some, None, option_and_then, codes}
 use Rattle.serde_json.specs.{Data.Data, Find.get, Find.as_str}
-use Rattle.review_names.specs.Numerals.{account_of as account_shown}
-use Rattle.review_words.specs.{Texts.role_named, declared.changes.Role.Role, declared.changes.Role.TheVariants.Reviewer}
+use Rattle.{review_names.specs.Numerals.account_of as account_shown, review_words.specs.Texts.role_named}
+use Rattle.review_words.specs.declared.changes.Role.{Role, TheVariants.Reviewer}
 use Rattle.review_json_routes.specs.Parts.{account_of, or_absent}
 
 -- the account whose number a text shows, or without a text the account of a number

@@ -1,7 +1,6 @@
 //! What the members of an object spell.
 ghost use Rattle.std.specs.Prelude.{◌≡◌, Some, None, Err, IfOk, option_map};
-ghost use Rattle.serde_json.specs.View.{view, items_view};
-ghost use Rattle.review_names.specs.Forms.{most_changes};
+ghost use Rattle.{serde_json.specs.View.view, serde_json.specs.View.items_view, review_names.specs.Forms.most_changes};
 ghost use Rattle.review_json_routes.specs.Parts.{Gives, text_at, name_at, account_of, account_at, accounts_in, members_from, members_at, number_of, change_at, epoch_of, epoch_at, epoch_or_first, flag_at};
 
 use crate::fault::BadBody;

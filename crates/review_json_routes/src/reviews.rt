@@ -1,7 +1,6 @@
 //! The bodies of reviews, and the patch sets that they are of.
 ghost use Rattle.std.specs.Prelude.{◌≡◌, is_some};
-ghost use Rattle.serde_json.specs.{Find.get, View.view};
-ghost use Rattle.review_names.specs.Forms.{most_patches};
+ghost use Rattle.{serde_json.specs.Find.get, serde_json.specs.View.view, review_names.specs.Forms.most_patches};
 ghost use Rattle.review_json_routes.specs.Parts.{Gives, number_of};
 ghost use Rattle.review_json_routes.specs.Reviews.{is_current, patch_of, patch_in, message_of, message_in, has_refused, said};
 

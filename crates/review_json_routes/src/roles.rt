@@ -1,7 +1,6 @@
 //! The accounts that bodies name, and the roles that they give.
 ghost use Rattle.std.specs.Prelude.{◌≡◌};
-ghost use Rattle.serde_json.specs.View.{view};
-ghost use Rattle.review_json_routes.specs.Parts.{Gives};
+ghost use Rattle.{serde_json.specs.View.view, review_json_routes.specs.Parts.Gives};
 ghost use Rattle.review_json_routes.specs.Roles.{account_named, account_named_at, role_of, role_in};
 
 use crate::fault::BadBody;

@@ -1,7 +1,6 @@
 //! What bytes spell: names, JSON values and bodies.
 ghost use Rattle.std.specs.Prelude.{◌≡◌, Some, None, Err, IfOk, option_map};
-ghost use Rattle.serde_json.specs.View.{view};
-ghost use Rattle.review_json_routes.specs.Parts.{Gives};
+ghost use Rattle.{serde_json.specs.View.view, review_json_routes.specs.Parts.Gives};
 ghost use Rattle.review_json_routes.specs.Texts.{text_of, name_of_bytes, value_spelled, body_spelled};
 
 use crate::fault::BadBody;

@@ -1,7 +1,6 @@
 //! The values that a review gives on labels.
 ghost use Rattle.std.specs.Prelude.{◌≡◌, Some, None, Err, IfOk};
-ghost use Rattle.serde_json.specs.View.{view, members_view};
-ghost use Rattle.review_json_routes.specs.Parts.{Gives};
+ghost use Rattle.{serde_json.specs.View.view, serde_json.specs.View.members_view, review_json_routes.specs.Parts.Gives};
 ghost use Rattle.review_json_routes.specs.Votes.{value_of, given_of, given_in, labels_of, labels_in};
 
 use crate::fault::BadBody;

@@ -1,6 +1,5 @@
 //! Deliveries by the line.
-ghost use Rattle.review_machine_deliveries.specs.Delivered.{WasRun};
-ghost use Rattle.review_json_lines.specs.Answers.{WereAnswered};
+ghost use Rattle.{review_machine_deliveries.specs.Delivered.WasRun, review_json_lines.specs.Answers.WereAnswered};
 
 use crate::rules::DeskRules;
 use review_json_lines::{Fault, Outcome};

@@ -2,8 +2,7 @@
 use Rattle.std.proofs.Common.{◌≡◌, ℕ, ◌+◌, ◌<◌, ◌≤◌, ◌==◌, List, [], ◌∷◌, Option, Some, None, Bool, true, false, cond, ◌&&◌, ◌||◌, refl, sym, ap, ◌∙◌, ⊎_elim, arith, eq-eqb, leb-true, is_some, IsSome, nat_le, option_map, bytes_eq, zero, suc, length, ◌⊎◌, nat_cmp, nat_lt, length-append, ◌++◌, subst, MatchOption}
 use Rattle.std.proofs.lemmas.Bool.{cases_Bool, cases_lt, and_parts, Decides.nat_tests}
 use Rattle.std.{proofs.lemmas.Slice.Eq.bytes_eq-Decides, specs.List.list_any}
-use Rattle.review_names.specs.Names.{admin_name}
-use Rattle.review_table.specs.Rows.{row_in}
+use Rattle.{review_names.specs.Names.admin_name, review_table.specs.Rows.row_in}
 use Rattle.review_words.specs.History.{Entry, accepted, counted, named, is_named, account_count, name_of, name_taken, is_account, is_listed, is_project, bases, is_base, least_open, base_count, with_base, base_counted}
 use Rattle.review_words.specs.declared.command.Command.{Command}
 use Rattle.review_words.specs.declared.command.Command.TheVariants.{CreateAccount, PutGroup, PutProject, RecordBase, CloseEpoch, CreateChange, OnChange, Submit}

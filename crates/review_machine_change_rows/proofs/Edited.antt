@@ -1,8 +1,7 @@
 -- What an edit makes of a change, row by row.
 use Rattle.std.proofs.Common.{◌≡◌, ℕ, zero, suc, ◌+◌, ◌==◌, ◌≤◌, List, [], ◌∷◌, ◌++◌, length, length-append, Some, None, true, false, cond, refl, sym, ap, ◌∙◌, ⊎_elim, arith, eqb-true, nat_cmp, slice_get, ℤ, Option, option_map}
 use Rattle.std.proofs.lemmas.Bool.{cases_Bool, Decides.nat_tests}
-use Rattle.std.specs.{Cmp.unsigned_tied, declared.cmp.Ordering.Ordering}
-use Rattle.review_table.specs.Edited.{edited_row}
+use Rattle.{std.specs.Cmp.unsigned_tied, std.specs.declared.cmp.Ordering.Ordering, review_table.specs.Edited.edited_row}
 use Rattle.review_table.specs.Rows.{NamesOnce, after_row_edit, row_edit_of, changed, place_at, row_in, rows_of}
 use Rattle.review_table.specs.declared.{edited.Edited.Edited, table.RowEdit.RowEdit}
 use Rattle.review_core_rules.specs.{Change.of_number, EditedChanges.IsBare, EditedChanges.after_edits}

@@ -3,8 +3,7 @@ use Rattle.std.proofs.Common.{◌≡◌, ℕ, zero, suc, ◌+◌, ◌<◌, ◌�
 use Rattle.std.proofs.lemmas.{Bool.cases_lt, Bool.Decides.nat_tests, Cmp.ranked}
 use Rattle.std.specs.{Cmp.unsigned_tied, List.AllByRecursion, List.Sorted.IsStrictlySortedBy, Map.keys_of}
 use Rattle.std.specs.{Ordering.nat_cmp, Prelude.slice_get, declared.cmp.Ordering.TheVariants.Less}
-use Rattle.review_table.specs.Rows.{row_in}
-use Rattle.review_core_rules.specs.Change.{of_number}
+use Rattle.{review_table.specs.Rows.row_in, review_core_rules.specs.Change.of_number}
 use Rattle.review_machine_change_rows.specs.inner.Words.{AreInOrder, numbered}
 
 -- one more row under the next number

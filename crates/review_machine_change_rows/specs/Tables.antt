@@ -1,7 +1,6 @@
 -- The tables of one change: which change they show, and why they show none.
 use Rattle.std.specs.{Ordering.nat_cmp, Prelude.Option, Prelude.Some, Prelude.option_map, Prelude.◌≡◌}
-use Rattle.review_table.specs.Rows.{row_in, rows_of}
-use Rattle.review_core_rules.specs.Change.{Change}
+use Rattle.{review_table.specs.Rows.row_in, review_table.specs.Rows.rows_of, review_core_rules.specs.Change.Change}
 use Rattle.review_core_rules.specs.Parts.{Part, TheHeader, PatchOf, VoteOf, RoleOf, CommentOf, AttentionOf, PartRow, AHeader, APatch, ARole, AComment, AnAttentionEntry, part_row}
 use Rattle.review_core_rules.specs.Seen.{vote_cmp}
 use Rattle.review_machine_rows.specs.{Rows.vote_row, declared.shelf.ShelfFault.ShelfFault}

@@ -1,7 +1,6 @@
 //! A change from its tables.
 ghost use Rattle.std.specs.Prelude.{◌≡◌, ◌++◌, ◌∷◌, [], IfErr, IfOk, OnOk};
-ghost use Rattle.review_table.specs.Rows.{rows_of};
-ghost use Rattle.review_core_rules.specs.Seen.{seen};
+ghost use Rattle.{review_table.specs.Rows.rows_of, review_core_rules.specs.Seen.seen};
 ghost use Rattle.review_machine_change_rows.specs.Tables.{HaveFault, Show};
 ghost use Rattle.review_machine_change_rows.specs.inner.Words.{AreInOrder, IsGap};
 

@@ -1,7 +1,6 @@
 //! All rows of one change, table by table.
 ghost use Rattle.std.specs.Prelude.{◌≡◌, IfOk};
-ghost use Rattle.review_core_rules.specs.Parts.{Part};
-ghost use Rattle.review_machine_change_rows.specs.Tables.{part_in};
+ghost use Rattle.{review_core_rules.specs.Parts.Part, review_machine_change_rows.specs.Tables.part_in};
 
 use crate::copies::{copied_header, copied_marks, copied_table};
 use review_core_rules::{AttentionEntry, Comment, Header, PatchRow, Vote, VoteKey};

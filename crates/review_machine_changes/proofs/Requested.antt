@@ -34,8 +34,7 @@ use Rattle.review_machine_rows.specs.declared.rows.{Delta.Delta, Rows.Rows}
 use Rattle.review_machine_laws.proofs.{Changes.all_pass, Changes.Passes, Grouped.in_group, Histories.same_file}
 use Rattle.review_machine_accounts.proofs.Decided.{admin_is, asked_beside, outcome_answer}
 use Rattle.review_machine_accounts.proofs.Told.{Agree, member_told, held_told, account_told}
-use Rattle.review_machine_accounts.specs.inner.Words.{is_held}
-use Rattle.review_machine_changes.proofs.Made.{request_decided}
+use Rattle.{review_machine_accounts.specs.inner.Words.is_held, review_machine_changes.proofs.Made.request_decided}
 use Rattle.review_machine_changes.proofs.Told.{OneFile, known_told, right_told, asked_by, change_is, file_is, file_lacking}
 use Rattle.review_machine_changes.specs.Facts.{in_rows, range_in, setting_in, MakesChange, next_request}
 use Rattle.review_machine_changes.specs.Requests.{call_list, is_named, plain_list, runs_in}

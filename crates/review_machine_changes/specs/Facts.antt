@@ -1,9 +1,7 @@
 -- What rows tell of a command on a change.
 use Rattle.std.specs.List.{list_any, filter}
 use Rattle.std.specs.Prelude.{[], ℕ, ◌||◌, Bool, List, ◌&&◌, int_le, ◌≡◌, ◌∷◌, None, ◌+◌, min, Option, Some}
-use Rattle.std.specs.Str.{bytes_eq}
-use Rattle.review_names.specs.Names.{registered_users}
-use Rattle.review_table.specs.Rows.{after_row_edit}
+use Rattle.{std.specs.Str.bytes_eq, review_names.specs.Names.registered_users, review_table.specs.Rows.after_row_edit}
 use Rattle.review_words.specs.declared.{changes.Given.Given, reply.Refusal.Refusal}
 use Rattle.review_file_rules.specs.Rights.{groups_of, grants_of, greatest_of, least_of}
 use Rattle.review_file_rules.specs.declared.parts.Right.{Right}

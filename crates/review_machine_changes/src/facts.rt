@@ -1,7 +1,6 @@
 //! What rows tell of a command on a change.
 ghost use Rattle.std.specs.{List.list_any, Prelude.◌≡◌, Prelude.IfOk};
-ghost use Rattle.review_file_rules.specs.Rights.{groups_of};
-ghost use Rattle.review_core_rules.specs.Change.{is_open};
+ghost use Rattle.{review_file_rules.specs.Rights.groups_of, review_core_rules.specs.Change.is_open};
 ghost use Rattle.review_machine_changes.specs.Facts.{in_rows, right_in};
 
 use review_file::{ProjectFile, Right};

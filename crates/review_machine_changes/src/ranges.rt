@@ -2,8 +2,7 @@
 ghost use Rattle.std.specs.{List.list_all, List.list_any, Ordering.int_eq};
 ghost use Rattle.std.specs.Prelude.{◌≡◌, ◌&&◌, IfOk, int_le, is_some, filter};
 ghost use Rattle.review_file_rules.specs.Rights.{greatest_of, least_of};
-ghost use Rattle.review_core_rules.specs.Change.{label_in};
-ghost use Rattle.review_machine_rows.specs.Answer.{is_value_of};
+ghost use Rattle.{review_core_rules.specs.Change.label_in, review_machine_rows.specs.Answer.is_value_of};
 ghost use Rattle.review_machine_changes.specs.Facts.{in_rows, range_in};
 
 use crate::facts::is_in;

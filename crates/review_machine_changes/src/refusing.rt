@@ -1,7 +1,6 @@
 //! The first check of a request on a change that fails.
 ghost use Rattle.std.specs.Prelude.{◌≡◌, ◌||◌, ◌∷◌, [], not, IfOk, option_copied, if◌then◌else◌};
-ghost use Rattle.review_words.specs.declared.reply.Refusal.TheVariants.{SameState};
-ghost use Rattle.review_core_rules.specs.Seen.{seen};
+ghost use Rattle.{review_words.specs.declared.reply.Refusal.TheVariants.SameState, review_core_rules.specs.Seen.seen};
 ghost use Rattle.review_machine_rows.specs.Answer.{first_refusal, has_role, is_merged};
 ghost use Rattle.review_machine_changes.specs.Requests.{abandon_list, call_list, flag_list, leave_list, plain_list, removal_list, restore_list, right_by, role_list, runs_in};
 

@@ -3,8 +3,7 @@ use Rattle.std.proofs.Common.{◌≡◌, ℕ, ◌+◌, ◌==◌, ◌≤◌, List
 use Rattle.std.proofs.lemmas.{Bool.and_parts, Bool.and_from, Bool.cases_Bool, Bool.cases_lt, List.length-map}
 use Rattle.std.{proofs.lemmas.Slice.Eq.bytes_eq-Decides, specs.Cmp.Lexicographic.slice_cmp}
 use Rattle.std.specs.{List.list_any, Option.option_map_or, Ordering.match_ordering, declared.cmp.Ordering.Ordering}
-use Rattle.toml.specs.Data.{Data, table}
-use Rattle.review_names.specs.Forms.{is_label}
+use Rattle.{toml.specs.Data.Data, toml.specs.Data.table, review_names.specs.Forms.is_label}
 use Rattle.review_file_document.specs.{Document.members_at, Limits.most_parts}
 use Rattle.review_words.specs.History.{Entry, accepted, if_done, account_count, counted, is_account}
 use Rattle.review_words.specs.declared.changes.{Given.Given, NewPatch.NewPatch, Review.Review as ReviewOf}

@@ -22,8 +22,7 @@ use Rattle.review_machine_rows.specs.Steps.{OfCommand, line_steps, own_in, paren
 use Rattle.review_machine_rows.specs.View.{AreEnough}
 use Rattle.review_machine_rows.specs.declared.rows.{Rows.Rows, StoredFile.StoredFile, Want.TheVariants.LeastEpoch}
 use Rattle.review_machine_laws.proofs.{Growing.line_whole, Histories.sound_files, Histories.parent_ends}
-use Rattle.review_machine_laws.specs.Ends.{ends}
-use Rattle.review_machine_deliveries.proofs.Files.{spelled_once}
+use Rattle.{review_machine_laws.specs.Ends.ends, review_machine_deliveries.proofs.Files.spelled_once}
 use Rattle.review_machine_deliveries.proofs.Histories.{enough_shown, history_length, requests_told, rests_on}
 use Rattle.review_machine_deliveries.proofs.Served.{not_taken_served, views_left_by}
 use Rattle.review_machine_deliveries.specs.Gathered.{CountsCause, IsAllAsked, IsUngathered, LeavesTables}

@@ -1,9 +1,7 @@
 -- Texts and the files that they spell.
 use Rattle.std.proofs.Common.{◌≡◌, ℕ, List, [], ◌∷◌, ◌++◌, Bool, true, false, cond, Less, Equal, Greater, nat_cmp, filter, refl, ap, ◌∙◌, fold, map}
 use Rattle.std.specs.{Cmp.Lexicographic.slice_cmp, List.AllByRecursion, Ordering.match_ordering}
-use Rattle.std.specs.declared.cmp.Ordering.{Ordering}
-use Rattle.toml.specs.Data.{Data}
-use Rattle.review_names.specs.Forms.{is_label}
+use Rattle.{std.specs.declared.cmp.Ordering.Ordering, toml.specs.Data.Data, review_names.specs.Forms.is_label}
 use Rattle.review_expr_spelling.specs.Words.{copy_reading, requirement_reading}
 use Rattle.review_expr.{proofs.Excluded.one_tree, specs.declared.expr.Expr.Expr}
 use Rattle.review_file_rules.proofs.Trees.{one_file, OneFile}

@@ -10,8 +10,7 @@ use Rattle.review_words.specs.declared.reply.{Answer.TheVariants.Nothing, NotTak
 use Rattle.review_words.specs.declared.reply.NotTaken.TheVariants.{Memory, Store, Damaged, Pattern, Full}
 use Rattle.review_words.specs.declared.reply.{Refusal.Refusal, Reply.Reply}
 use Rattle.review_words.specs.declared.reply.Reply.TheVariants.{Done, Refused, IdentityReused, EpochClosed, NotTaken}
-use Rattle.review_core_rules.specs.Change.{Change}
-use Rattle.review_machine_rows.proofs.Asked.{requests_are}
+use Rattle.{review_core_rules.specs.Change.Change, review_machine_rows.proofs.Asked.requests_are}
 use Rattle.review_machine_rows.proofs.Readings.{closed_stays, own_open, reading_of, IsToldDone, sent_or_done}
 use Rattle.review_machine_rows.specs.Answer.{IsHistory, IsAnswer, IsAnswerBy, IsAnswerAt, epoch_checks, IsOf, IsOutcome, IsRequestOutcome, IsUploadAnswer, file_checks, first_refusal, refused_by, refused_or, most_requests}
 use Rattle.review_machine_rows.specs.Changes.{Reading, Reads, change}

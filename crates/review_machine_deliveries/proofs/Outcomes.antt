@@ -18,10 +18,9 @@ use Rattle.review_core_rules.specs.Votes.{voted}
 use Rattle.review_machine_rows.proofs.Readings.{reading_of, IsToldDone, sent_or_done}
 use Rattle.review_machine_rows.specs.Answer.{IsAnswerBy, IsAnswerAt, epoch_checks, IsOf, IsOutcome, IsRequestOutcome, IsUploadAnswer, file_checks, file_with, first_refusal, keeps_parent, puts_unknown_label, refused_by, refused_or}
 use Rattle.review_machine_rows.specs.Changes.{Reading, change, depth, file_of, setting_of}
-use Rattle.review_machine_rows.specs.Files.{File, covers, HasDeepPattern}
-use Rattle.review_machine_rows.specs.{Limits.most_projects, Lines.most_depth}
-use Rattle.review_machine_deliveries.proofs.{Bounds.one_count, Files.spelled_once}
-use Rattle.review_machine_deliveries.proofs.Submits.{OneStanding, one_submit}
+use Rattle.review_machine_rows.specs.{Files.File, Files.covers, Files.HasDeepPattern, Limits.most_projects}
+use Rattle.{review_machine_rows.specs.Lines.most_depth, review_machine_deliveries.proofs.Bounds.one_count}
+use Rattle.review_machine_deliveries.proofs.{Files.spelled_once, Submits.OneStanding, Submits.one_submit}
 use Rattle.review_machine_deliveries.specs.Restart.{IsFree, RefusesBadValue, OneAnswer}
 use Rattle.review_words.specs.declared.command.ChangeCommand.TheVariants as change_asked
 

@@ -16,13 +16,11 @@ use Rattle.review_words.specs.declared.shown.ShownRequirement.{ShownRequirement}
 use Rattle.review_chain.{proofs.Walking.chain_ready, specs.Walks.IsReady}
 use Rattle.review_chain.specs.declared.{links.Link.Link, walks.ChainFault.ChainFault}
 use Rattle.review_chain.specs.declared.walks.ChainFault.TheVariants.{Outdated, Abandoned, Wip, TooLong, Broken, Unknown, Memory as FaultMemory}
-use Rattle.review_expr_judging.specs.declared.facts.ChangeFacts.{ChangeFacts}
-use Rattle.review_expr.specs.declared.expr.Expr.{Expr}
+use Rattle.{review_expr_judging.specs.declared.facts.ChangeFacts.ChangeFacts, review_expr.specs.declared.expr.Expr.Expr}
 use Rattle.review_file_rules.{proofs.Placed.placed, specs.View.RequirementView}
 use Rattle.review_core_rules.specs.Change.{Change, Setting, current, said}
 use Rattle.review_core_rules.specs.Facts.{AreStanding, IsFirstUnsatisfied, is_unsatisfied, stands, unsatisfied_in}
-use Rattle.review_core_rules.specs.Status.{status_of}
-use Rattle.review_machine_rows.proofs.Readings.{reading_of}
+use Rattle.{review_core_rules.specs.Status.status_of, review_machine_rows.proofs.Readings.reading_of}
 use Rattle.review_machine_rows.specs.Answer.{IsHistory, IsAnswer, IsAnswerBy, IsAnswerWithoutParents, IsOutcome, IsOf, IsRequestOutcome, IsUploadAnswer, checks, comment_numbers, file_checks, first_refusal, given_checks, numbers_after, of_change, puts_parent, refused_by, refused_or, request_checks, review_checks, submit_checks, upload_checks, IsAnswerAt, epoch_checks}
 use Rattle.review_machine_rows.specs.Changes.{Reading, Reads, change, change_count, file_of, setting_of, texts_of}
 use Rattle.review_machine_rows.specs.{Lines.most_depth, Links.link_for}

@@ -1,8 +1,7 @@
 -- What a delivery and a run of deliveries do, over any shelf: on the tables of a history, and on any tables whatever.
 use Rattle.std.specs.Prelude.{◌≡◌, ℕ, List, [], ◌∷◌, length, Some}
 use Rattle.review_words.specs.{History.Entry, declared.command.Delivery.Delivery, declared.reply.Reply.Reply}
-use Rattle.review_core_rules.specs.Change.{Change}
-use Rattle.review_machine_rows.specs.Answer.{IsHistory}
+use Rattle.{review_core_rules.specs.Change.Change, review_machine_rows.specs.Answer.IsHistory}
 use Rattle.review_machine_rows.specs.Changes.{Reading, Reads, change, setting_of}
 use Rattle.review_machine_rows.specs.Shelf.{Shown, Views}
 use Rattle.review_core_standing.specs.Counting.{CountsEachOnce}

@@ -1,7 +1,6 @@
 //! Deliveries in a row.
 ghost use Rattle.std.specs.Prelude.{◌≡◌, ◌≤◌, ◌<◌, [], MatchResult, IfOk, IfErr, OnErr, take, length};
-ghost use Rattle.std.specs.Vec.{vec_capacity};
-ghost use Rattle.review_machine_deliveries.specs.Delivered.{WasRun};
+ghost use Rattle.{std.specs.Vec.vec_capacity, review_machine_deliveries.specs.Delivered.WasRun};
 
 use crate::deliveries::deliver;
 use crate::rules::Rules;

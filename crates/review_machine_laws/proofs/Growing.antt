@@ -4,9 +4,8 @@ use Rattle.std.{proofs.lemmas.Slice.Eq.bytes_eq-Decides, specs.Option.option_map
 use Rattle.review_expr.specs.declared.expr.Expr.{Expr}
 use Rattle.review_file_rules.proofs.Known.{OrderedLabels, child_covers, covers_itself, inherited_ordered, inherits_known, still_known}
 use Rattle.review_file_rules.specs.Expressions.{names_unknown_label}
-use Rattle.review_file_rules.specs.Inherited.{inherit, inherits_unknown_label}
-use Rattle.review_file_rules.specs.{Reading.IsRead, Rights.covers, View.FileView}
-use Rattle.review_file.proofs.SoundLabels.{labels_in_order}
+use Rattle.review_file_rules.specs.{Inherited.inherit, Inherited.inherits_unknown_label, Reading.IsRead, Rights.covers}
+use Rattle.{review_file_rules.specs.View.FileView, review_file.proofs.SoundLabels.labels_in_order}
 use Rattle.review_machine_rows.specs.Changes.{Reading, effective_of}
 use Rattle.review_machine_rows.specs.{Lines.line_of, Lines.with_above, declared.rows.StoredFile.StoredFile}
 use Rattle.review_machine_laws.specs.Ends.{ends, ends_above, ends_by}

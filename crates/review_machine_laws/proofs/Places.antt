@@ -4,8 +4,7 @@ use Rattle.std.proofs.lemmas.{Bool.cases_lt, List.Elements.recursion_from_All}
 use Rattle.std.proofs.lemmas.Map.Keys.{IsDistinct-head, IsDistinct-tail, IsDistinct-cons}
 use Rattle.std.proofs.lemmas.Option.{slice_get_past, slice_get_within, none-some, slice_get_cases, slice_get-get_or, get_or_from_slice_get}
 use Rattle.std.specs.{List.AllByRecursion, List.IsDistinct, List.list_any, Option.option_or}
-use Rattle.review_core_rules.specs.Change.{of_number}
-use Rattle.review_machine_rows.specs.Changes.{place_in}
+use Rattle.{review_core_rules.specs.Change.of_number, review_machine_rows.specs.Changes.place_in}
 
 -- ==== items by their numbers, which are counted from 1
 

@@ -2,8 +2,7 @@
 use Rattle.std.proofs.Common.{◌≡◌, ℕ, ◌+◌, ◌==◌, List, [], ◌∷◌, length, Option, Some, None, Bool, true, false, cond, refl, sym, ap, subst, ◌∙◌, eqb-true, option_map, ℤ, pos, suc, not, ⊎_elim, int_eq, slice_get, ◌-◌, ◌<◌, ◌≤◌, arith, AllPairs, map, slice_index_or}
 use Rattle.std.proofs.lemmas.{Bool.cases_Bool, Bool.cases_lt, Bool.Decides.Decides-int_eq, List.Elements.All-get_or}
 use Rattle.std.proofs.lemmas.Option.{get_or_from_slice_get, slice_get-get_or, slice_get-map, slice_get_within}
-use Rattle.std.specs.{List.AllByRecursion, Option.option_map_or}
-use Rattle.review_names.specs.Forms.{most_patches}
+use Rattle.{std.specs.List.AllByRecursion, std.specs.Option.option_map_or, review_names.specs.Forms.most_patches}
 use Rattle.review_words.specs.{History.Entry, History.accepted, History.if_done, declared.changes.NewChange.NewChange}
 use Rattle.review_words.specs.declared.{changes.Role.Role, command.ChangeCommand.ChangeCommand, command.Command.Command}
 use Rattle.review_words.specs.declared.command.Command.TheVariants.{CreateAccount, PutGroup, PutProject, RecordBase, CloseEpoch, CreateChange, OnChange, Submit}

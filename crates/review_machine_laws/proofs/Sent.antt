@@ -2,8 +2,7 @@
 use Rattle.std.proofs.Common.{◌≡◌, ℕ, zero, suc, ◌+◌, ◌<◌, ◌≤◌, List, [], ◌∷◌, Option, Some, None, true, false, cond, refl, sym, ap, subst, ◌∙◌, ⊎_elim, arith, slice_get, bytes_eq, Bool, ◌&&◌, ◌||◌, leb-true, is_some, nat_le, option_map}
 use Rattle.std.proofs.lemmas.{Bool.cases_Bool, Bool.cases_lt, Bool.and_parts, Slice.Eq.bytes_eq-Decides}
 use Rattle.std.specs.{List.list_any, Option.option_map_or}
-use Rattle.review_words.specs.History.{Entry}
-use Rattle.review_chain.specs.declared.links.Standing.{Standing}
+use Rattle.{review_words.specs.History.Entry, review_chain.specs.declared.links.Standing.Standing}
 use Rattle.review_chain.specs.declared.links.Standing.TheVariants.{InBranch, PatchSet, Nowhere}
 use Rattle.review_core_rules.specs.Change.{Change, of_number}
 use Rattle.review_core_rules.specs.Parts.{TheHeader, PatchOf, AHeader, APatch, header_of}
@@ -12,8 +11,7 @@ use Rattle.review_machine_rows.specs.Changes.{Reading, change, is_for, change_co
 use Rattle.review_machine_rows.specs.{Known.IsSender, Known.IsSentBy, Known.part_of, Rows.APart}
 use Rattle.review_machine_rows.specs.Submits.{patch_for, patch_of, sent_or, sent_up_to}
 use Rattle.review_machine_rows.specs.{View.fact, declared.rows.Base.Base}
-use Rattle.review_machine_laws.proofs.Changes.{change_there}
-use Rattle.review_machine_laws.specs.Patches.{HasPatch}
+use Rattle.review_machine_laws.{proofs.Changes.change_there, specs.Patches.HasPatch}
 
 -- ==== the patch set that has a commit, where one has
 

@@ -1,9 +1,8 @@
 -- What may be relied on of branches.
 use Rattle.std.specs.List.{All, IsDistinct}
 use Rattle.std.specs.Prelude.{◌≡◌, ◌==◌, ℕ, List, ◌∷◌, ◌++◌, Some}
-use Rattle.review_words.specs.{History.Entry, declared.command.Command.TheVariants.Submit}
-use Rattle.review_words.specs.declared.reply.{Answer.Answer, Reply.TheVariants.Done}
-use Rattle.review_core_rules.specs.Change.{Change}
+use Rattle.review_words.specs.{History.Entry, declared.command.Command.TheVariants.Submit, declared.reply.Answer.Answer}
+use Rattle.{review_words.specs.declared.reply.Reply.TheVariants.Done, review_core_rules.specs.Change.Change}
 use Rattle.review_machine_rows.specs.Changes.{Reading, Reads, change, joined, joined_in, place_in}
 use Rattle.review_machine_laws.specs.{Accepted.MayJoin, Joined.HasJoined, Parents.StandsOn, Places.place_of}
 

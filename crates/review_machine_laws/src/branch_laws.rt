@@ -4,8 +4,7 @@ ghost use Rattle.std.specs.Prelude.{◌≡◌, ◌==◌, ◌≤◌, ◌∷◌, �
 ghost use Rattle.review_words.specs.{History.Entry, declared.command.Command.TheVariants.Submit};
 ghost use Rattle.review_words.specs.declared.reply.Answer.{Answer, TheVariants.Submitted};
 ghost use Rattle.review_words.specs.declared.{reply.Reply.TheVariants.Done, shown.JoinedChange.JoinedChange};
-ghost use Rattle.review_core_rules.specs.Change.{Change};
-ghost use Rattle.review_machine_rows.specs.Answer.{IsHistory};
+ghost use Rattle.{review_core_rules.specs.Change.Change, review_machine_rows.specs.Answer.IsHistory};
 ghost use Rattle.review_machine_rows.specs.Changes.{Reading, Reads, change, change_count, joined, joined_in, place_in};
 ghost use Rattle.review_machine_rows.specs.{Known.HaveJoined, Known.IsLastJoined, Questions.joined_change, View.fact};
 ghost use Rattle.review_machine_laws.specs.{Accepted.IsAccepted, Accepted.MayJoin, Joined.HasJoined, Parents.StandsOn};

@@ -2,14 +2,12 @@
 ghost use Rattle.std.specs.Prelude.{◌≡◌, ℕ, List, Some, true, false};
 ghost use Rattle.review_words.specs.History.{Entry, is_base};
 ghost use Rattle.review_chain.specs.{Branches.IsWhole, Parts.IsPart, Parts.Want, Steps.wanted};
-ghost use Rattle.review_chain.specs.declared.links.Standing.{Standing};
-ghost use Rattle.review_core_rules.specs.{Change.Change, declared.rows.PatchRow.PatchRow};
-ghost use Rattle.review_machine_rows.specs.Answer.{IsHistory};
+ghost use Rattle.{review_chain.specs.declared.links.Standing.Standing, review_core_rules.specs.Change.Change};
+ghost use Rattle.{review_core_rules.specs.declared.rows.PatchRow.PatchRow, review_machine_rows.specs.Answer.IsHistory};
 ghost use Rattle.review_machine_rows.specs.Changes.{Reading, Reads, change, is_known};
-ghost use Rattle.review_machine_rows.specs.Known.{Agrees, IsKnown, StandsAs};
-ghost use Rattle.review_machine_rows.specs.{Links.links_in, Steps.look_up, Submits.branch_after, Submits.standing_of};
-ghost use Rattle.review_machine_rows.specs.{View.fact, View.view, declared.rows.Rows.Rows};
-ghost use Rattle.review_machine_laws.specs.Patches.{HasPatch};
+ghost use Rattle.review_machine_rows.specs.{Known.Agrees, Known.IsKnown, Known.StandsAs, Links.links_in, Steps.look_up};
+ghost use Rattle.review_machine_rows.specs.{Submits.branch_after, Submits.standing_of, View.fact, View.view};
+ghost use Rattle.{review_machine_rows.specs.declared.rows.Rows.Rows, review_machine_laws.specs.Patches.HasPatch};
 ghost use Rattle.review_machine_rows.specs.declared.rows.Want.TheVariants as want;
 
 /// Patch sets in one branch have commits of their own, and the branch has none of them as a base.

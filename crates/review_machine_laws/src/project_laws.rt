@@ -4,8 +4,7 @@ ghost use Rattle.review_words.specs.History.{Entry, is_project};
 ghost use Rattle.review_file_rules.specs.{Expressions.names_unknown_label, Rights.covers};
 ghost use Rattle.review_machine_rows.specs.Answer.{IsHistory};
 ghost use Rattle.review_machine_rows.specs.Changes.{Reading, Reads, file_of, own_of};
-ghost use Rattle.review_machine_rows.specs.Lines.{most_depth};
-ghost use Rattle.review_machine_laws.specs.Ends.{ends};
+ghost use Rattle.{review_machine_rows.specs.Lines.most_depth, review_machine_laws.specs.Ends.ends};
 
 use review_file_rules::one_file;
 

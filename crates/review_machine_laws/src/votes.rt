@@ -1,7 +1,5 @@
 //! Laws of projects and votes, as contracts of calls that do nothing.
-ghost use Rattle.std.specs.Prelude.{List};
-ghost use Rattle.review_words.specs.History.{Entry};
-ghost use Rattle.review_machine_rows.specs.Answer.{IsHistory};
+ghost use Rattle.{std.specs.Prelude.List, review_words.specs.History.Entry, review_machine_rows.specs.Answer.IsHistory};
 ghost use Rattle.review_machine_laws.specs.SoundProjects.{AreSoundProjects};
 
 use review_file_rules::one_file;

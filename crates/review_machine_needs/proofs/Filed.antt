@@ -14,8 +14,7 @@ use Rattle.review_file_rules.proofs.Trees.{covers_seen, inherits_above, inherit_
 use Rattle.review_file_rules.specs.Inherited.{IsEffective, inherit, inherits_unknown_label}
 use Rattle.review_file_rules.specs.Reading.{IsReadFault, named_parent}
 use Rattle.review_file_rules.specs.{Trees.file_trees, declared.fault.ReadFault.ReadFault}
-use Rattle.review_file_lines.specs.Texts.{LineView}
-use Rattle.review_machine_rows.proofs.Asked.{line_asked}
+use Rattle.{review_file_lines.specs.Texts.LineView, review_machine_rows.proofs.Asked.line_asked}
 use Rattle.review_machine_rows.proofs.Lined.{line_told, own_told, texts_told, there_is}
 use Rattle.review_machine_rows.specs.Answer.{IsAnswerBy, file_checks, file_with, first_refusal, is_same_parent, puts_unknown_label, refused_or, keeps_parent as keeps_parent_of}
 use Rattle.review_machine_rows.specs.Changes.{Reading, depth, effective_of, file_of, own_of, texts_of}

@@ -1,7 +1,6 @@
 //! What is asked of a project and its ancestors.
 ghost use Rattle.std.specs.Prelude.{◌≡◌, IfOk, option_and_then, option_copied};
-ghost use Rattle.review_file_rules.specs.Reading.{named_parent};
-ghost use Rattle.review_machine_rows.specs.Lines.{most_depth};
+ghost use Rattle.{review_file_rules.specs.Reading.named_parent, review_machine_rows.specs.Lines.most_depth};
 ghost use Rattle.review_machine_rows.specs.Steps.{line_steps, next_of, own_in, known_parent, parent_of, parent_or, topic_of};
 
 use crate::changes::file_want;

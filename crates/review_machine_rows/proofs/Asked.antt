@@ -1,8 +1,7 @@
 -- What was asked is known, and asking ends.
 use Rattle.std.proofs.Common.{◌≡◌, ℕ, ◌+◌, ◌<◌, ◌≤◌, List, [], ◌∷◌, length, zero, suc, Option, Some, None, Bool, true, false, cond, not, IsSome, refl, sym, ap, ◌∙◌, subst, ⊎_elim, arith, All, is_some, ◌&&◌, ◌++◌, option_and_then, option_map, option_to_list}
 use Rattle.std.proofs.lemmas.{Bool.cases_Bool, List.Elements.All-head, List.Elements.All-tail}
-use Rattle.std.specs.{List.AllByRecursion, Option.option_or}
-use Rattle.review_words.specs.declared.changes.Given.{Given}
+use Rattle.{std.specs.List.AllByRecursion, std.specs.Option.option_or, review_words.specs.declared.changes.Given.Given}
 use Rattle.review_words.specs.declared.command.{ChangeCommand.ChangeCommand, ChangeQuery.ChangeQuery, Command.Command}
 use Rattle.review_words.specs.declared.command.Command.TheVariants.{CreateAccount, PutGroup, PutProject, RecordBase, CloseEpoch, CreateChange, OnChange, Submit}
 use Rattle.review_chain.proofs.LookingUp.{fewer_left, most_left}

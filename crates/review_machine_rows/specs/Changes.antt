@@ -2,13 +2,11 @@
 use Rattle.std.specs.{BTreeMap.insert_entry, Cmp.Lexicographic.slice_cmp, List.list_any, Option.option_map_or}
 use Rattle.std.specs.Ordering.{nat_cmp}
 use Rattle.std.specs.Prelude.{ℕ, zero, suc, ◌+◌, ◌==◌, ◌&&◌, ◌||◌, Bool, false, List, [], ◌∷◌, ◌++◌, Option, Some, None, if◌then◌else◌, option_map, map, length}
-use Rattle.std.specs.Str.{bytes_eq}
-use Rattle.review_names.specs.{Groups.GroupList, Names.administrators}
+use Rattle.{std.specs.Str.bytes_eq, review_names.specs.Groups.GroupList, review_names.specs.Names.administrators}
 use Rattle.review_words.specs.History.{Entry, accepted, file_text, is_base}
-use Rattle.review_words.specs.declared.changes.NewChange.{NewChange}
-use Rattle.review_words.specs.declared.command.{ChangeCommand.ChangeCommand, Command.Command}
-use Rattle.review_words.specs.declared.reply.{Answer.TheVariants.Submitted, Reply.Reply, Reply.TheVariants.Done}
-use Rattle.review_expr.specs.declared.expr.Expr.{Expr}
+use Rattle.review_words.specs.declared.{changes.NewChange.NewChange, command.ChangeCommand.ChangeCommand}
+use Rattle.review_words.specs.declared.{command.Command.Command, reply.Answer.TheVariants.Submitted, reply.Reply.Reply}
+use Rattle.{review_words.specs.declared.reply.Reply.TheVariants.Done, review_expr.specs.declared.expr.Expr.Expr}
 use Rattle.review_file_rules.specs.Inherited.{effective, no_file}
 use Rattle.review_file_rules.specs.{Reading.IsRead, Reading.named_parent, View.FileView}
 use Rattle.review_core_rules.specs.Change.{Change, Setting, after, begun, commit, joined_at}

@@ -1,6 +1,5 @@
 -- Project files, by what answers ask of them.
-use Rattle.review_expr.specs.declared.expr.Expr.{Expr}
-use Rattle.review_file_rules.specs.View.{FileView}
+use Rattle.{review_expr.specs.declared.expr.Expr.Expr, review_file_rules.specs.View.FileView}
 -- the text spells the file; the text is no file, for this fault
 pub use Rattle.review_file_rules.specs.Reading.{IsRead, IsFileFault}
 -- each label of the old file stands in the new one with at least its values

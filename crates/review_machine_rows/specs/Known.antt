@@ -1,8 +1,7 @@
 -- What a look-up finds in tables, and what rows know.
 use Rattle.std.specs.{Cmp.Lexicographic.slice_cmp, List.All, List.Contains, Option.option_or, Ordering.nat_cmp}
 use Rattle.std.specs.Prelude.{ℕ, zero, suc, ◌<◌, ◌≡◌, ◌⊎◌, AllPairs, List, [], ◌∷◌, Option, Some, None, IsSome, Bool, true, false, is_some, nat_lt, option_map, if◌then◌else◌}
-use Rattle.std.specs.declared.cmp.Ordering.{Ordering}
-use Rattle.review_table.specs.Rows.{row_in, rows_of}
+use Rattle.{std.specs.declared.cmp.Ordering.Ordering, review_table.specs.Rows.row_in, review_table.specs.Rows.rows_of}
 use Rattle.review_words.specs.Epochs.{last_epoch}
 use Rattle.review_words.specs.declared.shown.{JoinedChange.JoinedChange, State.TheVariants.Merged}
 use Rattle.review_chain.specs.declared.links.Standing.{Standing}

@@ -1,7 +1,6 @@
 -- A branch as rows know it.
 use Rattle.std.specs.Prelude.{ℕ, List, ◌&&◌, Bool, Option, Some, None, if◌then◌else◌, option_map}
-use Rattle.std.specs.Str.{bytes_eq}
-use Rattle.review_chain.specs.{Branches.Branch, declared.links.Link.Link}
+use Rattle.{std.specs.Str.bytes_eq, review_chain.specs.Branches.Branch, review_chain.specs.declared.links.Link.Link}
 use Rattle.review_core_rules.specs.Change.{Change, current, current_patch}
 use Rattle.review_machine_rows.specs.{Known.known, Known.change_in, Known.standing_of, declared.rows.Rows.Rows}
 use Rattle.review_machine_rows.specs.declared.rows.Want.TheVariants as want

@@ -1,7 +1,6 @@
 -- What a submit is told: by the chain of its change, and by how requirements stand for each change of it.
 use Rattle.std.specs.Prelude.{ℕ, zero, suc, ◌+◌, ◌≡◌, ◌⊎◌, ◌&&◌, ◌||◌, Bool, true, false, List, [], ◌∷◌, Option, Some, None, option_map, if◌then◌else◌}
-use Rattle.std.specs.Str.{bytes_eq}
-use Rattle.review_words.specs.History.{Entry, is_base}
+use Rattle.{std.specs.Str.bytes_eq, review_words.specs.History.Entry, review_words.specs.History.is_base}
 use Rattle.review_words.specs.declared.reply.{Answer.TheVariants.Submitted, Refusal.Refusal}
 use Rattle.review_words.specs.declared.reply.Refusal.TheVariants.{ChainOutdated, ChainAbandoned, ChainWip, ChainTooLong, RequirementUnsatisfied}
 use Rattle.review_words.specs.declared.reply.Reply.{Reply, TheVariants.Done, TheVariants.Refused}

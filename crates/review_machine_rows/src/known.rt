@@ -1,8 +1,7 @@
 //! What rows know, and how they learn it.
 ghost use Rattle.std.specs.Option.{option_map_or, option_or};
 ghost use Rattle.std.specs.Prelude.{◌≡◌, Some, None, OnOk, false, ◌∷◌, [], is_some, option_copied, option_map, unwrap_or};
-ghost use Rattle.review_table.specs.Rows.{row_in, rows_of};
-ghost use Rattle.review_core_rules.specs.Seen.{seen};
+ghost use Rattle.{review_table.specs.Rows.row_in, review_table.specs.Rows.rows_of, review_core_rules.specs.Seen.seen};
 ghost use Rattle.review_machine_rows.specs.Known.{Members, known, meaning, group_of, Learns, AreAdded, is_so, is_there, number_of, holder_of, members_of, file_in, commits_of, change_in, standing_of, joined_of};
 ghost use Rattle.review_machine_rows.specs.declared.rows.Want.{Want};
 ghost use Rattle.review_machine_rows.specs.declared.rows.Want.TheVariants as want;

@@ -37,8 +37,7 @@ use Rattle.review_machine_rows.specs.View.{IsDecided, counted, fact, AreEnough, 
 use Rattle.review_machine_rows.specs.declared.rows.{ChangeEdit.ChangeEdit, Delta.Delta, Rows.Rows}
 use Rattle.review_machine_laws.proofs.{Changes.changes_bound, SoundProjects.has_project}
 use Rattle.review_machine_accounts.proofs.Decided.{outcome_answer, refused_decided}
-use Rattle.review_machine_accounts.specs.Decisions.{IsEmpty}
-use Rattle.review_machine_changes.proofs.Made.{request_is}
+use Rattle.{review_machine_accounts.specs.Decisions.IsEmpty, review_machine_changes.proofs.Made.request_is}
 use Rattle.review_machine_changes.proofs.Told.{lacks_project, OneFile, change_told, right_told, ChangesAreSound}
 use Rattle.review_machine_changes.specs.Facts.{setting_in, next_request}
 use Rattle.review_machine_submits.proofs.Loaded.{same_trees, GroupsSuffice, split_all, standing_told}

@@ -1,7 +1,6 @@
 -- What rows tell of a submit.
 use Rattle.std.specs.Prelude.{[], ℕ, not, List, ◌∷◌, Bool, Option, IsSome, option_map, ◌≡◌, Some, None, ◌+◌, ◌<◌, ◌^◌, map, length}
-use Rattle.review_table.specs.Rows.{after_row_edit}
-use Rattle.review_words.specs.declared.reply.Refusal.{Refusal}
+use Rattle.{review_table.specs.Rows.after_row_edit, review_words.specs.declared.reply.Refusal.Refusal}
 use Rattle.review_words.specs.declared.reply.Refusal.TheVariants.{NotAllowed, Closed, WorkInProgress}
 use Rattle.review_words.specs.declared.reply.Reply.{Reply}
 use Rattle.review_chain.specs.{Places.places_from, Walks.IsChain}

@@ -1,8 +1,7 @@
 //! What may refuse a submit.
 ghost use Rattle.std.specs.{List.AllByRecursion, Prelude.◌≡◌, Prelude.IfOk, Prelude.option_map};
 ghost use Rattle.review_core_rules.specs.Facts.{IsFirstUnsatisfied, is_unsatisfied, unsatisfied_in};
-ghost use Rattle.review_core_rules.specs.Seen.{seen};
-ghost use Rattle.review_machine_rows.specs.Answer.{first_refusal};
+ghost use Rattle.{review_core_rules.specs.Seen.seen, review_machine_rows.specs.Answer.first_refusal};
 ghost use Rattle.review_machine_submits.specs.Submits.{IsThere, judged_in, submit_list};
 
 use review_core_rules::ChangeRows;

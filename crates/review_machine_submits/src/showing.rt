@@ -5,8 +5,7 @@ ghost use Rattle.review_names.specs.Forms.{is_within, most_patches};
 ghost use Rattle.review_core_rules.specs.Change.{current, of_number};
 ghost use Rattle.review_core_rules.specs.{Listed.AreThose, Seen.of_account, Seen.seen};
 ghost use Rattle.review_core_rules.specs.Shown.{AreAttentionEntries, AreVotes, IsShown, shown_attention_entry, shown_vote};
-ghost use Rattle.review_core_rules.specs.Sound.{IsSound};
-ghost use Rattle.review_machine_rows.specs.Answer.{has_role};
+ghost use Rattle.{review_core_rules.specs.Sound.IsSound, review_machine_rows.specs.Answer.has_role};
 ghost use Rattle.review_machine_submits.specs.inner.Told.{is_on};
 
 use review_core_rules::{AttentionEntry, ChangeRows, PatchRow, Vote, VoteKey};

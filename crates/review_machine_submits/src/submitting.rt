@@ -1,10 +1,9 @@
 //! Submits.
 ghost use Rattle.std.specs.List.{AllByRecursion};
 ghost use Rattle.std.specs.Prelude.{◌≡◌, ◌<◌, List, ℕ, Some, IfErr, IfOk, length, option_copied, true, None};
-ghost use Rattle.review_words.specs.History.{Entry, is_account};
-ghost use Rattle.review_words.specs.{Texts.IsChangeNumber, Texts.IsStored, declared.command.Command.TheVariants.Submit};
-ghost use Rattle.review_chain.specs.{Steps.IsFault, Walks.IsChain};
-ghost use Rattle.review_core_rules.specs.Seen.{seen};
+ghost use Rattle.review_words.specs.{History.Entry, History.is_account, Texts.IsChangeNumber, Texts.IsStored};
+ghost use Rattle.{review_words.specs.declared.command.Command.TheVariants.Submit, review_chain.specs.Steps.IsFault};
+ghost use Rattle.{review_chain.specs.Walks.IsChain, review_core_rules.specs.Seen.seen};
 ghost use Rattle.review_machine_rows.specs.{Answer.IsHistory, Answer.most_requests, Changes.Reading};
 ghost use Rattle.review_machine_rows.specs.Decisions.{IsUndecided, NamesEachOnce};
 ghost use Rattle.review_machine_rows.specs.{Links.links_in, Rows.HasNoEffect, Steps.OfCommand, Submits.refusal_of};

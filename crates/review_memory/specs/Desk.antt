@@ -4,8 +4,7 @@ use Rattle.std.specs.Ordering.{nat_cmp, ordering_then}
 use Rattle.std.specs.Prelude.{ℕ, ◌≡◌, ◌≤◌, ◌+◌, ◌⊎◌, Bool, true, false, List, [], ◌∷◌, Option, Some, None, IfSome, option_map, string_bytes, if◌then◌else◌}
 use Rattle.std.specs.declared.cmp.Ordering.{Ordering}
 use Rattle.review_table.specs.Rows.{row_in, rows_of, row_edit_of, is_named, HasEmptyOnly, HasNoEmptyPlace, HavePlaces, changed}
-use Rattle.review_table.specs.declared.table.RowEdit.{RowEdit}
-use Rattle.review_words.specs.History.{Identity}
+use Rattle.{review_table.specs.declared.table.RowEdit.RowEdit, review_words.specs.History.Identity}
 use Rattle.review_machine_rows.specs.Rows.{Key, AccountKey, MemberKey, FileKey, BaseKey, PartKey, OddKey, Row, AccountRow, FileRow, BaseRow, APart, Count, Projects, BasesOf, ClosedEpochs, AnswerRow, Stored, Answered, Tables, member_cmp, member_row, kept_row}
 use Rattle.review_machine_rows.specs.View.{tables_version}
 use Rattle.review_machine_rows.specs.declared.rows.{Delta.Delta, Kept.Kept, MemberKey.MemberKey as Member}

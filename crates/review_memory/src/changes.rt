@@ -1,7 +1,6 @@
 //! What a delta and its request change in tables in memory, in copies of their own.
 ghost use Rattle.std.specs.{List.All, Prelude.◌≡◌, Prelude.IfOk, Prelude.OnOk};
-ghost use Rattle.review_table.specs.Rows.{rows_of};
-ghost use Rattle.review_memory_rows.specs.Kept.{ArePrepared};
+ghost use Rattle.{review_table.specs.Rows.rows_of, review_memory_rows.specs.Kept.ArePrepared};
 ghost use Rattle.review_memory.specs.Desk.{IsNumber, IsHeld, IsGiven, IsNameOf, AreChangesOf, PutsAnswer, file_changes};
 
 use crate::keys::NameKey;

@@ -3,8 +3,7 @@ use Rattle.std.proofs.Common.{◌≡◌, ℕ, ◌==◌, List, [], ◌∷◌, Opt
 use Rattle.std.proofs.lemmas.List.{take_more, Elements.All-from_recursion}
 use Rattle.std.specs.{Cmp.unsigned_tied, List.AllByRecursion}
 use Rattle.review_table.specs.Rows.{after_row_edit, changed, row_edit_of, row_in, rows_of}
-use Rattle.review_table.specs.declared.table.RowEdit.{RowEdit}
-use Rattle.review_words.specs.declared.changes.Role.{Role}
+use Rattle.{review_table.specs.declared.table.RowEdit.RowEdit, review_words.specs.declared.changes.Role.Role}
 use Rattle.review_core_rules.specs.Change.{Change}
 use Rattle.review_core_rules.specs.Parts.{Part, TheHeader, PatchOf, VoteOf, RoleOf, CommentOf, AttentionOf, PartRow, AHeader, APatch, ARole, AComment, AnAttentionEntry, part_row}
 use Rattle.review_core_rules.specs.{Seen.vote_cmp, declared.rows.AttentionEntry.AttentionEntry}

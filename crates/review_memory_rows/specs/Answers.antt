@@ -2,8 +2,7 @@
 use Rattle.std.specs.{BTreeMap.is_at, Cmp.Lexicographic.slice_cmp, List.list_any}
 use Rattle.std.specs.Ordering.{nat_cmp, ordering_then}
 use Rattle.std.specs.Prelude.{Bool, nat_lt, flat_map, ◌++◌, if◌then◌else◌, ℕ, List, [], ◌∷◌, Option, Some, None}
-use Rattle.std.specs.declared.cmp.Ordering.{Ordering}
-use Rattle.review_words.specs.History.{Identity}
+use Rattle.{std.specs.declared.cmp.Ordering.Ordering, review_words.specs.History.Identity}
 use Rattle.review_memory_rows.specs.declared.answer_keys.{AnswerKey.AnswerKey, StoredAnswer.StoredAnswer}
 
 -- by epoch, then by caller, then by id

@@ -3,8 +3,7 @@ ghost use Rattle.std.specs.{BTreeMap.is_at, Ordering.nat_cmp};
 ghost use Rattle.std.specs.Prelude.{◌≡◌, ℕ, [], IfOk, OnOk, None, if◌then◌else◌};
 ghost use Rattle.review_table.specs.Rows.{changed, row_in, rows_of};
 ghost use Rattle.review_core_rules.specs.{Seen.vote_cmp, declared.rows.VoteKey.VoteKey};
-ghost use Rattle.review_machine_change_rows.specs.Tables.{part_in};
-ghost use Rattle.review_memory_rows.specs.Kept.{AreEdited};
+ghost use Rattle.{review_machine_change_rows.specs.Tables.part_in, review_memory_rows.specs.Kept.AreEdited};
 
 use review_machine_change_rows::copies::Marks;
 use review_machine_change_rows::{ChangeTables, Copied, copied_header, copied_table};

@@ -2,8 +2,7 @@
 use Rattle.std.proofs.Common.{◌≡◌, ℕ, ◌≤◌, List, refl, sym, ap, ◌∙◌, subst, arith, cond, Option, Some, None, Bool, true, false}
 use Rattle.std.proofs.lemmas.Bool.Decides.{nat_tests}
 use Rattle.std.specs.Prelude.{nat_le, ◌&&◌, if◌then◌else◌}
-use Rattle.review_names.proofs.Numerals.{number_back, number_shown}
-use Rattle.review_names.specs.Names.{is_account_number}
+use Rattle.review_names.{proofs.Numerals.number_back, proofs.Numerals.number_shown, specs.Names.is_account_number}
 use Rattle.review_names.specs.Numerals.{◌>>=◌, numeral, number_of, account_of}
 
 pub account_back : (n : ℕ) → 1 ≤ n → n ≤ 1000000 → account_of (numeral n) ≡ Some n

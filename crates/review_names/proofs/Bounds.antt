@@ -1,7 +1,6 @@
 -- Numbers up to a greatest one, as texts show them.
 use Rattle.std.proofs.Common.{◌≡◌, ℕ, ◌<◌, ◌≤◌, List, Some, None, true, sym, ap, ◌∙◌, arith}
-use Rattle.std.proofs.lemmas.Bool.Decides.{nat_tests}
-use Rattle.review_names.proofs.Numerals.{number_back}
+use Rattle.{std.proofs.lemmas.Bool.Decides.nat_tests, review_names.proofs.Numerals.number_back}
 use Rattle.review_names.specs.{Forms.is_within, Numerals.number_of, Numerals.numeral}
 
 within : (most n : ℕ) → is_within most n ≡ true → (1 ≤ n) × (n ≤ most)

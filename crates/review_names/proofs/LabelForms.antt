@@ -1,8 +1,7 @@
 -- The form of a label's name.
 use Rattle.std.proofs.Common.{◌≡◌, ℕ, List, [], ◌∷◌, length, Bool, true, false, not, ◌&&◌, ◌||◌, ◌==◌, refl, ap, ◌∙◌, subst, eqb-true}
-use Rattle.std.specs.Char.{is_ascii_alphabetic, is_ascii_alphanumeric}
-use Rattle.std.specs.{Int.is_in_range, List.list_all, Prelude.nat_le}
-use Rattle.review_names.specs.Forms.{goes_on, is_label}
+use Rattle.std.specs.{Char.is_ascii_alphabetic, Char.is_ascii_alphanumeric, Int.is_in_range, List.list_all}
+use Rattle.{std.specs.Prelude.nat_le, review_names.specs.Forms.goes_on, review_names.specs.Forms.is_label}
 use Rattle.review_names.specs.Laws.{is_label_character, begins_with_letter, has_letters_after_hyphens}
 
 -- a letter is a letter or a digit, and no hyphen

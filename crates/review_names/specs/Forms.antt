@@ -2,8 +2,7 @@
 use Rattle.std.specs.{BTreeSet.insert_key, Char.is_ascii_alphabetic, Char.is_ascii_alphanumeric, Char.is_ascii_control}
 use Rattle.std.specs.{Cmp.Lexicographic.slice_cmp, Int.is_in_range, List.list_all, Ordering.nat_cmp}
 use Rattle.std.specs.Prelude.{ℕ, List, [], ◌∷◌, Bool, true, false, not, ◌&&◌, ◌||◌, ◌==◌, nat_le, if◌then◌else◌, length, codes}
-use Rattle.std.specs.Str.{bytes_eq}
-use Rattle.review_names.specs.Names.{is_plain}
+use Rattle.{std.specs.Str.bytes_eq, review_names.specs.Names.is_plain}
 
 -- letters, digits and hyphens to the end, each hyphen before a letter; the flag: a letter has to come first
 abbrev pub goes_on : Bool → List ℕ → Bool

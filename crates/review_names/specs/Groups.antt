@@ -1,8 +1,7 @@
 -- Who is in a group.
 use Rattle.std.specs.{BTreeMap.is_at, Cmp.Lexicographic.slice_cmp, List.list_any, Map.lookup, Ordering.nat_cmp}
 use Rattle.std.specs.Prelude.{ℕ, List, [], Bool, ◌||◌, ◌==◌, unwrap_or}
-use Rattle.std.specs.Str.{bytes_eq}
-use Rattle.review_names.specs.Names.{registered_users}
+use Rattle.{std.specs.Str.bytes_eq, review_names.specs.Names.registered_users}
 
 -- groups, each with its members
 abbrev pub GroupList : Type 0

@@ -1,7 +1,6 @@
 -- The names of what a patch set changed.
 use Rattle.std.specs.Prelude.{ℕ, List, if◌then◌else◌, codes, Option, Some, None}
-use Rattle.std.specs.Str.{bytes_eq}
-use Rattle.review_names.specs.declared.kinds.ChangeKind.{ChangeKind}
+use Rattle.{std.specs.Str.bytes_eq, review_names.specs.declared.kinds.ChangeKind.ChangeKind}
 use Rattle.review_names.specs.declared.kinds.ChangeKind.TheVariants as kind
 
 -- the name of a kind of change

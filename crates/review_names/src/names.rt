@@ -51,8 +51,7 @@ pub struct AccountNo {
 }
 
 impl Model for AccountNo {
-    ghost use Rattle.std.specs.Prelude.{ℕ, IsTrue};
-    ghost use Rattle.review_names.specs.Names.{is_account_number};
+    ghost use Rattle.{std.specs.Prelude.ℕ, std.specs.Prelude.IsTrue, review_names.specs.Names.is_account_number};
 
     ghost Value = { ℕ };
 

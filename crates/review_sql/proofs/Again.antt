@@ -7,8 +7,7 @@ use Rattle.review_sql_tables.specs.{Ran.IsReady, Versions.schema_at, declared.ve
 use Rattle.review_sql_tables.specs.declared.versions.TablesVersion.TheVariants.{First, Second, Third}
 use Rattle.review_sql_writes.specs.{Numbers.IsDesk, declared.numbers.Numbers.Numbers}
 use Rattle.review_sql.proofs.Saying.{desk_says, never_earlier, never_no_desk, never_other_version, never_there_earlier}
-use Rattle.review_sql.proofs.Shown.{stays}
-use Rattle.review_sql.specs.Migrated.{IsNotMigrated, IsUnfit}
+use Rattle.review_sql.{proofs.Shown.stays, specs.Migrated.IsNotMigrated, specs.Migrated.IsUnfit}
 use Rattle.review_sql.specs.Opened.{AreAllApart, AreApartIn, IsOpened, IsRefused}
 use Rattle.review_sql.specs.Reopened.{ReopensLast, IsRefusedAgain, IsReopened}
 use Rattle.review_sql.specs.Said.{IsNone, IsThere}

@@ -1,8 +1,7 @@
 -- What look-ups found, by how the last one ended.
 use Rattle.std.proofs.Common.{◌≡◌, List, Ok, Err, refl, sym, subst}
 use Rattle.std.specs.Prelude.{Result, IfOk}
-use Rattle.sqlite.specs.{State.State, declared.error.Error.Error}
-use Rattle.review_sql_tables.specs.Ran.{Serves}
+use Rattle.{sqlite.specs.State.State, sqlite.specs.declared.error.Error.Error, review_sql_tables.specs.Ran.Serves}
 use Rattle.review_machine_rows.specs.{Known.AreAsked, declared.rows.Rows.Rows, declared.rows.Want.Want}
 use Rattle.review_sql_lookups.specs.{Loads.WereAsked, declared.counts.Counts.Counts, declared.sights.Loaded.Loaded}
 use Rattle.review_sql.specs.Loading.{AreLoadedBounded, WereSeen, loaded_by}

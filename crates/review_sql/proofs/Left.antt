@@ -1,8 +1,7 @@
 -- What a stop left of a desk of ours is opened as one.
 use Rattle.std.proofs.Common.{◌≡◌, ◌≢◌, ◌⊎◌, inl, inr, List, IsTrue, refl, sym, subst, arith}
 use Rattle.sqlite.specs.{Effect.Database, Effect.IsDatabase, State.State, State.IsLive}
-use Rattle.sqlite_trees.specs.declared.store.Store.{Ghosts}
-use Rattle.review_words.specs.History.{Entry}
+use Rattle.{sqlite_trees.specs.declared.store.Store.Ghosts, review_words.specs.History.Entry}
 use Rattle.review_sql_tables.proofs.OneSchema.{one_schema}
 use Rattle.review_sql_tables.specs.{Desk.desk_schema, Desk.schema_0, Made.IsBlank, Ran.IsReady}
 use Rattle.review_machine_rows.{proofs.Readings.reading_of, specs.Answer.IsHistory, specs.View.IsView}

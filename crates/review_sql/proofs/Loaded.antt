@@ -1,8 +1,7 @@
 -- What is answered of what look-ups found.
 use Rattle.std.proofs.Common.{◌≡◌, Bool, List, Option, Ok, IfOk, IsTrue, subst, sym}
 use Rattle.sqlite.specs.{Effect.Database, Held.Held, Held.state, State.HasCleanDisk}
-use Rattle.sqlite_trees.specs.declared.store.Store.{Ghosts}
-use Rattle.review_sql_tables.specs.Ran.{Serves}
+use Rattle.{sqlite_trees.specs.declared.store.Store.Ghosts, review_sql_tables.specs.Ran.Serves}
 use Rattle.review_machine_rows.specs.{Known.Agrees, Known.AreAsked, Rows.Tables}
 use Rattle.review_machine_rows.specs.Shelf.{BlamesTables, IsDamaged, KeepsTables, Shows}
 use Rattle.review_machine_rows.specs.declared.rows.Want.{Want}

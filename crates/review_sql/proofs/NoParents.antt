@@ -2,8 +2,8 @@
 use Rattle.std.proofs.Common.{◌≡◌, ◌&&◌, ℕ, List, [], ◌∷◌, codes, Option, Some, None, option_map, is_some, Bool, cond, true, false, not, refl, ap}
 use Rattle.std.specs.{List.AllByRecursion, Option.option_map_or}
 use Rattle.std.specs.{Prelude.MatchOption, Prelude.length, Prelude.nat_lt, Prelude.option_and_then, Str.bytes_eq}
-use Rattle.toml.specs.{Data.Data, Data.Members, Data.as_str, Data.table, Data.get, Parse.parse_document}
-use Rattle.review_file_document.specs.Limits.{most_bytes}
+use Rattle.toml.specs.Data.{Data, Members, as_str, table, get}
+use Rattle.{toml.specs.Parse.parse_document, review_file_document.specs.Limits.most_bytes}
 use Rattle.review_words.specs.History.{Entry, asking_of, file_text, if_done, text_put}
 use Rattle.review_words.specs.declared.command.Command.{Command}
 use Rattle.review_words.specs.declared.command.Command.TheVariants.{CreateAccount, PutGroup, PutProject, RecordBase, CreateChange, OnChange, Submit, CloseEpoch}

@@ -3,14 +3,11 @@ use Rattle.std.proofs.Common.{◌≡◌, ◌≢◌, ◌∙◌, ◌⊎◌, inl, i
 use Rattle.std.specs.{Bool.Decides, List.AllByRecursion}
 use Rattle.sqlite.{proofs.StateLemmas.survives_then, specs.Effect.Database, specs.Effect.IsDatabase}
 use Rattle.sqlite.specs.State.{State, HasCleanDisk, Survives, IsRolledBack}
-use Rattle.sqlite.specs.declared.error.Error.{Error}
-use Rattle.sqlite_trees.specs.Tree.{Trees}
-use Rattle.sqlite_value.specs.Order.{Row}
+use Rattle.{sqlite.specs.declared.error.Error.Error, sqlite_trees.specs.Tree.Trees, sqlite_value.specs.Order.Row}
 use Rattle.review_sql_tables.proofs.{ByTree.at_tree, Sequences.begun, Sequences.taken_back, Sequences.survives_from}
 use Rattle.review_sql_tables.specs.{Content.AreApart, Desk.desk_schema, Ran.Looks, Versions.version_number}
 use Rattle.review_sql_tables.specs.declared.versions.TablesVersion.{TablesVersion, TheVariants.Third}
-use Rattle.review_sql_writes.specs.declared.numbers.Numbers.{Numbers}
-use Rattle.review_sql.proofs.Saying.{desk_of_ours}
+use Rattle.{review_sql_writes.specs.declared.numbers.Numbers.Numbers, review_sql.proofs.Saying.desk_of_ours}
 use Rattle.review_sql.specs.Opened.{AreAllApart, Peeks, IsLacking, IsSeen, IsRefused}
 use Rattle.review_sql.specs.Said.{IsSaid, IsDeskThere, IsNoDesk, IsNone, IsOtherVersion, IsThere, LacksLeast, SaysLeast, SaysOther, least_shown, ShowsEpochs}
 use Rattle.review_sql.specs.{Shelf.AreAllRead, declared.faults.DeskFault.DeskFault}

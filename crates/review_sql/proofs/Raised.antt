@@ -4,16 +4,15 @@ use Rattle.std.specs.{Bool.Decides, Result.is_ok}
 use Rattle.sqlite.proofs.StateLemmas.{survives_then, survives_weaker}
 use Rattle.sqlite.specs.{Effect.Database, Held.Held, Held.state, Listing.listing_schema, Listing.understood}
 use Rattle.sqlite.specs.{State.State, State.HasCleanDisk, State.Survives, declared.error.Error.Error}
-use Rattle.sqlite_tied.specs.Compute.{everything}
-use Rattle.sqlite_trees.specs.{Tree.Trees, declared.store.Store.Ghosts}
-use Rattle.review_words.specs.History.{Entry}
+use Rattle.{sqlite_tied.specs.Compute.everything, sqlite_trees.specs.Tree.Trees}
+use Rattle.{sqlite_trees.specs.declared.store.Store.Ghosts, review_words.specs.History.Entry}
 use Rattle.review_sql_tables.proofs.{Migrated.apart_after, Sequences.Next, Sequences.follow, Sequences.settled_as}
 use Rattle.review_sql_tables.specs.{Desk.desk_schema, Migrated.Migrates}
 use Rattle.review_sql_tables.specs.Ran.{Inside, Looks, OnDesk, Transacts, Within}
-use Rattle.review_sql_tables.specs.{Versions.schema_at, Versions.version_of, declared.texts.TheConstants.FIND_ANSWER}
-use Rattle.review_sql_tables.specs.declared.versions.{EarlierVersion.EarlierVersion, TablesVersion.TablesVersion}
-use Rattle.review_sql_tables.specs.{declared.versions.TablesVersion.TheVariants.Third, inner.Words.Then}
-use Rattle.review_machine_rows.specs.View.{IsView}
+use Rattle.review_sql_tables.specs.Versions.{schema_at, version_of}
+use Rattle.review_sql_tables.specs.declared.{texts.TheConstants.FIND_ANSWER, versions.EarlierVersion.EarlierVersion}
+use Rattle.review_sql_tables.specs.declared.versions.TablesVersion.{TablesVersion, TheVariants.Third}
+use Rattle.{review_sql_tables.specs.inner.Words.Then, review_machine_rows.specs.View.IsView}
 use Rattle.review_sql_lookups.specs.{EarlierTables.tables_in, Tables.tables_at}
 use Rattle.review_sql_writes.specs.{declared.numbers.Numbers.Numbers, inner.Changes.SetsDesk, inner.Changes.SetsLeast}
 use Rattle.review_sql.proofs.{Again.goes_on, Made.holds_opened, Made.is_opened}

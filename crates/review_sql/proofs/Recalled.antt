@@ -1,9 +1,7 @@
 -- What is told of an identity.
 use Rattle.std.proofs.Common.{◌≡◌, ◌∙◌, Option, Some, None, Result, Ok, Err, IfOk, IfErr, IsTrue, sym, ap, subst}
-use Rattle.std.specs.Prelude.{nat_lt}
-use Rattle.sqlite.specs.Held.{Held, state}
-use Rattle.sqlite_trees.specs.declared.store.Store.{Ghosts}
-use Rattle.review_words.specs.History.{Identity}
+use Rattle.{std.specs.Prelude.nat_lt, sqlite.specs.Held.Held, sqlite.specs.Held.state}
+use Rattle.{sqlite_trees.specs.declared.store.Store.Ghosts, review_words.specs.History.Identity}
 use Rattle.review_machine_rows.specs.Rows.{AnswerRow, Answered, Tables, kept_row}
 use Rattle.review_machine_rows.specs.Shelf.{Answers, BlamesTables, IsDamaged, IsRecalled, KeepsTables, LeavesBy, Shows, Blames, cause_of}
 use Rattle.review_machine_rows.specs.declared.rows.{Kept.Kept, Recalled.Recalled}

@@ -7,8 +7,7 @@ use Rattle.sqlite.specs.{Effect.Database, Effect.Reads, Listing.understood, List
 use Rattle.sqlite_keyed.proofs.ListLemmas.{filter_same}
 use Rattle.sqlite_resolve.specs.{Lowering.Checked, declared.compiled.Compiled.Compiled}
 use Rattle.sqlite_schema.specs.declared.{command.Command.TheVariants.Select, schema.Schema.Schema}
-use Rattle.sqlite_sql.specs.Term.{Term, col}
-use Rattle.sqlite_tied.specs.Compute.{everything}
+use Rattle.{sqlite_sql.specs.Term.Term, sqlite_sql.specs.Term.col, sqlite_tied.specs.Compute.everything}
 use Rattle.sqlite_value.specs.{Order.Row, Order.column, declared.value.Value.TheVariants.Null}
 use Rattle.review_words.specs.Epochs.{is_epoch}
 use Rattle.review_sql_tables.proofs.{Meaning.plain, Queries.passes, Queries.selects, Queries.shows}

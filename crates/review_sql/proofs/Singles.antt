@@ -1,9 +1,8 @@
 -- The tables whose rows are counted have one row at each key, since their keys are UNIQUE.
 use Rattle.std.proofs.Common.{◌≡◌, ◌≤◌, ◌&&◌, true, sym, ℤ, ℕ, pos, List, [], ◌∷◌, length, refl, subst, inl, inr}
-use Rattle.std.{proofs.lemmas.Bool.and_parts, proofs.lemmas.Bool.and_from, specs.Ordering.is_eq}
-use Rattle.sqlite.specs.Effect.{Database}
-use Rattle.sqlite_catalog.{proofs.AlterLemmas.keys_are_unique, specs.Listing.IsSound}
-use Rattle.sqlite_schema.specs.Rules.{agree, differ}
+use Rattle.std.proofs.lemmas.Bool.{and_parts, and_from}
+use Rattle.{std.specs.Ordering.is_eq, sqlite.specs.Effect.Database, sqlite_catalog.proofs.AlterLemmas.keys_are_unique}
+use Rattle.{sqlite_catalog.specs.Listing.IsSound, sqlite_schema.specs.Rules.agree, sqlite_schema.specs.Rules.differ}
 use Rattle.sqlite_trees.specs.Tree.{Trees, rowid}
 use Rattle.sqlite_value.specs.{Keys.plain, Keys.first_key, Order.column, Order.value_cmp}
 use Rattle.sqlite_value.specs.declared.value.Value.{Value, TheVariants.Int, TheVariants.Text}

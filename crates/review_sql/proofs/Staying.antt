@@ -6,8 +6,7 @@ use Rattle.sqlite.specs.declared.error.Error.{Error, TheVariants.SqliteFailure, 
 use Rattle.sqlite_resolve.specs.declared.error.CompileError.{CompileError}
 use Rattle.sqlite_trees.specs.declared.error.StoreError.{StoreError}
 use Rattle.sqlite_trees.specs.declared.error.StoreError.TheVariants.{OutOfMemory, Io, Corrupt, Full, Broken, Unstorable}
-use Rattle.sqlite_value.specs.Order.{Row}
-use Rattle.review_sql.specs.Shelf.{IsUnderstood, Stays}
+use Rattle.{sqlite_value.specs.Order.Row, review_sql.specs.Shelf.IsUnderstood, review_sql.specs.Shelf.Stays}
 use Rattle.sqlite.specs.declared.error.ErrorCode.TheVariants as code
 
 module _ (old new : State) (settled : IsTrue old.is_open → old.now ≡ old.committed) where

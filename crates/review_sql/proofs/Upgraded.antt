@@ -2,8 +2,7 @@
 use Rattle.std.proofs.Common.{◌≡◌, ◌≢◌, ◌∙◌, ◌||◌, ℕ, List, [], ◌∷◌, Option, Some, None, option_map, Bool, cond, true, false, not, length, refl, sym, ap, subst, arith, inl, inr, eqb-true, ◌==◌}
 use Rattle.std.proofs.lemmas.Bool.{both_ways, or_parts, cases_Bool, eqb-false}
 use Rattle.std.specs.{Bool.Decides, List.AllByRecursion, List.list_any}
-use Rattle.sqlite.specs.Effect.{Database}
-use Rattle.sqlite_trees.specs.Tree.{Trees}
+use Rattle.{sqlite.specs.Effect.Database, sqlite_trees.specs.Tree.Trees}
 use Rattle.sqlite_value.specs.{Order.Row as Raw, declared.value.Value.TheVariants.Text}
 use Rattle.review_words.specs.History.{Entry, Identity}
 use Rattle.review_sql_tables.proofs.{ByTree.at_tree, Sequences.Next}

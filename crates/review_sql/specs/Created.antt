@@ -1,11 +1,9 @@
 -- What `create` gives.
 use Rattle.std.specs.Prelude.{◌≡◌, [], Bool, IsTrue}
 use Rattle.sqlite.specs.{Effect.Database, Held.Held, Held.state, State.HasCleanDisk, State.Survives}
-use Rattle.sqlite_trees.specs.declared.store.Store.{Ghosts}
-use Rattle.review_sql_tables.specs.Desk.{schema_0}
+use Rattle.{sqlite_trees.specs.declared.store.Store.Ghosts, review_sql_tables.specs.Desk.schema_0}
 use Rattle.review_machine_rows.specs.{Shelf.StopLeavesOwnTables, View.IsView}
-use Rattle.review_sql_lookups.specs.Tables.{tables_at}
-use Rattle.review_sql_writes.specs.First.{MakesDesk}
+use Rattle.{review_sql_lookups.specs.Tables.tables_at, review_sql_writes.specs.First.MakesDesk}
 use Rattle.review_sql.specs.Shelf.{ShelfView, IsAnyThere, shown}
 
 -- No table of one of the names that tables of a desk have in any version was there. In a store with no table, the tables are those of the empty history; a stop within it leaves what one could leave before, or these, and one after it these alone.

@@ -1,14 +1,11 @@
 -- What a stop leaves of a desk of ours.
 use Rattle.std.specs.Prelude.{◌≡◌, [], List, true}
 use Rattle.sqlite.specs.{Effect.Database, Held.state}
-use Rattle.sqlite_catalog.specs.Listing.{IsSound}
-use Rattle.sqlite_schema.specs.declared.schema.Schema.{Schema}
+use Rattle.{sqlite_catalog.specs.Listing.IsSound, sqlite_schema.specs.declared.schema.Schema.Schema}
 use Rattle.sqlite_trees.specs.{Tree.Trees, declared.store.Store.Ghosts}
-use Rattle.review_words.specs.History.{Entry}
-use Rattle.review_sql_tables.specs.Desk.{schema_0}
+use Rattle.{review_words.specs.History.Entry, review_sql_tables.specs.Desk.schema_0}
 use Rattle.review_machine_rows.specs.{Answer.IsHistory, Rows.Tables, Shelf.Shown, View.IsView}
-use Rattle.review_sql_lookups.specs.Tables.{tables_at}
-use Rattle.review_sql_writes.specs.First.{MakesDesk}
+use Rattle.{review_sql_lookups.specs.Tables.tables_at, review_sql_writes.specs.First.MakesDesk}
 use Rattle.review_sql.specs.Shelf.{AreLeftOfOurs, AreOurs, ShelfView, shown}
 
 -- all tables that a stop may leave are those of histories

@@ -1,9 +1,8 @@
 -- What look-ups tell that are made one after the other.
 use Rattle.std.specs.Prelude.{◌≡◌, ◌⊎◌, Bool, true, false, Result, Ok, Err}
-use Rattle.std.specs.declared.alloc.AllocError.{AllocError}
-use Rattle.sqlite.specs.{Held.Held, Held.state, declared.error.Error.Error}
-use Rattle.sqlite_trees.specs.{Tree.Trees, declared.store.Store.Ghosts}
-use Rattle.review_sql_tables.specs.Ran.{Looks}
+use Rattle.{std.specs.declared.alloc.AllocError.AllocError, sqlite.specs.Held.Held, sqlite.specs.Held.state}
+use Rattle.{sqlite.specs.declared.error.Error.Error, sqlite_trees.specs.Tree.Trees}
+use Rattle.{sqlite_trees.specs.declared.store.Store.Ghosts, review_sql_tables.specs.Ran.Looks}
 use Rattle.review_machine_rows.specs.Known.{Agrees, Found, Learns, LearnsFound}
 use Rattle.review_machine_rows.specs.{Shelf.IsDamaged, declared.rows.Rows.Rows, declared.rows.Want.Want}
 use Rattle.review_sql_lookups.specs.{Counts.AreBounded, Loads.AreLoaded, Tables.tables_at}

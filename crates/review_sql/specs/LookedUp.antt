@@ -1,8 +1,6 @@
 -- What is seen of an identity.
 use Rattle.std.specs.Prelude.{ℕ, ◌≡◌, true, false, nat_lt}
-use Rattle.sqlite_trees.specs.Tree.{Trees}
-use Rattle.review_words.specs.History.{Identity}
-use Rattle.review_sql_tables.specs.Search.{row_at}
+use Rattle.{sqlite_trees.specs.Tree.Trees, review_words.specs.History.Identity, review_sql_tables.specs.Search.row_at}
 use Rattle.review_machine_rows.specs.{Rows.Tables, Shelf.Answers, Shelf.IsClosedIn}
 use Rattle.review_sql_records.specs.{Forms.answers, declared.rows.RequestKey.RequestKey}
 use Rattle.review_sql_lookups.specs.Tables.{stored_as}

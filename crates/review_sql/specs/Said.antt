@@ -3,8 +3,7 @@ use Rattle.std.specs.List.{AllByRecursion}
 use Rattle.std.specs.Prelude.{ℕ, ◌≡◌, ◌≢◌, ◌⊎◌, List, [], ◌∷◌, Option, Some, None, Ok}
 use Rattle.sqlite.specs.{Effect.Database, Effect.Reads, Listing.understood}
 use Rattle.sqlite_resolve.specs.declared.compiled.Compiled.{Compiled}
-use Rattle.sqlite_value.specs.Order.{Row, column}
-use Rattle.review_words.specs.Epochs.{is_epoch}
+use Rattle.{sqlite_value.specs.Order.Row, sqlite_value.specs.Order.column, review_words.specs.Epochs.is_epoch}
 use Rattle.review_sql_tables.specs.{Columns.number_in, Versions.version_number}
 use Rattle.review_sql_tables.specs.declared.texts.TheConstants.{FIND_DESK, FIND_EPOCHS}
 use Rattle.review_sql_tables.specs.declared.versions.TablesVersion.{TablesVersion}

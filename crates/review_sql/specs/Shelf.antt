@@ -4,8 +4,7 @@ use Rattle.std.specs.{Coded.Coded, Coded.code_by, Coded.coded×, Coded.coded_ℕ
 use Rattle.std.specs.Prelude.{ℕ, ◌≡◌, ◌≤◌, ◌⊎◌, map, false, Bool, List, Option, Some, None, Result, Ok, Err, IsTrue, if◌then◌else◌, refl, min}
 use Rattle.sqlite.specs.{Effect.Database, Held.Held, Held.held_code, Held.state, Listing.understood}
 use Rattle.sqlite.specs.State.{State, HasCleanDisk, Survives}
-use Rattle.sqlite_resolve.specs.declared.compiled.Compiled.{Compiled}
-use Rattle.sqlite_schema.specs.declared.schema.Schema.{Schema}
+use Rattle.{sqlite_resolve.specs.declared.compiled.Compiled.Compiled, sqlite_schema.specs.declared.schema.Schema.Schema}
 use Rattle.sqlite_trees.specs.{Tree.Trees, declared.store.Store.Ghosts}
 use Rattle.review_sql_tables.specs.{Desk.desk_schema, Ran.IsReady}
 use Rattle.review_sql_tables.specs.declared.texts.TheConstants.{ANY_ROW, READ_ROWS, READ_ROWS_1, READ_ROWS_2}

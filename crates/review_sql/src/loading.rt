@@ -1,8 +1,6 @@
 //! What the look-ups of a need find.
 ghost use Rattle.std.specs.Prelude.{◌≡◌, None, false, IfOk, OnOk};
-ghost use Rattle.sqlite.specs.Held.{state};
-ghost use Rattle.sqlite_trees.specs.Tree.{Trees};
-ghost use Rattle.review_table.specs.Rows.{rows_of};
+ghost use Rattle.{sqlite.specs.Held.state, sqlite_trees.specs.Tree.Trees, review_table.specs.Rows.rows_of};
 ghost use Rattle.review_sql_tables.specs.Ran.{Looks, Serves};
 ghost use Rattle.review_machine_rows.specs.Known.{AreAsked, HasMembers, Learns, group_of, held, known, meaning};
 ghost use Rattle.review_sql_lookups.specs.{Counts.SeesBounded, Loads.IfTold, Loads.Sees, Loads.WereAsked};

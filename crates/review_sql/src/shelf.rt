@@ -1,8 +1,7 @@
 //! A shelf in SQLite.
 ghost use Rattle.std.specs.Bool.{Decides};
 ghost use Rattle.std.specs.Prelude.{ℕ, ◌≡◌, ◌≢◌, ◌≤◌, ◌⊎◌, Some, None, true, false, IfOk, IfErr, IsTrue, min};
-ghost use Rattle.sqlite.specs.{Held.state, State.HasCleanDisk};
-ghost use Rattle.review_sql_tables.specs.Desk.{schema_0};
+ghost use Rattle.{sqlite.specs.Held.state, sqlite.specs.State.HasCleanDisk, review_sql_tables.specs.Desk.schema_0};
 ghost use Rattle.review_machine_rows.specs.Rows.{ClosedEpochs, Tables, kept_row};
 ghost use Rattle.review_machine_rows.specs.Shelf.{CountsFaults, IsCounted, IsRecalled, greatest_count};
 ghost use Rattle.review_sql.specs.{LookedUp.IsLookedUpIn, Shelf.Stays, Shelf.answer_of};

@@ -1,7 +1,6 @@
 -- The patch set of a change that has the greatest number.
 use Rattle.std.proofs.Common.{◌≡◌, ◌∙◌, ◌<◌, ℕ, pos, ◌&&◌, [], ◌∷◌, Bool, true, false, Option, Some, None, nat_le, filter, leb-true, leb-false, refl, sym, ap, subst, ⊎_elim, inl, arith}
-use Rattle.std.specs.Option.{IsSome}
-use Rattle.sqlite_trees.specs.Tree.{Trees}
+use Rattle.{std.specs.Option.IsSome, sqlite_trees.specs.Tree.Trees}
 use Rattle.sqlite_value.specs.declared.value.Value.TheVariants.{Int}
 use Rattle.review_names.specs.Forms.{is_within, most_patches}
 use Rattle.review_sql_tables.specs.{Content.has_key, Greatest.HasGreatest}

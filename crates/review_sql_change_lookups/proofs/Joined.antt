@@ -4,9 +4,7 @@ use Rattle.std.proofs.lemmas.Bool.{and_from, and_parts, cases_lt}
 use Rattle.std.proofs.lemmas.List.Elements.{All-push, Contains-append_left, Contains-push}
 use Rattle.std.proofs.lemmas.{List.Quantifiers.all_pairs_push, Option.same_Some}
 use Rattle.std.specs.{List.Contains, Prelude.AllPairs}
-use Rattle.sqlite.specs.State.{State}
-use Rattle.sqlite_rules.specs.Lists.{Has}
-use Rattle.sqlite_trees.specs.Tree.{Trees}
+use Rattle.{sqlite.specs.State.State, sqlite_rules.specs.Lists.Has, sqlite_trees.specs.Tree.Trees}
 use Rattle.sqlite_value.specs.{Order.Row as Raw, Order.column, declared.value.Value.TheVariants.Int}
 use Rattle.review_names.specs.Forms.{is_within, most_changes}
 use Rattle.review_words.specs.declared.shown.JoinedChange.{JoinedChange}

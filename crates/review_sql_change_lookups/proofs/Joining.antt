@@ -1,14 +1,11 @@
 -- The last place that a change joined a branch at.
 use Rattle.std.proofs.Common.{◌≡◌, ◌∙◌, ℕ, pos, List, Bool, true, false, Option, Some, None, is_gt, refl, sym, ap, subst, inl, inr}
 use Rattle.std.proofs.lemmas.{Bool.and_from, Bool.both_ways, Option.same_Some}
-use Rattle.std.specs.Ordering.{is_eq}
-use Rattle.sqlite_rules.specs.Lists.{Has}
-use Rattle.sqlite_trees.specs.Tree.{Trees}
+use Rattle.{std.specs.Ordering.is_eq, sqlite_rules.specs.Lists.Has, sqlite_trees.specs.Tree.Trees}
 use Rattle.sqlite_value.proofs.OrderLemmas.{value_cmp-Int}
 use Rattle.sqlite_value.specs.Order.{Row as Raw, column, value_cmp}
 use Rattle.sqlite_value.specs.declared.value.Value.TheVariants.{Int, Text}
-use Rattle.review_names.specs.Forms.{is_slashed_name}
-use Rattle.review_words.specs.declared.shown.State.{State}
+use Rattle.{review_names.specs.Forms.is_slashed_name, review_words.specs.declared.shown.State.State}
 use Rattle.review_sql_tables.specs.{Content.has_key, Greatest.HasGreatest, Search.reads, Search.row_at, Search.rows_at}
 use Rattle.review_core_rules.specs.{Parts.AHeader, declared.rows.Header.Header}
 use Rattle.review_machine_rows.specs.Known.{IsAtPlace, IsLastJoined}

@@ -3,8 +3,7 @@ use Rattle.std.proofs.Common.{◌≡◌, ◌∙◌, ◌⊎◌, ◌<◌, ◌≤�
 use Rattle.std.proofs.lemmas.Bool.{cases_Bool, and_from, and_parts}
 use Rattle.std.proofs.lemmas.Option.{same_Some, slice_get-get_or, slice_get_within}
 use Rattle.std.specs.{Ordering.is_eq, Prelude.slice_get, Prelude.slice_index_or}
-use Rattle.sqlite_rules.specs.Lists.{Has}
-use Rattle.sqlite_trees.specs.Tree.{Trees}
+use Rattle.{sqlite_rules.specs.Lists.Has, sqlite_trees.specs.Tree.Trees}
 use Rattle.sqlite_value.specs.Order.{Row as Raw, column, value_cmp}
 use Rattle.sqlite_value.specs.declared.value.Value.TheVariants.{Int, Text}
 use Rattle.review_names.specs.Forms.{is_slashed_name, is_within, most_changes, most_patches}

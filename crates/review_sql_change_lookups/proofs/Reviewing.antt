@@ -1,13 +1,12 @@
 -- What the tables of a change tell.
 use Rattle.std.proofs.Common.{◌≡◌, ◌∙◌, ◌⊎◌, ℕ, ℤ, List, [], ◌∷◌, Bool, true, Option, Some, None, option_map, pos, refl, sym, ap, subst, inl, inr}
 use Rattle.std.proofs.lemmas.{Bool.cases_Bool, Bool.and_parts, Option.same_Some}
-use Rattle.std.specs.{Option.IsSome, Ordering.nat_cmp}
-use Rattle.sqlite_trees.specs.Tree.{Trees}
+use Rattle.{std.specs.Option.IsSome, std.specs.Ordering.nat_cmp, sqlite_trees.specs.Tree.Trees}
 use Rattle.sqlite_value.specs.{Order.column, declared.value.Value.TheVariants.Int}
 use Rattle.review_table.specs.Rows.{row_in, rows_of}
-use Rattle.review_words.specs.declared.changes.Role.{Role}
-use Rattle.review_sql_tables.{proofs.Meaning.all_pass, specs.Content.has_key, specs.Fronts.AreParts}
-use Rattle.review_sql_tables.specs.{Greatest.HasGreatest, Search.only, Search.reads, Search.row_at, Search.rows_at}
+use Rattle.{review_words.specs.declared.changes.Role.Role, review_sql_tables.proofs.Meaning.all_pass}
+use Rattle.review_sql_tables.specs.{Content.has_key, Fronts.AreParts, Greatest.HasGreatest}
+use Rattle.review_sql_tables.specs.Search.{only, reads, row_at, rows_at}
 use Rattle.review_core_rules.specs.Change.{Change}
 use Rattle.review_core_rules.specs.Parts.{Part, TheHeader, PatchOf, VoteOf, RoleOf, CommentOf, AttentionOf, PartRow, AHeader, APatch, AVote, ARole, AComment, AnAttentionEntry, part_row}
 use Rattle.review_core_rules.specs.{Seen.vote_cmp, Votes.voted, declared.rows.AttentionEntry.AttentionEntry}

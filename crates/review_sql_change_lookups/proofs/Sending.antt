@@ -3,11 +3,9 @@ use Rattle.std.proofs.Common.{◌≡◌, ◌∙◌, ◌<◌, ◌≤◌, ◌+◌,
 use Rattle.std.proofs.lemmas.{Bool.and_from, Bool.and_parts, List.take_all}
 use Rattle.std.proofs.lemmas.List.Elements.{All-more, recursion_from_All, All-from_recursion}
 use Rattle.std.proofs.lemmas.{List.Sorted.All-permutation, List.Sorted.IsPermutation-sym, Option.same_Some}
-use Rattle.std.specs.List.{AllByRecursion}
-use Rattle.sqlite.specs.{State.State, declared.error.Error.Error}
+use Rattle.{std.specs.List.AllByRecursion, sqlite.specs.State.State, sqlite.specs.declared.error.Error.Error}
 use Rattle.sqlite_keyed.proofs.ListLemmas.{all_map, all_unmap}
-use Rattle.sqlite_rules.specs.Lists.{Has}
-use Rattle.sqlite_trees.specs.Tree.{Trees}
+use Rattle.{sqlite_rules.specs.Lists.Has, sqlite_trees.specs.Tree.Trees}
 use Rattle.review_chain.specs.declared.links.Standing.TheVariants.{InBranch, PatchSet, Nowhere}
 use Rattle.review_sql_tables.{proofs.Found.look_on, proofs.Found.look_both, specs.Content.has_key, specs.Ran.Looks}
 use Rattle.review_sql_tables.specs.Search.{AreFound, reads, row_at, rows_at}

@@ -1,7 +1,6 @@
 -- Which changes joined a branch.
 use Rattle.std.specs.Prelude.{ℕ, ◌≡◌, ◌<◌, ◌≤◌, ◌⊎◌, List, Option, Some, None}
-use Rattle.sqlite_trees.specs.Tree.{Trees}
-use Rattle.review_words.specs.declared.shown.JoinedChange.{JoinedChange}
+use Rattle.{sqlite_trees.specs.Tree.Trees, review_words.specs.declared.shown.JoinedChange.JoinedChange}
 use Rattle.review_core_rules.specs.{Parts.PatchOf, declared.rows.Header.Header, declared.rows.PatchRow.PatchRow}
 use Rattle.review_machine_rows.specs.{Known.IsAtPlace, Known.IsCurrent, Known.IsJoinedAt, Rows.PartKey, Shelf.IsDamaged}
 use Rattle.review_machine_rows.specs.declared.rows.{BranchKey.BranchKey, PlaceKey.PlaceKey}

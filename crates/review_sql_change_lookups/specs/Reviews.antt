@@ -1,8 +1,7 @@
 -- What is found of a change in its tables.
 use Rattle.std.specs.Ordering.{nat_cmp}
 use Rattle.std.specs.Prelude.{ℕ, ◌+◌, ℤ, ◌≡◌, ◌⊎◌, List, Option, Some, None, IsSome, IfSome, if◌then◌else◌, option_map}
-use Rattle.std.specs.declared.cmp.Ordering.{Ordering}
-use Rattle.sqlite_trees.specs.Tree.{Trees}
+use Rattle.{std.specs.declared.cmp.Ordering.Ordering, sqlite_trees.specs.Tree.Trees}
 use Rattle.review_names.specs.Forms.{is_within, most_changes}
 use Rattle.review_table.specs.Rows.{row_in, rows_of}
 use Rattle.review_words.specs.declared.changes.Role.{Role}

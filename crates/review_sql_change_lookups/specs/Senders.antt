@@ -1,12 +1,10 @@
 -- Which change sent a commit, and which of them is merged with it.
 use Rattle.std.specs.Prelude.{ℕ, ◌≡◌, ◌<◌, ◌&&◌, Bool, true, false, Option, Some, None}
-use Rattle.std.specs.Str.{bytes_eq}
-use Rattle.sqlite_trees.specs.Tree.{Trees}
+use Rattle.{std.specs.Str.bytes_eq, sqlite_trees.specs.Tree.Trees}
 use Rattle.review_words.specs.declared.shown.State.TheVariants.{Merged}
 use Rattle.review_core_rules.specs.{Parts.PatchOf, declared.rows.Header.Header, declared.rows.PatchRow.PatchRow}
-use Rattle.review_machine_rows.specs.Known.{IsInBranch, IsSender}
-use Rattle.review_machine_rows.specs.{Rows.PartKey, Shelf.IsDamaged, declared.rows.Base.Base}
-use Rattle.review_sql_lookups.specs.Tables.{tables_at}
+use Rattle.review_machine_rows.specs.{Known.IsInBranch, Known.IsSender, Rows.PartKey, Shelf.IsDamaged}
+use Rattle.{review_machine_rows.specs.declared.rows.Base.Base, review_sql_lookups.specs.Tables.tables_at}
 
 -- whether it is so; where that is not told, the tables are those of no history
 abbrev pub TellsIf : Trees → Type 0 → Option Bool → Type 0

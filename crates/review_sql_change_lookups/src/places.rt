@@ -1,12 +1,10 @@
 //! The last place that a change joined a branch at is looked up.
 ghost use Rattle.std.specs.Prelude.{◌≡◌, true, false, Some, None, IfOk};
-ghost use Rattle.sqlite.specs.Held.{state};
-ghost use Rattle.sqlite_trees.specs.Tree.{Trees};
+ghost use Rattle.{sqlite.specs.Held.state, sqlite_trees.specs.Tree.Trees};
 ghost use Rattle.review_sql_tables.specs.{Greatest.HasGreatest, Ran.Looks, Search.row_at};
 ghost use Rattle.review_machine_rows.specs.declared.rows.BranchKey.{BranchKey};
 ghost use Rattle.review_sql_change_records.specs.Forms.{change_places, headers};
-ghost use Rattle.review_sql_lookups.specs.Loads.{Sees};
-ghost use Rattle.review_sql_change_lookups.specs.Joins.{IsHeaderAt};
+ghost use Rattle.{review_sql_lookups.specs.Loads.Sees, review_sql_change_lookups.specs.Joins.IsHeaderAt};
 ghost use Rattle.review_machine_rows.specs.declared.rows.Want.TheVariants as want;
 
 use review_core_rules::Header;

@@ -1,8 +1,7 @@
 //! The change that sent a commit is looked up, and what a commit is to a branch.
 ghost use Rattle.std.specs.Bool.{Decides};
 ghost use Rattle.std.specs.Prelude.{◌≡◌, ℕ, Bool, true, false, Some, None, IfOk, MatchBool};
-ghost use Rattle.sqlite.specs.Held.{state};
-ghost use Rattle.sqlite_trees.specs.Tree.{Trees};
+ghost use Rattle.{sqlite.specs.Held.state, sqlite_trees.specs.Tree.Trees};
 ghost use Rattle.review_sql_tables.specs.{Greatest.HasGreatest, Ran.Looks, Search.row_at};
 ghost use Rattle.review_machine_rows.specs.Known.{IsBaseOrNot, StandsAs};
 ghost use Rattle.review_machine_rows.specs.declared.rows.{Base.Base, BranchKey.BranchKey};

@@ -1,7 +1,6 @@
 -- The tables of changes: how their rows are looked up and stored.
 use Rattle.std.specs.Prelude.{ℕ, ℤ, zero, suc, pos, negsuc, ◌&&◌, Bool, true, false, int_le, List, [], ◌∷◌, Option, Some, None, if◌then◌else◌}
-use Rattle.std.specs.Str.{is_utf8}
-use Rattle.sqlite_value.specs.{Order.column, declared.value.Value.Value}
+use Rattle.{std.specs.Str.is_utf8, sqlite_value.specs.Order.column, sqlite_value.specs.declared.value.Value.Value}
 use Rattle.sqlite_value.specs.declared.value.Value.TheVariants.{Null, Int, Real, Text, Blob}
 use Rattle.review_names.specs.Forms.{is_commit, is_label, is_line, is_message, is_place, is_slashed_name, is_within, most_changes, most_comments, most_patches}
 use Rattle.review_names.specs.Kinds.{kind_name, kind_named}

@@ -2,8 +2,7 @@
 use Rattle.std.specs.Prelude.{◌&&◌, Bool, is_some}
 use Rattle.sqlite_value.specs.Order.{Row, column}
 use Rattle.review_names.specs.Forms.{is_label, is_within, most_changes, most_comments, most_patches}
-use Rattle.review_names.specs.Names.{is_account_number}
-use Rattle.review_sql_tables.specs.Columns.{text_in}
+use Rattle.{review_names.specs.Names.is_account_number, review_sql_tables.specs.Columns.text_in}
 use Rattle.review_sql_records.specs.Keyed.{is_number, where_is}
 
 abbrev pub header_keyed : Row → Bool

@@ -1,6 +1,5 @@
 //! The attention sets of changes.
-ghost use Rattle.std.specs.Prelude.{pos};
-ghost use Rattle.review_sql_tables.proofs.TextsOfLookups.{find_calls};
+ghost use Rattle.{std.specs.Prelude.pos, review_sql_tables.proofs.TextsOfLookups.find_calls};
 ghost use Rattle.review_sql_change_records.specs.Forms.{attention_entries, change_attention};
 ghost use Rattle.review_sql_change_records.specs.Laws.{attention_of_change, attention_table};
 ghost use Rattle.review_sql_tables.specs.declared.texts.TheConstants as texts;

@@ -1,6 +1,5 @@
 //! The comments of changes.
-ghost use Rattle.std.specs.Prelude.{pos};
-ghost use Rattle.review_sql_tables.proofs.TextsOfLookups.{find_comments};
+ghost use Rattle.{std.specs.Prelude.pos, review_sql_tables.proofs.TextsOfLookups.find_comments};
 ghost use Rattle.review_sql_change_records.specs.Forms.{answers_number, change_comments, comments, flag_number};
 ghost use Rattle.review_sql_change_records.specs.Laws.{comment_table, comments_of_change};
 ghost use Rattle.review_sql_tables.specs.declared.texts.TheConstants as texts;

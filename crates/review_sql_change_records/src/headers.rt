@@ -1,7 +1,6 @@
 //! The headers of changes.
 ghost use Rattle.std.specs.Prelude.{IfErr, IfOk, OnOk, pos, true, ◌≡◌, ◌≤◌, ◌^◌};
-ghost use Rattle.review_words.specs.States.{state_name};
-ghost use Rattle.review_sql_tables.proofs.TextsOfChanges.{update_change};
+ghost use Rattle.{review_words.specs.States.state_name, review_sql_tables.proofs.TextsOfChanges.update_change};
 ghost use Rattle.review_sql_tables.proofs.TextsOfLookups.{find_change, find_last_change, find_last_joined};
 ghost use Rattle.review_sql_change_records.specs.Forms.{change_numbers, change_places, flag_number, header_form, headers};
 ghost use Rattle.review_sql_change_records.specs.Laws.{header_table};

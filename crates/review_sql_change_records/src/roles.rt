@@ -1,6 +1,5 @@
 //! The reviewers and CCs of changes.
-ghost use Rattle.std.specs.Prelude.{pos};
-ghost use Rattle.review_sql_tables.proofs.TextsOfLookups.{find_reviewers};
+ghost use Rattle.{std.specs.Prelude.pos, review_sql_tables.proofs.TextsOfLookups.find_reviewers};
 ghost use Rattle.review_sql_change_records.specs.Forms.{change_roles, roles};
 ghost use Rattle.review_sql_change_records.specs.Laws.{role_table, roles_of_change};
 ghost use Rattle.review_sql_tables.specs.declared.texts.TheConstants as texts;

@@ -1,6 +1,5 @@
 //! The patch sets that have a commit.
-ghost use Rattle.review_sql_tables.proofs.TextsOfLookups.{find_sent};
-ghost use Rattle.review_sql_change_records.specs.Forms.{sent};
+ghost use Rattle.{review_sql_tables.proofs.TextsOfLookups.find_sent, review_sql_change_records.specs.Forms.sent};
 ghost use Rattle.review_sql_tables.specs.declared.texts.TheConstants as texts;
 
 use crate::values::{change_at, patch_at};

@@ -1,6 +1,5 @@
 //! The votes on changes.
-ghost use Rattle.std.specs.Prelude.{pos};
-ghost use Rattle.review_sql_tables.proofs.TextsOfLookups.{find_votes};
+ghost use Rattle.{std.specs.Prelude.pos, review_sql_tables.proofs.TextsOfLookups.find_votes};
 ghost use Rattle.review_sql_change_records.specs.Forms.{change_votes, votes};
 ghost use Rattle.review_sql_change_records.specs.Laws.{vote_table, votes_of_change};
 ghost use Rattle.review_sql_tables.specs.declared.texts.TheConstants as texts;

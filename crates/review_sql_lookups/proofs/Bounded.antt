@@ -3,8 +3,7 @@ use Rattle.std.proofs.Common.{◌≡◌, ◌∙◌, ◌≤◌, ◌+◌, ℕ, suc
 use Rattle.std.proofs.lemmas.{Bool.cases_Bool, Bool.Decides.leb_tells, Cmp.nat_list_cmp_total, Cmp.tied_itself}
 use Rattle.std.proofs.lemmas.{Map.Lookups.exact_bytes, Option.same_Some, Slice.Eq.bytes_eq-Decides}
 use Rattle.std.specs.{BTreeMap.is_at, Cmp.Lexicographic.slice_cmp, Ordering.nat_cmp, Ordering.is_eq, Str.bytes_eq}
-use Rattle.std.specs.declared.alloc.AllocError.{AllocError}
-use Rattle.review_table.specs.Rows.{row_in}
+use Rattle.{std.specs.declared.alloc.AllocError.AllocError, review_table.specs.Rows.row_in}
 use Rattle.review_sql_tables.{proofs.Keys.equal_is, specs.Greatest.as_counted}
 use Rattle.review_machine_rows.specs.Limits.{most_bases}
 use Rattle.review_machine_rows.specs.Rows.{Row, BaseKey, BasesOf, AnswerRow, Tables, count_put}

@@ -4,13 +4,10 @@ use Rattle.std.proofs.lemmas.Bool.{lt-ltb, cases_Bool, and_from, and_parts, both
 use Rattle.std.proofs.lemmas.{Cmp.nat_list_eq_equiv, Option.same_Some}
 use Rattle.std.specs.{Ordering.nat_cmp, Ordering.int_cmp, Ordering.is_eq, Str.bytes_eq, Str.is_utf8}
 use Rattle.sqlite_keyed.proofs.ListLemmas.{all_weaker, filter_none}
-use Rattle.sqlite_rules.specs.Lists.{Has}
-use Rattle.sqlite_trees.specs.Tree.{Trees}
-use Rattle.sqlite_value.proofs.OrderLemmas.{value_cmp-Int}
+use Rattle.{sqlite_rules.specs.Lists.Has, sqlite_trees.specs.Tree.Trees, sqlite_value.proofs.OrderLemmas.value_cmp-Int}
 use Rattle.sqlite_value.specs.{Order.Row as Raw, Order.column, Order.value_cmp, declared.value.Value.Value}
 use Rattle.sqlite_value.specs.declared.value.Value.TheVariants.{Null, Int, Real, Text, Blob}
-use Rattle.review_names.specs.{Forms.is_commit, Names.is_word}
-use Rattle.review_table.specs.Rows.{row_in}
+use Rattle.{review_names.specs.Forms.is_commit, review_names.specs.Names.is_word, review_table.specs.Rows.row_in}
 use Rattle.review_words.specs.History.{Entry, is_listed, bases as history_bases}
 use Rattle.review_sql_tables.proofs.{Keys.int_is, Keys.itself, Meaning.all_pass}
 use Rattle.review_sql_tables.specs.{Columns.number_in, Columns.text_in, Content.has_key, Content.is_value}

@@ -1,8 +1,7 @@
 -- What a shelf knows of how many requests were stored, how many projects there are, and how many bases they have.
 use Rattle.std.specs.{BTreeMap.is_at, Cmp.Lexicographic.slice_cmp, Ordering.nat_cmp}
 use Rattle.std.specs.Prelude.{ℕ, ◌≡◌, ◌+◌, ◌<◌, ◌≤◌, false, List, Some, IfSome}
-use Rattle.sqlite_trees.specs.Tree.{Trees}
-use Rattle.review_table.specs.Rows.{row_in, rows_of}
+use Rattle.{sqlite_trees.specs.Tree.Trees, review_table.specs.Rows.row_in, review_table.specs.Rows.rows_of}
 use Rattle.review_machine_rows.specs.Limits.{most_bases, most_projects}
 use Rattle.review_machine_rows.specs.{Rows.BasesOf, Rows.Projects, Rows.Tables, declared.rows.Want.Want}
 use Rattle.review_sql_lookups.specs.{Loads.Sees, Tables.tables_at}

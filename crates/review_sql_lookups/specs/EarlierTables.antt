@@ -1,8 +1,6 @@
 -- A database as the tables of a desk of an earlier version.
 use Rattle.std.specs.Prelude.{ℕ, ◌≡◌, ◌==◌, Bool, List, length, Option, Some, None, if◌then◌else◌}
-use Rattle.sqlite_trees.specs.Tree.{Trees}
-use Rattle.sqlite_value.specs.Order.{Row as Raw}
-use Rattle.review_words.specs.History.{Identity}
+use Rattle.{sqlite_trees.specs.Tree.Trees, sqlite_value.specs.Order.Row as Raw, review_words.specs.History.Identity}
 use Rattle.review_sql_tables.specs.{Search.Search, Search.row_at, Versions.version_number, Versions.version_of}
 use Rattle.review_sql_tables.specs.declared.versions.EarlierVersion.{EarlierVersion}
 use Rattle.review_machine_rows.specs.Rows.{Key, FileKey, OddKey, Row, FileRow, OddRow, Count, Projects, ClosedEpochs, Stored, Tables}

@@ -1,8 +1,7 @@
 -- What look-ups in the tables of a desk give.
 use Rattle.std.specs.Ordering.{nat_cmp}
 use Rattle.std.specs.Prelude.{ℕ, ◌≡◌, List, Option, Some, None}
-use Rattle.sqlite_trees.specs.Tree.{Trees}
-use Rattle.review_table.specs.Rows.{row_in}
+use Rattle.{sqlite_trees.specs.Tree.Trees, review_table.specs.Rows.row_in}
 use Rattle.review_machine_rows.specs.Known.{at_place, AreAsked, Agrees, IsFound, meaning}
 use Rattle.review_machine_rows.specs.{Rows.Tables, Shelf.IsDamaged, declared.rows.Want.Want}
 use Rattle.review_sql_lookups.specs.{Tables.tables_at, declared.sights.Loaded.Loaded, declared.sights.Sight.Sight}

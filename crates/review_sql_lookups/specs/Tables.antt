@@ -1,9 +1,8 @@
 -- A database as the tables of a desk.
 use Rattle.std.specs.List.{list_any}
 use Rattle.std.specs.Prelude.{option_map, ℤ, ℕ, ◌≡◌, Bool, not, List, [], ◌∷◌, length, Option, Some, None, if◌then◌else◌}
-use Rattle.sqlite_trees.specs.Tree.{Trees}
-use Rattle.sqlite_value.specs.{Order.Row as Raw, declared.value.Value.TheVariants.Text}
-use Rattle.review_words.specs.History.{Identity}
+use Rattle.{sqlite_trees.specs.Tree.Trees, sqlite_value.specs.Order.Row as Raw}
+use Rattle.{sqlite_value.specs.declared.value.Value.TheVariants.Text, review_words.specs.History.Identity}
 use Rattle.review_sql_tables.specs.Search.{rows_at, row_at}
 use Rattle.review_core_rules.specs.Parts.{Part, TheHeader, PatchOf, VoteOf, RoleOf, CommentOf, AttentionOf, AHeader, APatch, ARole, AComment, AnAttentionEntry}
 use Rattle.review_machine_rows.specs.Rows.{Key, AccountKey, MemberKey, FileKey, BaseKey, PartKey, OddKey, Row, AccountRow, MemberRow, FileRow, BaseRow, APart, OddRow, vote_row, Count, Projects, BasesOf, ClosedEpochs, Stored, Answered, OddAnswer, Tables}

@@ -1,10 +1,8 @@
 //! What is looked up of projects, of the bases of their branches, and of the desk.
 ghost use Rattle.std.specs.Ordering.{nat_cmp};
 ghost use Rattle.std.specs.Prelude.{◌≡◌, ◌∷◌, [], true, false, ℕ, List, Some, None, option_map, IfOk, length, nat_lt};
-ghost use Rattle.sqlite.specs.Held.{state};
-ghost use Rattle.sqlite_trees.specs.Tree.{Trees};
-ghost use Rattle.sqlite_value.specs.declared.value.Value.TheVariants.{Text};
-ghost use Rattle.review_table.specs.Rows.{rows_of};
+ghost use Rattle.{sqlite.specs.Held.state, sqlite_trees.specs.Tree.Trees};
+ghost use Rattle.{sqlite_value.specs.declared.value.Value.TheVariants.Text, review_table.specs.Rows.rows_of};
 ghost use Rattle.review_sql_tables.specs.{Fronts.AreParts, Greatest.as_counted, Greatest.HasGreatest, Greatest.HasOne};
 ghost use Rattle.review_sql_tables.specs.{Ran.Looks, Search.row_at, Search.rows_at};
 ghost use Rattle.review_machine_rows.specs.Limits.{most_bases, most_projects};

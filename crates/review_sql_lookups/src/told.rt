@@ -1,8 +1,6 @@
 //! Look-ups of one row, whatever the table: what was found is told, and looked up once for all.
 ghost use Rattle.std.specs.Prelude.{◌≡◌};
-ghost use Rattle.sqlite.specs.Held.{state};
-ghost use Rattle.review_sql_tables.specs.Ran.{Looks};
-ghost use Rattle.review_sql_lookups.specs.Loads.{Sees};
+ghost use Rattle.{sqlite.specs.Held.state, review_sql_tables.specs.Ran.Looks, review_sql_lookups.specs.Loads.Sees};
 
 use crate::Sight;
 use review_sql_tables::greatest::{Greatest, find_greatest};
@@ -14,10 +12,8 @@ use std::alloc::Global;
 /// A look-up by the one row of a key.
 pub trait Told: Lookup {
     ghost use Rattle.std.specs.Prelude.{◌≡◌};
-    ghost use Rattle.sqlite_trees.specs.Tree.{Trees};
-    ghost use Rattle.review_sql_tables.specs.Search.{row_at};
-    ghost use Rattle.review_machine_rows.specs.declared.rows.Want.{Want};
-    ghost use Rattle.review_sql_lookups.specs.Loads.{Sees};
+    ghost use Rattle.{sqlite_trees.specs.Tree.Trees, review_sql_tables.specs.Search.row_at};
+    ghost use Rattle.{review_machine_rows.specs.declared.rows.Want.Want, review_sql_lookups.specs.Loads.Sees};
 
     /// What is asked by a key.
     ghost asked: { Self.Key → Want };
@@ -30,10 +26,8 @@ pub trait Told: Lookup {
 /// A look-up by the row with the greatest value of a column.
 pub trait ToldByGreatest: Greatest {
     ghost use Rattle.std.specs.Prelude.{◌≡◌};
-    ghost use Rattle.sqlite_trees.specs.Tree.{Trees};
-    ghost use Rattle.review_sql_tables.specs.Greatest.{HasGreatest};
-    ghost use Rattle.review_machine_rows.specs.declared.rows.Want.{Want};
-    ghost use Rattle.review_sql_lookups.specs.Loads.{Sees};
+    ghost use Rattle.{sqlite_trees.specs.Tree.Trees, review_sql_tables.specs.Greatest.HasGreatest};
+    ghost use Rattle.{review_machine_rows.specs.declared.rows.Want.Want, review_sql_lookups.specs.Loads.Sees};
 
     /// What is asked by a key.
     ghost asked: { Self.Key → Want };

@@ -1,8 +1,7 @@
 -- Which stored rows have a key of their table: those whose columns of the key have values of its kinds, so that a look-up by some key may meet them.
 use Rattle.std.specs.Prelude.{ℕ, ◌&&◌, Bool, Option, Some, None, is_some, nat_lt, if◌then◌else◌}
 use Rattle.sqlite_value.specs.{Order.Row, Order.column, declared.value.Value.Value}
-use Rattle.review_names.specs.Names.{is_account_number}
-use Rattle.review_sql_tables.specs.Columns.{number_in}
+use Rattle.{review_names.specs.Names.is_account_number, review_sql_tables.specs.Columns.number_in}
 pub use Rattle.review_sql_tables.specs.Content.{is_natural, is_text}
 
 -- a number below 2^32

@@ -1,7 +1,6 @@
 //! The stored requests.
 ghost use Rattle.std.specs.Prelude.{pos, ◌≡◌, Some};
-ghost use Rattle.sqlite.specs.Held.{state};
-ghost use Rattle.review_sql_tables.proofs.TextsOfLookups.{find_answer};
+ghost use Rattle.{sqlite.specs.Held.state, review_sql_tables.proofs.TextsOfLookups.find_answer};
 ghost use Rattle.review_sql_tables.specs.{Content.RemovesWhere, Ran.Inside, Ran.Opens, Search.SetsRow};
 ghost use Rattle.review_machine_rows.specs.Rows.{kept_row};
 ghost use Rattle.review_sql_records.specs.Forms.{answers, is_of_lower, kept_answer, request_key};

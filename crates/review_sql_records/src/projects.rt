@@ -1,7 +1,6 @@
 //! The projects and their files.
 ghost use Rattle.std.specs.Prelude.{◌≡◌, [], true, Some, IfOk, length};
-ghost use Rattle.sqlite.specs.Held.{state};
-ghost use Rattle.sqlite_value.specs.Order.{column};
+ghost use Rattle.{sqlite.specs.Held.state, sqlite_value.specs.Order.column};
 ghost use Rattle.review_sql_tables.proofs.TextsOfLookups.{find_project, find_project_name};
 ghost use Rattle.review_sql_tables.specs.{Columns.text_in, Greatest.as_counted, Ran.Looks, Search.rows_at};
 ghost use Rattle.review_sql_tables.specs.inner.Words.{ShowsCount};

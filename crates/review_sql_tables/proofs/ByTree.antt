@@ -2,8 +2,7 @@
 use Rattle.std.proofs.Common.{◌≡◌, ℕ, ◌||◌, Bool, true, false, List, [], ◌∷◌, eqb, eqb-true, sym, subst, inl, inr}
 use Rattle.std.proofs.lemmas.Bool.{and_parts, both_ways, cases_Bool, or_cases}
 use Rattle.std.specs.List.{AllByRecursion, list_all, list_any}
-use Rattle.sqlite_schema.specs.declared.schema.Table.{Table}
-use Rattle.sqlite_trees.specs.Tree.{Trees}
+use Rattle.{sqlite_schema.specs.declared.schema.Table.Table, sqlite_trees.specs.Tree.Trees}
 use Rattle.sqlite_value.specs.Order.{Row}
 
 -- one of these tables has this tree

@@ -7,8 +7,7 @@ use Rattle.std.specs.{Cmp.IsTotalOrder, List.AllByRecursion, List.Sorted.IsPermu
 use Rattle.std.specs.Ordering.{ordering_reverse, ordering_then}
 use Rattle.sqlite.{proofs.Callers.reads_as, specs.State.State, specs.State.Shown}
 use Rattle.sqlite_keyed.proofs.ListLemmas.{all_weaker, all_map, all_unmap, filter_same, map-map}
-use Rattle.sqlite_rules.specs.Lists.{Has}
-use Rattle.sqlite_sql.{proofs.QueryLemmas.key_cmp_total, specs.Program.overlay}
+use Rattle.{sqlite_rules.specs.Lists.Has, sqlite_sql.proofs.QueryLemmas.key_cmp_total, sqlite_sql.specs.Program.overlay}
 use Rattle.sqlite_sql.specs.Query.{Query, IsAnswer, Output, output, output_cmp}
 use Rattle.sqlite_sql.specs.Term.{Term, lit, col}
 use Rattle.sqlite_trees.specs.Tree.{Trees}

@@ -6,11 +6,8 @@ use Rattle.std.specs.List.{list_any, AllByRecursion, Sorted.IsPermutation}
 use Rattle.sqlite.proofs.{Callers.one_permutation, StateLemmas.survives_then}
 use Rattle.sqlite.specs.{Effect.Database, State.State, State.HasCleanDisk, declared.error.Error.Error}
 use Rattle.sqlite_keyed.proofs.ListLemmas.{IsPermutation-filter, none_counted, map-map}
-use Rattle.sqlite_rules.specs.Lists.{Has}
-use Rattle.sqlite_trees.specs.Tree.{Trees}
-use Rattle.sqlite_value.specs.Order.{Row}
-use Rattle.review_sql_tables.proofs.Sequences.{keeps_then}
-use Rattle.review_sql_tables.specs.{Greatest.HasOne, Ran.Looks}
+use Rattle.{sqlite_rules.specs.Lists.Has, sqlite_trees.specs.Tree.Trees, sqlite_value.specs.Order.Row}
+use Rattle.review_sql_tables.{proofs.Sequences.keeps_then, specs.Greatest.HasOne, specs.Ran.Looks}
 use Rattle.review_sql_tables.specs.Search.{Search, shown, reads, only, row_at, rows_at, Finds, AreFound}
 use Rattle.review_sql_tables.specs.inner.Words.{first_as, WereRead}
 

@@ -8,14 +8,12 @@ use Rattle.std.proofs.lemmas.Map.Keys.{IsDistinct-from_sorted, IsDistinct-IsPerm
 use Rattle.std.specs.{Bool.Decides, List.AllByRecursion, List.IsDistinct, List.dedup, List.dedup_from}
 use Rattle.std.specs.List.{Retain.IsFiltered, Retain.DiffersFromLast, Sorted.IsPermutation, Sorted.IsSorted}
 use Rattle.std.specs.Ordering.{int_cmp, int_eq, is_eq}
-use Rattle.sqlite_keyed.proofs.ListLemmas.{map-map}
-use Rattle.sqlite_rules.specs.Edit.{is_taken}
+use Rattle.{sqlite_keyed.proofs.ListLemmas.map-map, sqlite_rules.specs.Edit.is_taken}
 use Rattle.sqlite_schema.specs.declared.schema.Table.{Table}
 use Rattle.sqlite_trees.{proofs.ListLemmas.all-permutation, specs.Tree.Trees, specs.Tree.rowid, specs.View.is_int}
 use Rattle.sqlite_value.{proofs.OrderLemmas.value_cmp-Int, specs.Order.Row, specs.Order.column}
 use Rattle.sqlite_value.specs.declared.value.Value.{Value, TheVariants.Int}
-use Rattle.review_sql_tables.proofs.Lists.{eq_back}
-use Rattle.review_sql_tables.specs.{Content.AreApart, Desk.desk_tables}
+use Rattle.review_sql_tables.{proofs.Lists.eq_back, specs.Content.AreApart, specs.Desk.desk_tables}
 use Rattle.review_sql_tables.specs.inner.Rowids.{firsts, is_same, AreOwn, AreIds}
 use Rattle.review_sql_tables.specs.inner.Words.{table_at, FindsIds}
 

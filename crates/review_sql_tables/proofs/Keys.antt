@@ -1,9 +1,7 @@
 -- Rows at keys.
 use Rattle.std.proofs.Common.{◌≡◌, ◌≢◌, ◌∙◌, ◌+◌, ◌≤◌, ℕ, ℤ, pos, List, [], ◌∷◌, filter, length, Bool, true, false, not, Some, None, refl, sym, ap, subst, inl, inr, arith}
 use Rattle.std.proofs.lemmas.{Bool.cases_Bool, Bool.both_ways, Cmp.tied_itself, Map.Lookups.exact_bytes}
-use Rattle.std.specs.Ordering.{is_eq}
-use Rattle.sqlite_keyed.proofs.ListLemmas.{filter-filter}
-use Rattle.sqlite_trees.specs.Tree.{Trees}
+use Rattle.{std.specs.Ordering.is_eq, sqlite_keyed.proofs.ListLemmas.filter-filter, sqlite_trees.specs.Tree.Trees}
 use Rattle.sqlite_value.proofs.OrderLemmas.{value_cmp_total, value_cmp-Text}
 use Rattle.sqlite_value.specs.{Order.Row, Order.value_cmp, declared.value.Value.Value}
 use Rattle.sqlite_value.specs.declared.value.Value.TheVariants.{Null, Int, Real, Text, Blob}

@@ -10,14 +10,11 @@ use Rattle.sqlite_catalog.specs.Change.{created, next_tree, KeepsRows}
 use Rattle.sqlite_resolve.specs.Compile.{table_defined_by}
 use Rattle.sqlite_schema.specs.declared.command.Command.TheVariants.{CreateTable}
 use Rattle.sqlite_schema.specs.declared.schema.{Column.Column, Schema.Schema, Table.Table}
-use Rattle.sqlite_sql.specs.Ops.{is_null}
-use Rattle.sqlite_tied.specs.Compute.{everything}
-use Rattle.sqlite_trees.specs.{Tree.Trees, declared.memory.MemStore.MemStore}
-use Rattle.sqlite_value.specs.declared.value.Value.{Value}
+use Rattle.{sqlite_sql.specs.Ops.is_null, sqlite_tied.specs.Compute.everything, sqlite_trees.specs.Tree.Trees}
+use Rattle.{sqlite_trees.specs.declared.memory.MemStore.MemStore, sqlite_value.specs.declared.value.Value.Value}
 use Rattle.sqlite_value.specs.declared.value.Value.TheVariants.{Null, Int, Real, Text, Blob}
 use Rattle.review_sql_tables.proofs.{Effects.are_simple, Sequences.Next, Statements.went, Statements.same_value}
-use Rattle.review_sql_tables.proofs.TextsOfTables.{◌also◌}
-use Rattle.review_sql_tables.specs.Content.{AreApart}
+use Rattle.review_sql_tables.{proofs.TextsOfTables.◌also◌, specs.Content.AreApart}
 use Rattle.review_sql_tables.specs.Desk.{desk_schema, schema_of, schema_0, tables_1, tables_2, simple}
 use Rattle.review_sql_tables.specs.Made.{MakesText, IsBlank, IsMade, MakesBy, Grows}
 use Rattle.review_sql_tables.specs.Plain.{IsPlainColumn, IsPlainForm, IsPlainSchema}

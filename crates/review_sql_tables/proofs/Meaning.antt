@@ -7,8 +7,7 @@ use Rattle.std.specs.Prelude.{int_lt, pos, negsuc, nat_lt, not}
 use Rattle.std.specs.declared.cmp.Ordering.TheVariants.{Less, Equal, Greater}
 use Rattle.sqlite.{proofs.Callers.reads_as, specs.State.State, specs.State.Shown}
 use Rattle.sqlite_keyed.proofs.ListLemmas.{filter_same, map-map}
-use Rattle.sqlite_rules.specs.Cast.{cast}
-use Rattle.sqlite_schema.specs.declared.schema.Kind.TheVariants.{Integer}
+use Rattle.{sqlite_rules.specs.Cast.cast, sqlite_schema.specs.declared.schema.Kind.TheVariants.Integer}
 use Rattle.sqlite_sql.specs.{Ops.unary, Ops.binary, Ops.is_true, Ops.is_null, Ops.from_truth, Program.overlay}
 use Rattle.sqlite_sql.specs.{Term.col, Term.eval, Term.holds, declared.ops.BinaryOp.TheVariants.Compare}
 use Rattle.sqlite_sql.specs.declared.ops.CompareOp.TheVariants.{Eq, Lt}

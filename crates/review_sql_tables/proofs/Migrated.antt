@@ -3,10 +3,8 @@ use Rattle.std.proofs.Common.{◌≡◌, ◌≢◌, ◌∙◌, ℕ, Bool, true, 
 use Rattle.std.proofs.lemmas.{Bool.eqb-false, Bool.or_parts, List.Sorted.length_permutation}
 use Rattle.std.specs.List.{AllByRecursion, list_all, Sorted.IsPermutation}
 use Rattle.sqlite.specs.{Effect.Database, Listing.understood}
-use Rattle.sqlite_catalog.specs.Change.{next_tree}
-use Rattle.sqlite_schema.specs.declared.schema.Table.{Table}
-use Rattle.sqlite_tied.specs.Compute.{everything}
-use Rattle.sqlite_value.specs.Order.{Row}
+use Rattle.{sqlite_catalog.specs.Change.next_tree, sqlite_schema.specs.declared.schema.Table.Table}
+use Rattle.{sqlite_tied.specs.Compute.everything, sqlite_value.specs.Order.Row}
 use Rattle.review_sql_tables.proofs.ByTree.{all_after, all_both, all_weaker, at_tree, covered, covered_but, has_tree}
 use Rattle.review_sql_tables.proofs.Sequences.{Next}
 use Rattle.review_sql_tables.proofs.TextsOfMoves.{answers_dropped, answers_filled, projects_dropped, projects_filled}

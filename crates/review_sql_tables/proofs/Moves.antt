@@ -7,8 +7,7 @@ use Rattle.sqlite_rules.specs.Edit.{is_taken, put_all, are_fresh, have_rowids, n
 use Rattle.sqlite_rules.specs.declared.error.Rowids.TheVariants.{Chosen}
 use Rattle.sqlite_trees.specs.Tree.{rowid, put_row}
 use Rattle.sqlite_value.specs.Order.{Row, value_cmp}
-use Rattle.review_sql_tables.proofs.Lists.{apart_put}
-use Rattle.review_sql_tables.specs.{Content.AreApart, Moved.columns_of}
+use Rattle.review_sql_tables.{proofs.Lists.apart_put, specs.Content.AreApart, specs.Moved.columns_of}
 
 -- ---- rows put into a tree
 

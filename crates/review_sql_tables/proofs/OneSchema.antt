@@ -7,8 +7,7 @@ use Rattle.std.specs.Ordering.{is_eq, nat_cmp, ordering_then}
 use Rattle.std.specs.Prelude.{codes, filter, pos, slice_get, map}
 use Rattle.std.specs.Str.Parse.{digits_value}
 use Rattle.sqlite_catalog.specs.Listing.{IsTableRow, IsIndexRow, IsViewRow, IsDefined, IsSound, automatic, is_table_row, is_index_row, is_view_row}
-use Rattle.sqlite_resolve.specs.Compile.{table_defined_by}
-use Rattle.sqlite_rules.specs.Lists.{Has}
+use Rattle.{sqlite_resolve.specs.Compile.table_defined_by, sqlite_rules.specs.Lists.Has}
 use Rattle.sqlite_schema.specs.Names.{same_name}
 use Rattle.sqlite_schema.specs.declared.schema.{Index.Index, Schema.Schema, Table.Table, View.View as Stored}
 use Rattle.sqlite_trees.specs.{Objects.catalog_tree, Tree.Trees, Tree.rowid, Tree.IsAscending}

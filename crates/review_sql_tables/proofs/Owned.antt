@@ -7,11 +7,9 @@ use Rattle.std.proofs.lemmas.List.Sorted.{length_permutation, IsPermutation-map,
 use Rattle.std.specs.{BTreeMap.is_at, List.AllByRecursion, List.list_any, List.Sorted.IsPermutation}
 use Rattle.sqlite.proofs.Callers.{one_permutation}
 use Rattle.sqlite_keyed.proofs.ListLemmas.{IsPermutation-filter, filter-map, filter-filter, map-map, all_unmap}
-use Rattle.sqlite_trees.specs.Tree.{Trees}
-use Rattle.sqlite_value.specs.Order.{Row}
-use Rattle.review_table.specs.Rows.{row_in}
-use Rattle.review_sql_tables.proofs.Found.{all_found}
-use Rattle.review_sql_tables.specs.{Content.has_key, Fronts.IsFront, Fronts.IsExact, Fronts.AreParts, Fronts.HaveRows}
+use Rattle.{sqlite_trees.specs.Tree.Trees, sqlite_value.specs.Order.Row, review_table.specs.Rows.row_in}
+use Rattle.review_sql_tables.{proofs.Found.all_found, specs.Content.has_key}
+use Rattle.review_sql_tables.specs.Fronts.{IsFront, IsExact, AreParts, HaveRows}
 use Rattle.review_sql_tables.specs.Search.{Search, HasOdd, shown, reads, row_at, only, rows_at, Finds}
 use Rattle.review_sql_tables.specs.inner.Words.{WereApart, WereSorted, HasTwins, is_of, at_key}
 

@@ -1,8 +1,7 @@
 -- What a query over one table shows.
 use Rattle.std.proofs.Common.{◌≡◌, ℕ, List, [], ◌∷◌, true, false, refl, Bool, subst₂, map, filter, ap, ◌∙◌, ◌++◌, if◌then◌else◌, sym}
-use Rattle.std.proofs.lemmas.List.Sorted.{IsPermutation-map}
-use Rattle.std.specs.List.{list_all, flat_map, Sorted.IsPermutation}
-use Rattle.sqlite_keyed.proofs.ListLemmas.{map-map}
+use Rattle.std.{proofs.lemmas.List.Sorted.IsPermutation-map, specs.List.list_all, specs.List.flat_map}
+use Rattle.{std.specs.List.Sorted.IsPermutation, sqlite_keyed.proofs.ListLemmas.map-map}
 use Rattle.sqlite_sql.specs.{Program.overlay, Query.Query, Query.IsAnswer, Query.output, Query.Output}
 use Rattle.sqlite_sql.specs.Term.{Term, holds, eval_all}
 use Rattle.sqlite_trees.specs.Tree.{Trees}

@@ -1,15 +1,13 @@
 -- Statements one after the other, and the transaction around them.
 use Rattle.std.proofs.Common.{◌≡◌, ◌∙◌, ◌⊎◌, inl, inr, ℕ, List, true, false, refl, sym, ap, subst, IsTrue, Ok, Err, Result, OnOk, OnErr, IfErr, arith, [], Option, Some, None, IfOk}
-use Rattle.std.proofs.lemmas.Bool.{cases_Bool}
-use Rattle.sqlite.proofs.{Callers.IsPlain, StateLemmas.survives_then}
+use Rattle.{std.proofs.lemmas.Bool.cases_Bool, sqlite.proofs.Callers.IsPlain, sqlite.proofs.StateLemmas.survives_then}
 use Rattle.sqlite.specs.{Clock.timed, Effect.Database, Listing.understood}
 use Rattle.sqlite.specs.State.{RunsCommand, shows_rows, store_error, ExecutesIn, FailsToQuery, FailsToShow, Shown, ShowsRows, IsNotRun, IsTooLate, State, HasCleanDisk, Survives, KeepsCommit, IsUnchanged, IsRolledBack, Executes, ExecutesInside, Shows, KeepsCounts}
 use Rattle.sqlite.specs.{Steps.FailsToCommit, declared.error.Error.Error}
 use Rattle.sqlite_schema.specs.declared.command.Returning.{Returning}
 use Rattle.sqlite_trees.specs.{Tree.Trees, declared.error.StoreError.StoreError}
 use Rattle.sqlite_trees.specs.declared.error.StoreError.TheVariants.{OutOfMemory, Io, Corrupt, Full, Broken, Unstorable}
-use Rattle.sqlite_value.specs.Order.{Row}
-use Rattle.review_sql_tables.specs.Desk.{desk_schema}
+use Rattle.{sqlite_value.specs.Order.Row, review_sql_tables.specs.Desk.desk_schema}
 use Rattle.review_sql_tables.specs.Ran.{count_in, is_violation, IsReady, IsDeskIfOpen, Within, OnDesk, Inside, Transacts, Looks, Serves}
 use Rattle.review_sql_tables.specs.inner.Words.{Then}
 

@@ -6,10 +6,9 @@ use Rattle.sqlite.specs.Effect.{Database}
 use Rattle.sqlite_catalog.{proofs.AlterLemmas.keys_are_unique, specs.Listing.IsSound}
 use Rattle.sqlite_rules.{proofs.TableLemmas.int_is, specs.Edit.is_taken, specs.Edit.id_in, specs.Lists.Has}
 use Rattle.sqlite_schema.specs.{Rules.agree, Rules.clashes, Rules.equal, Rules.differ, declared.schema.Table.Table}
-use Rattle.sqlite_sql.specs.Ops.{binary, is_null}
-use Rattle.sqlite_trees.specs.{Tree.rowid, View.is_int}
-use Rattle.sqlite_value.{proofs.OrderLemmas.value_cmp-Null, specs.Keys.plain, specs.Keys.first_key}
-use Rattle.sqlite_value.specs.Order.{Row, column, value_cmp}
+use Rattle.{sqlite_sql.specs.Ops.binary, sqlite_sql.specs.Ops.is_null, sqlite_trees.specs.Tree.rowid}
+use Rattle.{sqlite_trees.specs.View.is_int, sqlite_value.proofs.OrderLemmas.value_cmp-Null}
+use Rattle.sqlite_value.specs.{Keys.plain, Keys.first_key, Order.Row, Order.column, Order.value_cmp}
 use Rattle.sqlite_value.specs.declared.{keys.Collation.TheVariants.Binary, value.Value.Value}
 use Rattle.sqlite_value.specs.declared.value.Value.TheVariants.{Null, Int, Real, Text, Blob}
 use Rattle.review_sql_tables.proofs.{Effects.is_there, Keys.int_is as whole_is, Keys.itself, Keys.same_value}

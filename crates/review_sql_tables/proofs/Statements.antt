@@ -19,9 +19,8 @@ use Rattle.sqlite_schema.specs.declared.command.Source.{Source, TheVariants.Valu
 use Rattle.sqlite_schema.specs.declared.program.Program.{Program}
 use Rattle.sqlite_schema.specs.declared.schema.{Column.Column, Keys.TheVariants.Enforced, Schema.Schema, Table.Table}
 use Rattle.sqlite_sql.specs.{Program.overlay, Term.Term, Term.col, Term.eval_all}
-use Rattle.sqlite_trees.proofs.ListLemmas.{all-permutation}
-use Rattle.sqlite_trees.specs.{Tree.Trees, Tree.rowid, Tree.put_row, View.is_int}
-use Rattle.sqlite_value.specs.Order.{Row, column}
+use Rattle.sqlite_trees.{proofs.ListLemmas.all-permutation, specs.Tree.Trees, specs.Tree.rowid, specs.Tree.put_row}
+use Rattle.{sqlite_trees.specs.View.is_int, sqlite_value.specs.Order.Row, sqlite_value.specs.Order.column}
 use Rattle.sqlite_value.specs.declared.{keys.Order.Order, value.Value.Value, value.Value.TheVariants.Null}
 use Rattle.review_sql_tables.proofs.Lists.{id_of, added, removed, apart_put, apart_filter}
 use Rattle.review_sql_tables.proofs.Moves.{apart_all, put_in_empty}

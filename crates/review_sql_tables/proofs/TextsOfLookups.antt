@@ -1,7 +1,6 @@
 -- What the texts of look-ups are understood as.
 use Rattle.std.proofs.Common.{ℕ, ℤ, List, [], ◌∷◌, codes, refl}
-use Rattle.sqlite.specs.Listing.{understood}
-use Rattle.sqlite_tied.specs.Compute.{everything}
+use Rattle.{sqlite.specs.Listing.understood, sqlite_tied.specs.Compute.everything}
 use Rattle.sqlite_value.specs.declared.value.Value.TheVariants.{Int, Text}
 use Rattle.review_sql_tables.specs.Desk.{accounts, members, projects_2, bases, changes, patches, votes, reviewers, comments, attention, answers_3, desk, epochs}
 use Rattle.review_sql_tables.specs.Texts.{Asks, rows_where, last_where}

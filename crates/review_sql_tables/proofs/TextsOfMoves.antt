@@ -5,14 +5,13 @@ use Rattle.std.specs.List.{AllByRecursion, Sorted.IsPermutation}
 use Rattle.sqlite.proofs.Callers.{IsPlain, command_of, statement_of, runs_as}
 use Rattle.sqlite.specs.{Does.is_acted_on, Listing.understood, State.State, State.Executes}
 use Rattle.sqlite_catalog.specs.Change.{without_table, KeepsRows}
-use Rattle.sqlite_keyed.proofs.ListLemmas.{map-map}
-use Rattle.sqlite_rules.specs.Cast.{cast_row}
+use Rattle.{sqlite_keyed.proofs.ListLemmas.map-map, sqlite_rules.specs.Cast.cast_row}
 use Rattle.sqlite_schema.specs.declared.command.Command.TheVariants.{Insert, DropTable}
 use Rattle.sqlite_schema.specs.declared.{command.Source.TheVariants.Query, program.Program.Program}
 use Rattle.sqlite_schema.specs.declared.schema.{Keys.TheVariants.Enforced, Schema.Schema}
 use Rattle.sqlite_sql.specs.Term.{Term, lit, col}
-use Rattle.sqlite_tied.specs.Compute.{everything}
-use Rattle.sqlite_value.specs.{Order.Row, declared.keys.Collation.Collation, declared.keys.Collation.TheVariants.Binary}
+use Rattle.{sqlite_tied.specs.Compute.everything, sqlite_value.specs.Order.Row}
+use Rattle.sqlite_value.specs.declared.keys.Collation.{Collation, TheVariants.Binary}
 use Rattle.sqlite_value.specs.declared.value.Value.TheVariants.{Null, Int, Text}
 use Rattle.review_sql_tables.proofs.{Meaning.plain, Meaning.cast_int, Queries.selects_by, Queries.shows, Queries.passes}
 use Rattle.review_sql_tables.proofs.Statements.{copies_in, drops_in}

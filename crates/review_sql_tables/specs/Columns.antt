@@ -1,7 +1,6 @@
 -- How values of columns read.
 use Rattle.std.specs.Prelude.{ℕ, pos, List, Option, Some, None, if◌then◌else◌}
-use Rattle.std.specs.Str.{is_utf8}
-use Rattle.sqlite_value.specs.declared.value.Value.{Value}
+use Rattle.{std.specs.Str.is_utf8, sqlite_value.specs.declared.value.Value.Value}
 use Rattle.sqlite_value.specs.declared.value.Value.TheVariants.{Null, Int, Real, Text, Blob}
 
 -- a number that is not negative, where the value is one

@@ -1,9 +1,8 @@
 -- The tables of a desk.
 use Rattle.std.specs.List.{flat_map, list_any}
 use Rattle.std.specs.Prelude.{[], true, false, List, ℕ, Option, ◌∷◌, Some, codes, None, ◌+◌, Bool, ◌==◌}
-use Rattle.sqlite_catalog.specs.Change.{automatics}
-use Rattle.sqlite_schema.specs.declared.schema.{Column.Column, Index.Index, Kind.Kind}
-use Rattle.sqlite_schema.specs.declared.schema.Kind.TheVariants.{Integer, Text}
+use Rattle.{sqlite_catalog.specs.Change.automatics, sqlite_schema.specs.declared.schema.Column.Column}
+use Rattle.sqlite_schema.specs.declared.schema.{Index.Index, Kind.Kind, Kind.TheVariants.Integer, Kind.TheVariants.Text}
 use Rattle.sqlite_schema.specs.declared.schema.{Schema.Schema, Table.Table}
 use Rattle.sqlite_value.specs.{Keys.plain, declared.keys.Collation.TheVariants.Binary}
 use Rattle.sqlite_value.specs.declared.{keys.Order.Order, value.Value.TheVariants.Null}

@@ -1,11 +1,9 @@
 -- Rows that are looked up by the front of their keys: those of an owner.
 use Rattle.std.specs.BTreeMap.{is_at}
 use Rattle.std.specs.Prelude.{[], ◌≡◌, true, Some, List, option_map, ◌⊎◌, Option, None, ◌∷◌}
-use Rattle.std.specs.declared.cmp.Ordering.{Ordering}
-use Rattle.sqlite_trees.specs.Tree.{Trees}
-use Rattle.sqlite_value.specs.Order.{Row as Raw}
-use Rattle.review_table.specs.{Rows.row_in, declared.table.RowEdit.RowEdit}
-use Rattle.review_sql_tables.specs.Content.{has_key}
+use Rattle.{std.specs.declared.cmp.Ordering.Ordering, sqlite_trees.specs.Tree.Trees}
+use Rattle.{sqlite_value.specs.Order.Row as Raw, review_table.specs.Rows.row_in}
+use Rattle.{review_table.specs.declared.table.RowEdit.RowEdit, review_sql_tables.specs.Content.has_key}
 use Rattle.review_sql_tables.specs.Search.{Search, reads, row_at, HasOdd, rows_at, SetsRow}
 
 -- the order of keys tells them apart

@@ -1,8 +1,7 @@
 -- The row with the greatest value of a column, and how many rows there are.
 use Rattle.std.specs.{List.AllByRecursion, Ordering.is_gt}
 use Rattle.std.specs.Prelude.{[], ℕ, ◌≡◌, false, List, min, Option, Some, None}
-use Rattle.sqlite_rules.specs.Lists.{Has}
-use Rattle.sqlite_trees.specs.Tree.{Trees}
+use Rattle.{sqlite_rules.specs.Lists.Has, sqlite_trees.specs.Tree.Trees}
 use Rattle.sqlite_value.specs.Order.{Row as Raw, column, value_cmp}
 use Rattle.review_sql_tables.specs.Search.{Search, reads, rows_at}
 

@@ -1,7 +1,6 @@
 -- From the tables of one version to those of the next.
 use Rattle.std.specs.{List.AllByRecursion, Prelude.[], Prelude.◌≡◌, Prelude.◌≢◌, Prelude.false}
-use Rattle.sqlite.specs.Effect.{Database, IsDatabase}
-use Rattle.sqlite_trees.specs.Tree.{Trees}
+use Rattle.{sqlite.specs.Effect.Database, sqlite.specs.Effect.IsDatabase, sqlite_trees.specs.Tree.Trees}
 use Rattle.review_sql_tables.specs.{Content.AreApart, Desk.schema_of, Desk.desk_schema, Desk.desk_tables, Desk.epochs}
 use Rattle.review_sql_tables.specs.Moved.{AreMoved, Move}
 use Rattle.review_sql_tables.specs.Versions.{moves_since, is_new, schema_at, tables_since, version_of}

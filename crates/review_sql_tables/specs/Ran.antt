@@ -2,9 +2,8 @@
 use Rattle.std.specs.Prelude.{ℕ, ◌≡◌, Bool, true, false, Result, Ok, Err, IsTrue, IfErr, IfOk, OnOk, OnErr}
 use Rattle.sqlite.specs.Effect.{Database, IsDatabase}
 use Rattle.sqlite.specs.State.{State, HasCleanDisk, Survives, KeepsCommit}
-use Rattle.sqlite.specs.declared.error.Error.{Error, TheVariants.SqliteFailure}
-use Rattle.sqlite.specs.declared.error.ErrorCode.{ErrorCode, TheVariants.ConstraintViolation}
-use Rattle.sqlite_trees.specs.Tree.{Trees}
+use Rattle.sqlite.specs.declared.error.{Error.Error, Error.TheVariants.SqliteFailure, ErrorCode.ErrorCode}
+use Rattle.{sqlite.specs.declared.error.ErrorCode.TheVariants.ConstraintViolation, sqlite_trees.specs.Tree.Trees}
 use Rattle.review_sql_tables.specs.{Content.AreApart, Desk.desk_schema, Desk.is_tree}
 
 -- the tables are those that `create` makes, they list and obey that schema, and the rows of each have rowids of their own

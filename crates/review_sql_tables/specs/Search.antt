@@ -1,8 +1,7 @@
 -- How rows are looked up and stored, whatever the table.
 use Rattle.std.specs.List.{list_any, Sorted.IsPermutation}
 use Rattle.std.specs.Prelude.{[], ℕ, List, filter, Bool, Option, map, ◌∷◌, Some, None, ◌≡◌, true, not, is_some, ℤ, ◌≢◌, ◌+◌, false, length, option_map}
-use Rattle.sqlite_trees.specs.Tree.{Trees}
-use Rattle.sqlite_value.specs.Order.{Row as Raw, column}
+use Rattle.{sqlite_trees.specs.Tree.Trees, sqlite_value.specs.Order.Row as Raw, sqlite_value.specs.Order.column}
 use Rattle.sqlite_value.specs.declared.value.Value.{Value, TheVariants.Int, TheVariants.Null}
 use Rattle.review_table.specs.declared.table.RowEdit.{RowEdit}
 use Rattle.review_sql_tables.specs.Content.{has_key, Adds, SparesOthers}

@@ -1,6 +1,5 @@
 -- Tables in which no two rows have one key.
-use Rattle.std.specs.Prelude.{◌≤◌, length}
-use Rattle.sqlite.specs.Effect.{Database}
+use Rattle.{std.specs.Prelude.◌≤◌, std.specs.Prelude.length, sqlite.specs.Effect.Database}
 use Rattle.review_sql_tables.specs.{Ran.IsReady, Search.Search, Search.rows_at}
 
 -- at a key a table of a desk has one row, at most

@@ -1,7 +1,6 @@
 //! The values that a statement is asked with.
 ghost use Rattle.std.specs.Prelude.{IfErr, ◌≤◌, ◌^◌, ◌≡◌, [], ◌∷◌, ◌++◌, ◌<◌, length, pos, true, IfOk};
-ghost use Rattle.std.specs.Str.{is_utf8};
-ghost use Rattle.sqlite.specs.Values.{bound};
+ghost use Rattle.{std.specs.Str.is_utf8, sqlite.specs.Values.bound};
 ghost use Rattle.sqlite_value.specs.declared.value.Value.TheVariants.{Int, Text};
 
 use sqlite::Error;
@@ -17,8 +16,7 @@ pub struct Bound<'a> {
 
 impl<'a> Model for Bound<'a> {
     ghost use Rattle.std.specs.Prelude.{◌≡◌, ◌≤◌, length, take};
-    ghost use Rattle.sqlite.specs.Values.{bound};
-    ghost use Rattle.sqlite_value.specs.Order.{Row};
+    ghost use Rattle.{sqlite.specs.Values.bound, sqlite_value.specs.Order.Row};
 
     ghost Value = { Row };
 

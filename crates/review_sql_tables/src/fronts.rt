@@ -1,7 +1,6 @@
 //! The rows of an owner are looked up and changed, whatever the table.
 ghost use Rattle.std.specs.Prelude.{◌≡◌, option_map, IfOk};
-ghost use Rattle.sqlite.specs.Held.{state};
-ghost use Rattle.review_table.specs.Rows.{rows_of};
+ghost use Rattle.{sqlite.specs.Held.state, review_table.specs.Rows.rows_of};
 ghost use Rattle.review_sql_tables.specs.Fronts.{AreParts, SetsParts};
 ghost use Rattle.review_sql_tables.specs.{Ran.Inside, Ran.Looks, Ran.Opens, Search.SetsRow, inner.Words.WereSorted};
 

@@ -1,9 +1,8 @@
 //! Whether the rows of a table have rowids of their own. On it rests that a row that is taken away takes no other with it.
 ghost use Rattle.std.specs.{Bool.Decides, List.AllByRecursion, List.IsDistinct, Ordering.int_eq};
 ghost use Rattle.std.specs.Prelude.{◌≡◌, ◌<◌, ℕ, List, map, option_map, slice_index_or, IfOk};
-ghost use Rattle.sqlite.specs.Held.{state};
-ghost use Rattle.review_sql_tables.specs.{Content.AreApart, Desk.desk_schema, Ran.Looks};
-ghost use Rattle.review_sql_tables.specs.declared.texts.TheConstants.{ROW_IDS};
+ghost use Rattle.{sqlite.specs.Held.state, review_sql_tables.specs.Content.AreApart};
+ghost use Rattle.review_sql_tables.specs.{Desk.desk_schema, Ran.Looks, declared.texts.TheConstants.ROW_IDS};
 ghost use Rattle.review_sql_tables.specs.inner.Rowids.{AreIds, AreOwn, IsIdOf, firsts};
 ghost use Rattle.review_sql_tables.specs.inner.Words.{table_at, FindsIds};
 

@@ -156,8 +156,7 @@ pub trait Record {
 
 /// A table whose records mostly get other values: a text gives the records of a key other ones, each at its place.
 pub trait Rewritten: Record {
-    ghost use Rattle.std.specs.Prelude.{ℕ, List};
-    ghost use Rattle.review_sql_tables.specs.Texts.{Updates};
+    ghost use Rattle.{std.specs.Prelude.ℕ, std.specs.Prelude.List, review_sql_tables.specs.Texts.Updates};
 
     /// The text that gives the records of a key other values.
     const UPDATE: Sql;

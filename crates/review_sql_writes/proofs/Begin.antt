@@ -1,10 +1,8 @@
 -- A desk before its first request.
 use Rattle.std.proofs.Common.{◌≡◌, ◌≢◌, ◌∙◌, ◌==◌, ℕ, List, [], ◌∷◌, Some, None, option_map, cond, true, refl, sym, ap, subst, arith, inl, inr, length, eqb-true, Bool, Option, false}
 use Rattle.std.proofs.lemmas.Bool.{cases_Bool, both_ways, eqb-false}
-use Rattle.std.specs.{Prelude.nat_lt, Str.bytes_eq}
-use Rattle.sqlite.specs.Effect.{Database}
-use Rattle.sqlite_trees.specs.Tree.{Trees}
-use Rattle.sqlite_value.specs.declared.value.Value.TheVariants.{Text}
+use Rattle.{std.specs.Prelude.nat_lt, std.specs.Str.bytes_eq, sqlite.specs.Effect.Database}
+use Rattle.{sqlite_trees.specs.Tree.Trees, sqlite_value.specs.declared.value.Value.TheVariants.Text}
 use Rattle.review_names.specs.Names.{admin_name, administrators}
 use Rattle.review_words.specs.History.{is_listed}
 use Rattle.review_sql_tables.proofs.{Made.ready_blank, Made.empty_at, Sequences.Next}
@@ -16,8 +14,7 @@ use Rattle.review_machine_rows.specs.Rows.{Key, AccountKey, MemberKey as OfMembe
 use Rattle.review_machine_rows.specs.{View.IsView, View.fact, View.counted, declared.rows.MemberKey.MemberKey}
 use Rattle.review_sql_records.specs.Forms.{accounts, members, projects, bases, answers, epochs, request_key}
 use Rattle.review_sql_change_records.specs.Forms.{headers, patches, votes, roles, comments, attention_entries}
-use Rattle.review_sql_change_records.specs.Laws.{same_bytes}
-use Rattle.review_sql_lookups.proofs.Telling.{own_bytes}
+use Rattle.{review_sql_change_records.specs.Laws.same_bytes, review_sql_lookups.proofs.Telling.own_bytes}
 use Rattle.review_sql_lookups.specs.Tables.{part_in, vote_told, told, row_in, count_in, stored_as, number_of, tables_at, least_in, version_in}
 use Rattle.review_sql_writes.proofs.Unkeyed.{first_keeps, none_unkeyed, unkeyed_same}
 use Rattle.review_sql_writes.specs.{First.MakesDesk, Numbers.IsDesk, inner.Words.SetsFirst}

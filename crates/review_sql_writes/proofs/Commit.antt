@@ -4,10 +4,8 @@ use Rattle.std.proofs.lemmas.Bool.{cases_Bool, and_parts, and_from, both_ways}
 use Rattle.std.proofs.lemmas.Cmp.{nat_cmp_total, tied_itself, nat_list_cmp_total}
 use Rattle.std.{proofs.lemmas.Map.Lookups.exact_unsigned, proofs.lemmas.Map.Lookups.exact_bytes, specs.BTreeMap.is_at}
 use Rattle.std.specs.{Cmp.Lexicographic.slice_cmp, Ordering.nat_cmp, Ordering.is_eq, Ordering.ordering_then}
-use Rattle.std.specs.{Prelude.nat_lt, Prelude.unwrap_or, Str.bytes_eq}
-use Rattle.sqlite.specs.Effect.{Database}
-use Rattle.sqlite_trees.specs.Tree.{Trees}
-use Rattle.sqlite_value.specs.Order.{Row as Raw, column}
+use Rattle.{std.specs.Prelude.nat_lt, std.specs.Prelude.unwrap_or, std.specs.Str.bytes_eq, sqlite.specs.Effect.Database}
+use Rattle.{sqlite_trees.specs.Tree.Trees, sqlite_value.specs.Order.Row as Raw, sqlite_value.specs.Order.column}
 use Rattle.sqlite_value.specs.declared.value.Value.TheVariants.{Int, Text}
 use Rattle.review_table.specs.Rows.{row_edit_of, after_row_edit}
 use Rattle.review_words.specs.History.{Identity, is_same}
@@ -23,8 +21,7 @@ use Rattle.review_machine_rows.specs.Shelf.{IsCommitted}
 use Rattle.review_machine_rows.specs.declared.rows.{Delta.Delta, Kept.Kept, MemberKey.MemberKey as Member}
 use Rattle.review_machine_rows.specs.declared.rows.{PlaceKey.PlaceKey, Put.Put, StoredFile.StoredFile}
 use Rattle.review_sql_records.specs.Forms.{accounts, members, projects, bases, answers, epochs, is_of_lower, request_key}
-use Rattle.review_sql_change_records.specs.Laws.{same_bytes}
-use Rattle.review_sql_lookups.proofs.Telling.{own_bytes}
+use Rattle.{review_sql_change_records.specs.Laws.same_bytes, review_sql_lookups.proofs.Telling.own_bytes}
 use Rattle.review_sql_lookups.specs.Tables.{told, row_in, count_in, answer_in, least_in, stored_as, number_of, tables_at, version_in}
 use Rattle.review_sql_writes.proofs.Edits.{edits_spare, is_part_tree, part_same, parts_edited}
 use Rattle.review_sql_writes.proofs.{Rest.keeps_rest, Unkeyed.commit_keeps, Unkeyed.unkeyed_same}

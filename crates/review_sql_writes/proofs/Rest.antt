@@ -1,11 +1,9 @@
 -- Rows that no key of a commit names stay.
 use Rattle.std.proofs.Common.{◌≡◌, ◌∙◌, ℕ, List, [], ◌∷◌, ◌++◌, Option, Some, None, Bool, true, false, filter, IfSome, string_bytes, sym, ap, subst, inl, inr, eqb, eqb-true, not, ◌==◌}
-use Rattle.std.{proofs.lemmas.Bool.cases_Bool, proofs.lemmas.Bool.eqb-false, specs.List.AllByRecursion}
-use Rattle.sqlite_trees.specs.Tree.{Trees}
-use Rattle.sqlite_value.specs.Order.{Row as Raw}
-use Rattle.review_table.specs.declared.table.RowEdit.{RowEdit}
-use Rattle.review_sql_tables.specs.{Desk.is_tree, Fronts.SetsParts, Search.Search, Search.SetsRow, Search.SetsRows}
-use Rattle.review_sql_tables.specs.inner.Words.{Then}
+use Rattle.std.proofs.lemmas.Bool.{cases_Bool, eqb-false}
+use Rattle.{std.specs.List.AllByRecursion, sqlite_trees.specs.Tree.Trees, sqlite_value.specs.Order.Row as Raw}
+use Rattle.{review_table.specs.declared.table.RowEdit.RowEdit, review_sql_tables.specs.Desk.is_tree}
+use Rattle.review_sql_tables.specs.{Fronts.SetsParts, Search.Search, Search.SetsRow, Search.SetsRows, inner.Words.Then}
 use Rattle.review_machine_rows.specs.Rows.{kept_row}
 use Rattle.review_machine_rows.specs.declared.rows.{ChangeEdit.ChangeEdit, Delta.Delta, Kept.Kept, Put.Put}
 use Rattle.review_sql_records.specs.Forms.{accounts, members, projects, bases, answers, desk, epochs, is_of_lower, request_key}

@@ -1,8 +1,7 @@
 -- What is written leaves the rows that have no key of their table.
 use Rattle.std.proofs.Common.{pos, negsuc, ◌≡◌, ◌∙◌, ◌==◌, ◌++◌, ◌||◌, ◌+◌, ℕ, List, [], ◌∷◌, Bool, cond, true, false, not, Option, Some, None, filter, refl, sym, ap, subst, inl, inr, eqb-true}
 use Rattle.std.proofs.lemmas.Bool.{and_from, and_parts, cases_Bool, eqb-false}
-use Rattle.std.specs.List.{AllByRecursion, list_any}
-use Rattle.sqlite_trees.specs.Tree.{Trees}
+use Rattle.{std.specs.List.AllByRecursion, std.specs.List.list_any, sqlite_trees.specs.Tree.Trees}
 use Rattle.sqlite_value.specs.{Order.Row as Raw, Order.column, declared.value.Value.Value}
 use Rattle.sqlite_value.specs.declared.value.Value.TheVariants.{Null, Int, Real, Text, Blob}
 use Rattle.review_table.specs.declared.table.RowEdit.{RowEdit}

@@ -1,14 +1,12 @@
 -- What a commit does to the tables of a desk.
 use Rattle.std.specs.Prelude.{ℕ, ◌≤◌, List, length}
-use Rattle.sqlite.specs.Effect.{Database}
-use Rattle.sqlite_trees.specs.Tree.{Trees}
+use Rattle.{sqlite.specs.Effect.Database, sqlite_trees.specs.Tree.Trees}
 use Rattle.review_sql_tables.specs.{Ran.IsReady, Search.rows_at}
 use Rattle.review_machine_rows.specs.{Rows.kept_row, Shelf.IsCommitted}
 use Rattle.review_machine_rows.specs.declared.rows.{Delta.Delta, Kept.Kept, PlaceKey.PlaceKey}
 use Rattle.review_sql_records.specs.Forms.{projects, bases}
-use Rattle.review_sql_lookups.specs.Tables.{tables_at}
-use Rattle.review_sql_writes.specs.{Named.KeepsRest, Numbers.IsDesk, Numbers.with_request}
-use Rattle.review_sql_writes.specs.declared.numbers.Numbers.{Numbers}
+use Rattle.{review_sql_lookups.specs.Tables.tables_at, review_sql_writes.specs.Named.KeepsRest}
+use Rattle.review_sql_writes.specs.{Numbers.IsDesk, Numbers.with_request, declared.numbers.Numbers.Numbers}
 
 -- no two rows of the tables whose rows are counted have one key
 pub record AreSingle (db : Trees) : Type 0 where

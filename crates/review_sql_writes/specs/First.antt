@@ -1,9 +1,7 @@
 -- A desk before its first request.
-use Rattle.std.specs.Prelude.{[]}
-use Rattle.sqlite.specs.Effect.{Database}
+use Rattle.{std.specs.Prelude.[], sqlite.specs.Effect.Database}
 use Rattle.review_sql_tables.specs.{Desk.schema_0, Made.IsBlank, Ran.IsReady}
-use Rattle.review_machine_rows.specs.View.{IsView}
-use Rattle.review_sql_lookups.specs.Tables.{tables_at}
+use Rattle.{review_machine_rows.specs.View.IsView, review_sql_lookups.specs.Tables.tables_at}
 use Rattle.review_sql_writes.specs.Numbers.{IsDesk}
 
 -- of a store with no table a desk without a request is made

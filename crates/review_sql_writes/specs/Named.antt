@@ -1,8 +1,7 @@
 -- Which rows a commit names by their keys, table by table.
 use Rattle.std.specs.List.{AllByRecursion}
 use Rattle.std.specs.Prelude.{ℕ, ◌≡◌, Bool, true, false, List, filter, IfSome}
-use Rattle.sqlite_trees.specs.Tree.{Trees}
-use Rattle.sqlite_value.specs.Order.{Row as Raw}
+use Rattle.{sqlite_trees.specs.Tree.Trees, sqlite_value.specs.Order.Row as Raw}
 use Rattle.review_table.specs.declared.table.RowEdit.{RowEdit}
 use Rattle.review_sql_tables.specs.{Content.has_key, Desk.is_tree, Search.Search}
 use Rattle.review_machine_rows.specs.Rows.{kept_row}

@@ -1,7 +1,6 @@
 -- What a desk says of itself beside its rows.
 use Rattle.std.specs.Prelude.{ℕ, ◌+◌, Option, unwrap_or}
-use Rattle.sqlite_trees.specs.Tree.{Trees}
-use Rattle.review_sql_lookups.specs.Tables.{SaysDesk}
+use Rattle.{sqlite_trees.specs.Tree.Trees, review_sql_lookups.specs.Tables.SaysDesk}
 use Rattle.review_sql_writes.specs.declared.numbers.Numbers.{Numbers}
 
 -- the tables say that they are a desk's, that so many requests were ever stored, and that this epoch is the least open one

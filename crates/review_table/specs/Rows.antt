@@ -1,8 +1,7 @@
 -- Places by key, each with a row or none; the rows are what callers see.
 use Rattle.std.specs.{BTreeMap.is_at, List.All, List.filter, Map.lookup}
 use Rattle.std.specs.Prelude.{[], Option, Some, None, List, ◌∷◌, Bool, is_some, ◌≡◌, true, if◌then◌else◌}
-use Rattle.std.specs.declared.cmp.Ordering.{Ordering}
-use Rattle.review_table.specs.declared.table.RowEdit.{RowEdit}
+use Rattle.{std.specs.declared.cmp.Ordering.Ordering, review_table.specs.declared.table.RowEdit.RowEdit}
 
 -- a row that may be missing twice over
 abbrev pub flat : {X : Type 0} → Option (Option X) → Option X

@@ -1,8 +1,7 @@
 -- Histories of taken requests, the newest first, and the settings that they leave.
 use Rattle.std.specs.List.{list_any}
 use Rattle.std.specs.Prelude.{ℕ, ◌+◌, ◌≡◌, List, [], ◌∷◌, ◌++◌, length, Option, Some, None, Bool, false, ◌&&◌, ◌||◌, ◌==◌, nat_le, nat_lt, if◌then◌else◌, is_some}
-use Rattle.std.specs.Str.{bytes_eq}
-use Rattle.review_names.specs.Names.{administrators, admin_name}
+use Rattle.{std.specs.Str.bytes_eq, review_names.specs.Names.administrators, review_names.specs.Names.admin_name}
 use Rattle.review_words.specs.declared.command.Command.{Command}
 use Rattle.review_words.specs.declared.command.Command.TheVariants.{CreateAccount, PutGroup, PutProject, RecordBase, CloseEpoch}
 use Rattle.review_words.specs.declared.reply.Reply.{Reply, TheVariants.Done}

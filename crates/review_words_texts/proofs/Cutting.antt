@@ -1,8 +1,7 @@
 -- Texts cut into their fields: equal texts have equal fields.
 use Rattle.std.proofs.Common.{append_assoc, ◌≡◌, ℕ, List, [], ◌∷◌, ◌++◌, length, refl, sym, ap, ◌∙◌, arith, flat_map}
 use Rattle.review_names.proofs.Numerals.{Plain, plain_numeral, numeral-injective}
-use Rattle.review_names.specs.Numerals.{numeral}
-use Rattle.review_words.specs.Texts.{field, text_of}
+use Rattle.{review_names.specs.Numerals.numeral, review_words.specs.Texts.field, review_words.specs.Texts.text_of}
 
 split_colon : (xs ys s t : List ℕ) → Plain xs → Plain ys → xs ++ 58 ∷ s ≡ ys ++ 58 ∷ t → (xs ≡ ys) × (s ≡ t)
 split_colon [] [] s t p q e = (refl, cc)

@@ -3,8 +3,7 @@ use Rattle.std.proofs.Common.{◌≡◌, Some, sym, ap, ◌∙◌}
 use Rattle.review_words.specs.Texts.{command_fields, content_text, reply_fields, reply_text, IsStored}
 use Rattle.review_words.specs.declared.{command.Command.Command, reply.Reply.Reply}
 use Rattle.review_words_texts.proofs.Commands.{command_of, command_back}
-use Rattle.review_words_texts.proofs.{Cutting.text_of-injective, Told.reply_back}
-use Rattle.review_words_texts.specs.Reading.{reply_of}
+use Rattle.review_words_texts.{proofs.Cutting.text_of-injective, proofs.Told.reply_back, specs.Reading.reply_of}
 
 pub content_text_injective : (c d : Command) → content_text c ≡ content_text d → c ≡ d
 content_text_injective c d e = sym (command_back c) ∙ (ap command_of (text_of-injective (command_fields c) (command_fields d) e) ∙ command_back d)

@@ -1,8 +1,7 @@
 -- Whole numbers, as `write!` prints them.
 use Rattle.std.proofs.Common.{◌≡◌, ℕ, suc, pos, negsuc, ◌+◌, ◌<◌, ◌^◌, ◌∷◌, ap, ◌∙◌, arith}
-use Rattle.std.specs.Fmt.{signed_decimal}
-use Rattle.review_names.{proofs.Numerals.decimal_numeral, specs.Numerals.numeral}
-use Rattle.review_words.specs.Texts.{signed}
+use Rattle.{std.specs.Fmt.signed_decimal, review_names.proofs.Numerals.decimal_numeral}
+use Rattle.{review_names.specs.Numerals.numeral, review_words.specs.Texts.signed}
 
 pub signed_decimal_pos : (n : ℕ) → n < 2 ^ 64 → signed_decimal (pos n) ≡ signed (pos n)
 signed_decimal_pos n h = decimal_numeral n h

@@ -1,8 +1,6 @@
 -- What the pieces of a text stand for.
-use Rattle.std.specs.Prelude.{ℕ, List}
-use Rattle.review_names.specs.Numerals.{numeral}
-use Rattle.review_words.specs.Texts.{signed}
-use Rattle.review_words_texts.specs.declared.pieces.Piece.{Piece}
+use Rattle.{std.specs.Prelude.ℕ, std.specs.Prelude.List, review_names.specs.Numerals.numeral}
+use Rattle.{review_words.specs.Texts.signed, review_words_texts.specs.declared.pieces.Piece.Piece}
 use Rattle.review_words_texts.specs.declared.pieces.Piece.TheVariants.{Text, Number, Signed}
 
 -- the field that a piece is written as

@@ -1,8 +1,7 @@
 -- Votes as the facts of a change have them.
 use Rattle.std.specs.{BTreeMap.BTreeMap, BTreeMap.get, Cmp.Lexicographic.slice_cmp, List.Sorted.IsStrictlySortedBy}
 use Rattle.std.specs.{Map.keys_of, Ordering.nat_cmp, Prelude.ℕ, Prelude.ℤ, Prelude.List, Prelude.Option, Prelude.Bool}
-use Rattle.review_table.specs.Rows.{row_in}
-use Rattle.review_expr_judging.specs.Holds.{votes_on}
+use Rattle.{review_table.specs.Rows.row_in, review_expr_judging.specs.Holds.votes_on}
 use Rattle.review_core_rules.specs.{Facts.unless_zero, Listed.AreListed, Seen.Votes, Seen.vote_in, Votes.voted}
 use Rattle.review_core_rules.specs.declared.rows.VoteKey.{VoteKey}
 

@@ -1,8 +1,7 @@
 -- Words that only proofs and private clauses use.
 use Rattle.std.specs.List.{list_any}
 use Rattle.std.specs.Prelude.{ℕ, List, Bool, ◌==◌, ◌&&◌, Option, Some, None, ℤ, if◌then◌else◌}
-use Rattle.std.specs.Str.{bytes_eq}
-use Rattle.review_words.specs.declared.changes.Given.{Given}
+use Rattle.{std.specs.Str.bytes_eq, review_words.specs.declared.changes.Given.Given}
 use Rattle.review_core_rules.specs.Change.{given_or, kept_or}
 use Rattle.review_core_rules.specs.declared.rows.{AttentionEntry.AttentionEntry, VoteKey.VoteKey, Why.Why}
 

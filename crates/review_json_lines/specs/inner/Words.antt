@@ -1,8 +1,7 @@
 -- Words that only proofs and private clauses use.
 use Rattle.std.specs.Io.KnownBytes.{IsAtEnd}
 use Rattle.std.specs.Prelude.{[], ℕ, List, ◌≡◌, Option, Some, None, ◌++◌, ◌∷◌, Bool, true, false}
-use Rattle.review_words.specs.declared.reply.Reply.{Reply}
-use Rattle.review_machine_rows.specs.Shelf.{Shown}
+use Rattle.{review_words.specs.declared.reply.Reply.Reply, review_machine_rows.specs.Shelf.Shown}
 use Rattle.review_machine_deliveries.specs.Delivered.{WasRun}
 use Rattle.review_json_lines.specs.Answers.{deliveries, asked}
 use Rattle.review_json_lines.specs.{Lines.HasNoEnd, Lines.GaveLine, Lines.line_feed, declared.apply.Asked.Asked}

@@ -1,7 +1,6 @@
 -- Words that only proofs and private clauses use.
 use Rattle.std.specs.{Ordering.nat_cmp, Prelude.[], Prelude.ℕ, Prelude.◌+◌, Prelude.List, Prelude.◌∷◌, Prelude.◌≡◌}
-use Rattle.review_table.specs.Rows.{row_in}
-use Rattle.review_core_rules.specs.Change.{of_number}
+use Rattle.{review_table.specs.Rows.row_in, review_core_rules.specs.Change.of_number}
 use Rattle.review_machine_change_rows.specs.declared.loading.ChangeFault.{ChangeFault}
 use Rattle.review_machine_change_rows.specs.declared.loading.ChangeFault.TheVariants.{Memory, Gap}
 

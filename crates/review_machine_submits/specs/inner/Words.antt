@@ -6,9 +6,8 @@ use Rattle.review_chain.specs.Parts.{Want as ChainWant, IsWanted}
 use Rattle.review_chain.specs.{Walks.IsBadLink, declared.walks.ChainFault.ChainFault}
 use Rattle.review_chain.specs.declared.walks.ChainFault.TheVariants.{Broken, Unknown, Memory as FaultMemory}
 use Rattle.review_core_rules.specs.Change.{Change}
-use Rattle.review_machine_rows.specs.{Files.File, Links.links_in, Submits.HasBadLink}
-use Rattle.review_machine_rows.specs.declared.rows.{Delta.Delta, Rows.Rows}
-use Rattle.review_machine_accounts.specs.Decisions.{IsEmpty}
+use Rattle.review_machine_rows.specs.{Files.File, Links.links_in, Submits.HasBadLink, declared.rows.Delta.Delta}
+use Rattle.{review_machine_rows.specs.declared.rows.Rows.Rows, review_machine_accounts.specs.Decisions.IsEmpty}
 use Rattle.review_machine_submits.specs.Submits.{IsChecked, HasUnsound}
 
 -- what a submit that no check of its change refuses is told, and what it changes

@@ -3,9 +3,8 @@ use Rattle.std.proofs.Common.{◌≡◌, ℕ, List, Option, Some, None, ap, true
 use Rattle.std.proofs.lemmas.{Bool.and_from, Bool.and_parts, Option.same_Some}
 use Rattle.sqlite_value.specs.Order.{Row as Raw, column}
 use Rattle.review_names.specs.Forms.{is_commit, is_within, most_changes, most_patches}
-use Rattle.review_names.specs.declared.kinds.ChangeKind.{ChangeKind}
-use Rattle.review_sql_tables.specs.{Content.has_key, Search.reads}
-use Rattle.review_core_rules.specs.declared.rows.PatchRow.{PatchRow}
+use Rattle.{review_names.specs.declared.kinds.ChangeKind.ChangeKind, review_sql_tables.specs.Content.has_key}
+use Rattle.{review_sql_tables.specs.Search.reads, review_core_rules.specs.declared.rows.PatchRow.PatchRow}
 use Rattle.review_sql_records.specs.Laws.{passed, both_are, one_number}
 use Rattle.review_sql_change_records.specs.{Forms.patched, Forms.patches, Forms.sent, Laws.at_text}
 

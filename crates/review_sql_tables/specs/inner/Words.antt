@@ -1,15 +1,13 @@
 -- Words that only proofs and private clauses use.
 use Rattle.std.specs.{BTreeMap.is_at, List.AllByRecursion, List.Sorted.IsPermutation}
 use Rattle.std.specs.Prelude.{[], ℕ, ◌≡◌, Bool, true, false, List, filter, take, drop, map, Option, Some, option_to_list, None, ◌<◌, length, ◌⊎◌, ◌∷◌, pos, ◌++◌, ◌≢◌, codes}
-use Rattle.std.specs.declared.cmp.Ordering.{Ordering}
-use Rattle.sqlite.specs.Effect.{Database, IsDatabase}
+use Rattle.{std.specs.declared.cmp.Ordering.Ordering, sqlite.specs.Effect.Database, sqlite.specs.Effect.IsDatabase}
 use Rattle.sqlite_schema.specs.declared.{command.Command.TheVariants.Delete, schema.Table.Table}
 use Rattle.sqlite_sql.specs.{Query.Query, Term.Term, Term.lit, Term.col, Term.op1, Term.op2}
 use Rattle.sqlite_sql.specs.declared.ops.BinaryOp.TheVariants.{Compare}
 use Rattle.sqlite_sql.specs.declared.ops.CompareOp.TheVariants.{Lt, Eq}
 use Rattle.sqlite_sql.specs.declared.ops.UnaryOp.TheVariants.{Not, TypeOf}
-use Rattle.sqlite_tied.specs.Listing.{counting}
-use Rattle.sqlite_trees.specs.Tree.{Trees, rowid}
+use Rattle.{sqlite_tied.specs.Listing.counting, sqlite_trees.specs.Tree.Trees, sqlite_trees.specs.Tree.rowid}
 use Rattle.sqlite_value.specs.{Order.Row, Order.Row as Raw, declared.keys.Collation.TheVariants.Binary}
 use Rattle.sqlite_value.specs.declared.value.Value.{Value, TheVariants.Int, TheVariants.Text}
 use Rattle.review_table.specs.Rows.{row_in}

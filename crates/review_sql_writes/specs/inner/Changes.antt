@@ -1,9 +1,8 @@
 -- What a delta does to the trees, table by table.
 use Rattle.std.specs.List.{list_any}
 use Rattle.std.specs.Prelude.{[], ◌≡◌, Option, Some, None, ℕ, ◌==◌, Bool, List, true, false, ◌++◌, ◌∷◌}
-use Rattle.sqlite_trees.specs.Tree.{Trees}
-use Rattle.review_sql_tables.specs.{Content.RemovesWhere, Fronts.SetsParts}
-use Rattle.review_sql_tables.specs.{Search.Search, Search.SetsRow, Search.SetsRows, inner.Words.Then}
+use Rattle.{sqlite_trees.specs.Tree.Trees, review_sql_tables.specs.Content.RemovesWhere}
+use Rattle.review_sql_tables.specs.{Fronts.SetsParts, Search.Search, Search.SetsRow, Search.SetsRows, inner.Words.Then}
 use Rattle.review_machine_rows.specs.{Rows.kept_row, View.tables_version}
 use Rattle.review_machine_rows.specs.declared.rows.{ChangeEdit.ChangeEdit, Delta.Delta, Kept.Kept, Put.Put}
 use Rattle.review_sql_records.specs.Forms.{accounts, members, projects, bases, answers, kept_answer, request_key, epochs, is_of_lower, desk}

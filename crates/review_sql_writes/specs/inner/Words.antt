@@ -1,6 +1,5 @@
 -- Words that only proofs and private clauses use.
-use Rattle.std.specs.Prelude.{Some}
-use Rattle.sqlite_trees.specs.Tree.{Trees}
+use Rattle.{std.specs.Prelude.Some, sqlite_trees.specs.Tree.Trees}
 use Rattle.review_names.specs.Names.{admin_name, administrators}
 use Rattle.review_sql_tables.specs.{Search.SetsRow, inner.Words.Then}
 use Rattle.review_sql_records.specs.Forms.{accounts, members}

@@ -1,6 +1,5 @@
 -- Words that only proofs and private clauses use.
-use Rattle.std.specs.Prelude.{Option, Some}
-use Rattle.review_table.specs.declared.table.RowEdit.{RowEdit}
+use Rattle.{std.specs.Prelude.Option, std.specs.Prelude.Some, review_table.specs.declared.table.RowEdit.RowEdit}
 
 -- the place of a row
 abbrev pub place_of : {K X : Type 0} → K × X → K × Option X

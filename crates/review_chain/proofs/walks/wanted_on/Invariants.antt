@@ -1,5 +1,4 @@
-use Rattle.std.proofs.Common.{◌≡◌, ◌-◌}
-use Rattle.review_chain.specs.Parts.{HasWalked}
+use Rattle.{std.proofs.Common.◌≡◌, std.proofs.Common.◌-◌, review_chain.specs.Parts.HasWalked}
 use Rattle.review_chain.proofs.walks.wanted_on.Given as goal
 
 -- what is walked is a walk to the change

@@ -1,6 +1,5 @@
 use Rattle.std.proofs.Common.{◌≡◌, ◌&&◌, ◌∙◌, ap, sym, length, true}
-use Rattle.std.{proofs.lemmas.Bool.and_parts, specs.List.list_all}
-use Rattle.review_table.specs.Rows.{rows_of}
+use Rattle.{std.proofs.lemmas.Bool.and_parts, std.specs.List.list_all, review_table.specs.Rows.rows_of}
 use Rattle.review_core_rules.specs.{Change.last_uploader, Seen.of_account, Seen.seen, Sound.IsSound, Sound.are_in_order}
 use Rattle.review_core.proofs.Fitting.{call_test, fitting, passing, place_test}
 use Rattle.review_core.specs.Tests.{are_counted, is_called_in_place, is_in_place}

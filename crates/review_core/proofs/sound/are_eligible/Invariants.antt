@@ -1,7 +1,6 @@
 use Rattle.std.proofs.Common.{◌≡◌, drop, map}
 use Rattle.std.specs.{List.list_all, Map.Iter.deref_pair}
-use Rattle.review_core_rules.specs.Seen.{of_account}
-use Rattle.review_core.specs.Tests.{is_called_in_place}
+use Rattle.{review_core_rules.specs.Seen.of_account, review_core.specs.Tests.is_called_in_place}
 use Rattle.review_core.proofs.sound.are_eligible.Given as goal
 
 abbrev pub invariant-loop-account : goal.invariant-loop-account

@@ -1,5 +1,4 @@
-use Rattle.std.proofs.Common.{◌≡◌, drop}
-use Rattle.review_core_rules.specs.Sound.{are_in_order}
+use Rattle.{std.proofs.Common.◌≡◌, std.proofs.Common.drop, review_core_rules.specs.Sound.are_in_order}
 use Rattle.review_core.proofs.sound.are_in_order.Given as goal
 
 abbrev pub invariant-loop-before : goal.invariant-loop-before

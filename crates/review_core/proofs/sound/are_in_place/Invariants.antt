@@ -1,7 +1,5 @@
-use Rattle.std.proofs.Common.{◌≡◌, drop, map}
-use Rattle.std.specs.{List.list_all, Map.Iter.deref_pair}
-use Rattle.review_core_rules.specs.Seen.{of_account}
-use Rattle.review_core.specs.Tests.{is_in_place}
+use Rattle.std.{proofs.Common.◌≡◌, proofs.Common.drop, proofs.Common.map, specs.List.list_all}
+use Rattle.{std.specs.Map.Iter.deref_pair, review_core_rules.specs.Seen.of_account, review_core.specs.Tests.is_in_place}
 use Rattle.review_core.proofs.sound.are_in_place.Given as goal
 
 abbrev pub invariant-loop-key : goal.invariant-loop-key

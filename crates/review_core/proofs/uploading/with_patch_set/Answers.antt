@@ -1,7 +1,6 @@
 use Rattle.std.proofs.Common.{◌≡◌, ℕ, List, refl, ◌==◌, ◌&&◌, ◌||◌, ◌+◌, ◌++◌, ◌∷◌, [], not, ◌∙◌, ap, sym, length, pos, None, map, if◌then◌else◌, is_some, find, option_map}
-use Rattle.std.specs.{Cmp.Lexicographic.pointwise, List.list_any}
-use Rattle.review_table.specs.{Edited.edited_row, Rows.rows_of}
-use Rattle.review_expr_judging.specs.declared.facts.VoteFacts.{VoteFacts}
+use Rattle.{std.specs.Cmp.Lexicographic.pointwise, std.specs.List.list_any, review_table.specs.Edited.edited_row}
+use Rattle.{review_table.specs.Rows.rows_of, review_expr_judging.specs.declared.facts.VoteFacts.VoteFacts}
 use Rattle.review_core_rules.specs.Change.{last_uploader, last_paths, kept_or}
 use Rattle.review_core_rules.specs.{Seen.vote_in, Seen.vote_cmp, Seen.of_account, Votes.voted}
 use Rattle.review_core_rules.specs.declared.rows.{PatchRow.PatchRow, Why.TheVariants.NotCopied}

@@ -1,7 +1,6 @@
 use Rattle.std.proofs.Common.{◌≡◌, ◌∙◌, Some, cond, sym, ap, rules, to_z, of_z, w8}
 use Rattle.std.specs.{BTreeMap.get, BTreeMap.is_at, Cmp.Lexicographic.slice_cmp, Ordering.nat_cmp, Prelude.is_some}
-use Rattle.review_core_rules.specs.Change.{range_of}
-use Rattle.review_core_standing.proofs.Made.{range_new}
+use Rattle.{review_core_rules.specs.Change.range_of, review_core_standing.proofs.Made.range_new}
 use Rattle.review_core_standing.proofs.facts.add_range.Goals as goal
 
 pub returns : goal.returns

@@ -1,6 +1,5 @@
 use Rattle.std.proofs.Common.{◌∙◌, ◌==◌, Some, cond, w8}
-use Rattle.std.{proofs.lemmas.Int.to_z-of_z, specs.Ordering.nat_cmp}
-use Rattle.review_table.specs.Rows.{row_in}
+use Rattle.{std.proofs.lemmas.Int.to_z-of_z, std.specs.Ordering.nat_cmp, review_table.specs.Rows.row_in}
 use Rattle.review_core_standing.proofs.Made.{still_ordered, vote_added}
 use Rattle.review_core_standing.proofs.facts.add_vote.Goals as goal
 

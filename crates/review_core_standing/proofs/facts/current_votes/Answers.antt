@@ -1,9 +1,7 @@
 use Rattle.std.proofs.Common.{◌∙◌, None, ap, map}
-use Rattle.std.specs.{List.filter, Map.Iter.deref_pair}
-use Rattle.review_core_rules.specs.Seen.{vote_cmp}
+use Rattle.{std.specs.List.filter, std.specs.Map.Iter.deref_pair, review_core_rules.specs.Seen.vote_cmp}
 use Rattle.review_core_tables.{proofs.Copied.vote_key, specs.Tables.put_in}
-use Rattle.review_core_standing.proofs.Made.{votes_made}
-use Rattle.review_core_standing.specs.inner.Made.{is_voted}
+use Rattle.review_core_standing.{proofs.Made.votes_made, specs.inner.Made.is_voted}
 use Rattle.review_core_standing.proofs.facts.current_votes.Goals as goal
 
 pub returns : goal.returns

@@ -1,5 +1,5 @@
-use Rattle.std.{proofs.Common.◌∙◌, proofs.Common.sym, proofs.Common.ap, specs.Option.option_copied}
-use Rattle.review_core_standing.proofs.Made.{last_sender}
+use Rattle.std.proofs.Common.{◌∙◌, sym, ap}
+use Rattle.{std.specs.Option.option_copied, review_core_standing.proofs.Made.last_sender}
 use Rattle.review_core_standing.proofs.facts.last_uploader.Goals as goal
 
 pub returns-in-Some : goal.returns-in-Some

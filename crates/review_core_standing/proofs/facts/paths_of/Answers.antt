@@ -1,5 +1,5 @@
-use Rattle.std.{proofs.Common.◌∙◌, proofs.Common.[], proofs.Common.sym, proofs.Common.ap, specs.Option.option_copied}
-use Rattle.review_core_standing.proofs.Made.{last_of_paths}
+use Rattle.std.proofs.Common.{◌∙◌, [], sym, ap}
+use Rattle.{std.specs.Option.option_copied, review_core_standing.proofs.Made.last_of_paths}
 use Rattle.review_core_standing.proofs.facts.paths_of.Goals as goal
 
 pub returns-in_ok-copy-in-Some : goal.returns-in_ok-copy-in-Some

@@ -1,6 +1,5 @@
 use Rattle.std.proofs.Common.{◌≡◌, ◌∙◌, ◌==◌, ◌&&◌, Some, true, cond, sym, ap, eq-eqb, rules, to_z, of_z, w8, bytes_eq}
-use Rattle.review_core_standing.proofs.Made.{both_tests}
-use Rattle.review_core_standing.specs.inner.Made.{vote_at}
+use Rattle.review_core_standing.{proofs.Made.both_tests, specs.inner.Made.vote_at}
 use Rattle.review_core_standing.proofs.facts.put_vote.Goals as goal
 
 pub returns-clause-vote : goal.returns-clause-vote

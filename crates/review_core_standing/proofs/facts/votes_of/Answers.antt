@@ -1,13 +1,10 @@
 use Rattle.std.proofs.Common.{◌≡◌, ℕ, List, subst, ◌+◌, ◌∙◌, ◌∷◌, Some, None, cond, sym, ap, drop, map}
-use Rattle.std.proofs.lemmas.List.{at_drop_more}
-use Rattle.std.specs.{BTreeMap.get, BTreeMap.is_at, Cmp.Lexicographic.slice_cmp, List.filter}
-use Rattle.std.specs.{List.Sorted.IsStrictlySortedBy, Map.keys_of, Map.lookup, Map.Iter.deref_pair, Ordering.nat_cmp}
-use Rattle.review_table.specs.Rows.{row_in}
-use Rattle.review_expr_judging.specs.Holds.{votes_on}
-use Rattle.review_core_rules.specs.Seen.{vote_cmp}
+use Rattle.std.{proofs.lemmas.List.at_drop_more, specs.BTreeMap.get, specs.BTreeMap.is_at}
+use Rattle.std.specs.{Cmp.Lexicographic.slice_cmp, List.filter, List.Sorted.IsStrictlySortedBy, Map.keys_of, Map.lookup}
+use Rattle.{std.specs.Map.Iter.deref_pair, std.specs.Ordering.nat_cmp, review_table.specs.Rows.row_in}
+use Rattle.{review_expr_judging.specs.Holds.votes_on, review_core_rules.specs.Seen.vote_cmp}
 use Rattle.review_core_tables.{proofs.Copied.vote_key, proofs.Copied.vote_tied, specs.Tables.put_in}
-use Rattle.review_core_standing.proofs.Made.{voted_more}
-use Rattle.review_core_standing.specs.inner.Made.{is_voted, vote_at}
+use Rattle.review_core_standing.{proofs.Made.voted_more, specs.inner.Made.is_voted, specs.inner.Made.vote_at}
 use Rattle.review_core_standing.proofs.facts.votes_of.Goals as goal
 
 nothing : IsStrictlySortedBy nat_cmp (keys_of (votes_on None))

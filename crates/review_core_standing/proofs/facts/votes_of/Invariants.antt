@@ -1,6 +1,5 @@
 use Rattle.std.proofs.Common.{◌≡◌, ℕ, List, None, drop, map}
-use Rattle.std.specs.{List.filter, Map.Iter.deref_pair}
-use Rattle.review_core_rules.specs.Seen.{vote_cmp}
+use Rattle.{std.specs.List.filter, std.specs.Map.Iter.deref_pair, review_core_rules.specs.Seen.vote_cmp}
 use Rattle.review_core_tables.{proofs.Copied.vote_key, specs.Tables.put_in}
 use Rattle.review_core_standing.specs.inner.Made.{AreOrdered, is_voted, vote_at}
 use Rattle.review_core_standing.proofs.facts.votes_of.Given as goal

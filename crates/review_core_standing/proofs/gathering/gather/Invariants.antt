@@ -1,7 +1,6 @@
 use Rattle.std.proofs.Common.{◌≡◌, drop, length, map}
 use Rattle.review_core_rules.specs.Threads.{threads}
-use Rattle.review_core_standing.proofs.InThreads.{gathered}
-use Rattle.review_core_standing.specs.inner.Gathered.{thread_so_far}
+use Rattle.review_core_standing.{proofs.InThreads.gathered, specs.inner.Gathered.thread_so_far}
 use Rattle.review_core_standing.proofs.gathering.gather.Given as goal
 
 abbrev pub invariant-loop-comment : goal.invariant-loop-comment

@@ -1,6 +1,5 @@
 use Rattle.std.proofs.Common.{◌≡◌, ◌++◌, drop, map}
-use Rattle.review_core_rules.specs.Facts.{stands}
-use Rattle.review_core_standing.specs.Grouped.{grouped}
+use Rattle.{review_core_rules.specs.Facts.stands, review_core_standing.specs.Grouped.grouped}
 use Rattle.review_core_standing.proofs.standing.all_standing.Given as goal
 
 abbrev pub invariant-loop-requirement : goal.invariant-loop-requirement

@@ -1,5 +1,4 @@
-use Rattle.review_core_tables.specs.Copies.{group_list}
-use Rattle.review_core_standing.specs.Grouped.{grouped}
+use Rattle.{review_core_tables.specs.Copies.group_list, review_core_standing.specs.Grouped.grouped}
 use Rattle.review_core_standing.proofs.standing.status.Goals as goal
 
 pub returns : goal.returns

@@ -1,7 +1,5 @@
-use Rattle.std.proofs.Common.{◌∙◌, ap, map}
-use Rattle.review_core_rules.specs.Facts.{stands}
-use Rattle.review_core_tables.specs.Copies.{group_list}
-use Rattle.review_core_standing.specs.Grouped.{grouped}
+use Rattle.{std.proofs.Common.◌∙◌, std.proofs.Common.ap, std.proofs.Common.map, review_core_rules.specs.Facts.stands}
+use Rattle.{review_core_tables.specs.Copies.group_list, review_core_standing.specs.Grouped.grouped}
 use Rattle.review_core_standing.proofs.standing.statuses.Goals as goal
 
 pub returns : goal.returns

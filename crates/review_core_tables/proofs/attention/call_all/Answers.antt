@@ -1,8 +1,6 @@
-use Rattle.std.proofs.Common.{◌==◌, ◌∙◌, sym, arith}
-use Rattle.std.{proofs.lemmas.List.at_drop_all, specs.List.list_any}
-use Rattle.review_core_rules.specs.EditedRows.{edited_account}
-use Rattle.review_core_tables.proofs.Accounts.{kept_where}
-use Rattle.review_core_tables.specs.inner.Words.{called_among}
+use Rattle.std.proofs.{Common.◌==◌, Common.◌∙◌, Common.sym, Common.arith, lemmas.List.at_drop_all}
+use Rattle.{std.specs.List.list_any, review_core_rules.specs.EditedRows.edited_account}
+use Rattle.review_core_tables.{proofs.Accounts.kept_where, specs.inner.Words.called_among}
 use Rattle.review_core_tables.proofs.attention.call_all.Goals as goal
 
 pub returns-clause-called : goal.returns-clause-called

@@ -1,6 +1,5 @@
 use Rattle.std.proofs.Common.{◌≡◌, ℕ, drop}
-use Rattle.review_core_rules.specs.EditedRows.{edited_account}
-use Rattle.review_core_tables.specs.inner.Words.{called_among}
+use Rattle.{review_core_rules.specs.EditedRows.edited_account, review_core_tables.specs.inner.Words.called_among}
 use Rattle.review_core_tables.proofs.attention.call_all.Given as goal
 
 abbrev pub invariant-loop-account : goal.invariant-loop-account

@@ -1,7 +1,6 @@
 use Rattle.std.proofs.Common.{◌≡◌, ◌∙◌, ◌||◌, ◌==◌, ◌&&◌, Bool, true, false, ap, not, refl, sym}
 use Rattle.std.specs.{List.list_any, Prelude.is_some}
-use Rattle.review_core_rules.specs.EditedRows.{edited_account}
-use Rattle.review_core_tables.proofs.Accounts.{any_but}
+use Rattle.{review_core_rules.specs.EditedRows.edited_account, review_core_tables.proofs.Accounts.any_but}
 use Rattle.review_core_tables.proofs.attention.callable.Goals as goal
 
 nobody : (e b : Bool) → false ≡ (e && (b && false))

@@ -1,6 +1,5 @@
 use Rattle.std.proofs.Common.{Bor, Option, Some, None, ◌≡◌, refl, sym, ap, ◌∙◌, option_copied, is_some, bytes_eq}
-use Rattle.review_names.specs.Names.{registered_users}
-use Rattle.review_core_tables.proofs.Accounts.{told_in}
+use Rattle.{review_names.specs.Names.registered_users, review_core_tables.proofs.Accounts.told_in}
 use Rattle.review_core_tables.proofs.copying.is_in.Goals as goal
 
 copied_there : {X : Type 0} (o : Option (Bor X)) → is_some o ≡ is_some (option_copied o)

@@ -1,6 +1,5 @@
 use Rattle.std.proofs.Common.{◌≡◌, ◌++◌, ◌∙◌, ap, codes, append_assoc}
-use Rattle.review_names.specs.Forms.{is_line}
-use Rattle.review_core_tables.proofs.Lines.{label_line}
+use Rattle.{review_names.specs.Forms.is_line, review_core_tables.proofs.Lines.label_line}
 use Rattle.review_core_tables.proofs.reasons.by_label.Goals as goal
 
 pub worded-requires : goal.worded-requires

@@ -1,5 +1,4 @@
-use Rattle.std.proofs.Common.{◌≡◌, drop}
-use Rattle.review_core_rules.specs.Change.{answers_thread}
+use Rattle.{std.proofs.Common.◌≡◌, std.proofs.Common.drop, review_core_rules.specs.Change.answers_thread}
 use Rattle.review_core_tables.proofs.rules.answers_thread.Given as goal
 
 abbrev pub invariant-loop-comment : goal.invariant-loop-comment

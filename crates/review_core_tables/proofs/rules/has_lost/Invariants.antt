@@ -1,5 +1,4 @@
-use Rattle.std.proofs.Common.{◌≡◌, drop}
-use Rattle.review_core_tables.specs.Copies.{has_lost}
+use Rattle.{std.proofs.Common.◌≡◌, std.proofs.Common.drop, review_core_tables.specs.Copies.has_lost}
 use Rattle.review_core_tables.proofs.rules.has_lost.Given as goal
 
 abbrev pub invariant-loop-key : goal.invariant-loop-key

@@ -1,5 +1,4 @@
-use Rattle.std.proofs.Common.{◌≡◌, drop}
-use Rattle.review_core_tables.specs.Copies.{lost_label}
+use Rattle.{std.proofs.Common.◌≡◌, std.proofs.Common.drop, review_core_tables.specs.Copies.lost_label}
 use Rattle.review_core_tables.proofs.rules.lost_label.Given as goal
 
 abbrev pub invariant-loop-label : goal.invariant-loop-label

@@ -1,5 +1,5 @@
-use Rattle.std.{proofs.Common.◌≡◌, proofs.Common.◌&&◌, proofs.Common.◌==◌, proofs.Common.drop, specs.List.list_any}
-use Rattle.review_core_rules.specs.Change.{answers_thread}
+use Rattle.std.proofs.Common.{◌≡◌, ◌&&◌, ◌==◌, drop}
+use Rattle.{std.specs.List.list_any, review_core_rules.specs.Change.answers_thread}
 use Rattle.review_core_tables.proofs.rules.wrote_in_answered.Given as goal
 
 abbrev pub invariant-loop-post : goal.invariant-loop-post

@@ -1,5 +1,4 @@
-use Rattle.std.proofs.Common.{◌≡◌, length}
-use Rattle.review_core_rules.specs.Change.{has_unresolved}
+use Rattle.{std.proofs.Common.◌≡◌, std.proofs.Common.length, review_core_rules.specs.Change.has_unresolved}
 use Rattle.review_core_tables.proofs.threads.has_unresolved.Given as goal
 
 abbrev pub invariant-loop-rest : goal.invariant-loop-rest

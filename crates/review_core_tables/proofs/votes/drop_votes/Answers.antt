@@ -2,8 +2,7 @@ use Rattle.std.{proofs.Common.pos, proofs.lemmas.Result.IfOk-weaker, specs.BTree
 use Rattle.std.specs.Prelude.{◌≡◌, ℕ, List, None, if◌then◌else◌}
 use Rattle.review_table.specs.Edited.{edited_row}
 use Rattle.review_core_rules.specs.{EditedRows.edited_vote, Seen.vote_cmp, declared.rows.VoteKey.VoteKey}
-use Rattle.review_core_tables.proofs.Copied.{vote_key, votes_dropped}
-use Rattle.review_core_tables.specs.inner.Words.{is_of}
+use Rattle.review_core_tables.{proofs.Copied.vote_key, proofs.Copied.votes_dropped, specs.inner.Words.is_of}
 use Rattle.review_core_tables.proofs.votes.drop_votes.Goals as goal
 
 pub returns-clause-votes : goal.returns-clause-votes

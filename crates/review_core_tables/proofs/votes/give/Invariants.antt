@@ -1,6 +1,5 @@
 use Rattle.std.proofs.Common.{◌≡◌, ℕ, List, drop}
-use Rattle.review_core_rules.specs.EditedRows.{edited_vote}
-use Rattle.review_core_tables.specs.inner.Words.{given_at}
+use Rattle.{review_core_rules.specs.EditedRows.edited_vote, review_core_tables.specs.inner.Words.given_at}
 use Rattle.review_core_tables.proofs.votes.give.Given as goal
 
 abbrev pub invariant-loop-given : goal.invariant-loop-given

@@ -1,8 +1,7 @@
 use Rattle.std.proofs.Common.{◌≡◌, ◌∙◌, ◌++◌, ◌&&◌, ap, sym, map, append-nil, arith}
 use Rattle.std.{proofs.lemmas.List.at_drop_all, specs.BTreeMap.is_at, specs.List.filter, specs.List.list_any}
 use Rattle.review_core_rules.specs.{Seen.vote_cmp, declared.rows.VoteKey.VoteKey}
-use Rattle.review_core_tables.proofs.Copied.{any_kept, votes_tell}
-use Rattle.review_core_tables.specs.inner.Words.{is_of}
+use Rattle.review_core_tables.{proofs.Copied.any_kept, proofs.Copied.votes_tell, specs.inner.Words.is_of}
 use Rattle.review_core_tables.proofs.votes.keys_of.Goals as goal
 
 -- whether a key is among those that are kept

@@ -1,5 +1,5 @@
-use Rattle.std.{proofs.Common.◌≡◌, proofs.Common.◌++◌, proofs.Common.drop, proofs.Common.map, specs.List.filter}
-use Rattle.review_core_tables.specs.inner.Words.{is_of}
+use Rattle.std.proofs.Common.{◌≡◌, ◌++◌, drop, map}
+use Rattle.{std.specs.List.filter, review_core_tables.specs.inner.Words.is_of}
 use Rattle.review_core_tables.proofs.votes.keys_of.Given as goal
 
 abbrev pub invariant-loop-key : goal.invariant-loop-key

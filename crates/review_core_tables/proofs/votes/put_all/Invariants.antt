@@ -1,7 +1,5 @@
-use Rattle.std.proofs.Common.{◌≡◌}
-use Rattle.review_table.specs.Edited.{edited_row}
-use Rattle.review_core_rules.specs.{Seen.vote_cmp, declared.rows.VoteKey.VoteKey}
-use Rattle.review_core_tables.specs.Tables.{put_in}
+use Rattle.{std.proofs.Common.◌≡◌, review_table.specs.Edited.edited_row, review_core_rules.specs.Seen.vote_cmp}
+use Rattle.{review_core_rules.specs.declared.rows.VoteKey.VoteKey, review_core_tables.specs.Tables.put_in}
 use Rattle.review_core_tables.proofs.votes.put_all.Given as goal
 
 abbrev pub invariant-loop-key : goal.invariant-loop-key

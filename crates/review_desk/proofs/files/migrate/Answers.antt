@@ -1,6 +1,4 @@
-use Rattle.std.proofs.Common.{subst}
-use Rattle.sqlite.specs.Files.{over_files}
-use Rattle.review_desk_work.specs.Worked.{WasMigrated}
+use Rattle.{std.proofs.Common.subst, sqlite.specs.Files.over_files, review_desk_work.specs.Worked.WasMigrated}
 use Rattle.review_desk.proofs.files.migrate.Goals as goal
 
 pub returns : goal.returns

@@ -1,5 +1,4 @@
-use Rattle.std.{proofs.Common.subst, specs.Prelude.codes}
-use Rattle.clap.specs.Words.{new_app, with_rule}
+use Rattle.{std.proofs.Common.subst, std.specs.Prelude.codes, clap.specs.Words.new_app, clap.specs.Words.with_rule}
 use Rattle.review_desk_work.specs.CommandLine.{Makes, file, port}
 use Rattle.review_desk_work.proofs.command.serve_command.Goals as goal
 

@@ -1,5 +1,4 @@
-use Rattle.std.proofs.Common.{◌∙◌}
-use Rattle.clap.{proofs.WalkLemmas.first_value-rows, specs.Words.found_of}
+use Rattle.{std.proofs.Common.◌∙◌, clap.proofs.WalkLemmas.first_value-rows, clap.specs.Words.found_of}
 use Rattle.review_desk_work.proofs.reading.text_at.Goals as goal
 
 pub returns : goal.returns

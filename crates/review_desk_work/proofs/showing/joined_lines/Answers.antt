@@ -1,6 +1,5 @@
 use Rattle.std.proofs.{Common.[], Common.refl, KnownBytes.Appends-nil}
-use Rattle.review_desk_work.proofs.Replies.{none_asked}
-use Rattle.review_desk_work.specs.Told.{branch_questions}
+use Rattle.review_desk_work.{proofs.Replies.none_asked, specs.Told.branch_questions}
 use Rattle.review_desk_work.proofs.showing.joined_lines.Goals as goal
 
 pub returns-in_default : goal.returns-in_default

@@ -1,6 +1,4 @@
-use Rattle.std.proofs.Common.{◌∙◌}
-use Rattle.review_sql.specs.Shelf.{shown}
-use Rattle.review_desk_work.proofs.Turning.{done_before}
+use Rattle.{std.proofs.Common.◌∙◌, review_sql.specs.Shelf.shown, review_desk_work.proofs.Turning.done_before}
 use Rattle.review_desk_work.proofs.working.work_on_shelf.Goals as goal
 
 pub returns-clause-done : goal.returns-clause-done

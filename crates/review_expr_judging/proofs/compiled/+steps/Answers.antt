@@ -1,7 +1,6 @@
 use Rattle.std.proofs.Common.{refl, arith}
 use Rattle.review_expr_terms.proofs.Nodes.{view-And, view-Or}
-use Rattle.review_expr_judging.proofs.Flat.{behind}
-use Rattle.review_expr_judging.specs.Postfix.{AndEntry, OrEntry}
+use Rattle.review_expr_judging.{proofs.Flat.behind, specs.Postfix.AndEntry, specs.Postfix.OrEntry}
 use Rattle.review_expr_judging.proofs.compiled.+steps.Goals as goal
 
 pub push_steps-returns-in_ok-push-in-And : goal.push_steps-returns-in_ok-push-in-And

@@ -1,7 +1,6 @@
 use denote.Bor.{Bor}
 use Rattle.std.proofs.Common.{◌≡◌, ℕ, List, ◌++◌, map}
-use Rattle.std.specs.Vec.{vec_len}
-use Rattle.review_names.specs.Forms.{text_set}
+use Rattle.{std.specs.Vec.vec_len, review_names.specs.Forms.text_set}
 use Rattle.review_expr_judging.proofs.labels.set_of.Given as goal
 
 -- the set is that of the names that are taken off the end

@@ -1,7 +1,7 @@
 use denote.Shadow.{shadow}
 use denote.Text.{Utf8}
-use Rattle.std.{proofs.Common.◌≡◌, proofs.Common.length, specs.List.list_any, specs.Str.bytes_eq}
-use Rattle.review_names.specs.Forms.{components}
+use Rattle.std.proofs.Common.{◌≡◌, length}
+use Rattle.{std.specs.List.list_any, std.specs.Str.bytes_eq, review_names.specs.Forms.components}
 use Rattle.review_expr_judging.proofs.requirement.has_component.Given as goal
 
 abbrev pub invariant-loop-component : goal.invariant-loop-component

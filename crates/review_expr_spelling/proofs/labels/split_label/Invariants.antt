@@ -1,5 +1,4 @@
-use Rattle.std.proofs.Common.{◌≡◌}
-use Rattle.review_expr_spelling.specs.Labels.{longest_label}
+use Rattle.{std.proofs.Common.◌≡◌, review_expr_spelling.specs.Labels.longest_label}
 use Rattle.review_expr_spelling.proofs.labels.split_label.Given as goal
 
 abbrev pub invariant-loop-end : goal.invariant-loop-end

@@ -1,6 +1,5 @@
 use Rattle.std.proofs.Common.{◌≤◌, length, ap, sym, ◌∙◌, arith}
-use Rattle.review_expr_terms.proofs.Moves.{unbalanced}
-use Rattle.review_expr_terms.specs.{Lexemes.balanced, Scanned.lexemes}
+use Rattle.review_expr_terms.{proofs.Moves.unbalanced, specs.Lexemes.balanced, specs.Scanned.lexemes}
 use Rattle.review_expr_terms.proofs.lexemes.cut.Goals as goal
 
 pub returns-then-not-is_balanced-clause-fault : goal.returns-then-not-is_balanced-clause-fault

@@ -1,6 +1,5 @@
 use Rattle.std.proofs.Common.{ap, sym, ◌∙◌}
-use Rattle.review_expr_terms.proofs.Verdicts.{one_spelling}
-use Rattle.review_expr_terms.specs.Grammar.{tree}
+use Rattle.review_expr_terms.{proofs.Verdicts.one_spelling, specs.Grammar.tree}
 use Rattle.review_expr_terms.proofs.parser.one_tree.Goals as goal
 
 pub returns : goal.returns

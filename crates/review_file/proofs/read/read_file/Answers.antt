@@ -1,5 +1,4 @@
-use Rattle.review_file_rules.proofs.Together.{pattern_spelled}
-use Rattle.review_file.proofs.SoundLabels.{sound_file}
+use Rattle.{review_file_rules.proofs.Together.pattern_spelled, review_file.proofs.SoundLabels.sound_file}
 use Rattle.review_file.proofs.read.read_file.Goals as goal
 
 pub new-requires : goal.new-requires

@@ -1,5 +1,4 @@
-use Rattle.std.{proofs.Common.◌≡◌, specs.List.list_any}
-use Rattle.toml.specs.View.{members_view, table_view}
+use Rattle.{std.proofs.Common.◌≡◌, std.specs.List.list_any, toml.specs.View.members_view, toml.specs.View.table_view}
 use Rattle.review_file_document.specs.{Document.members, Keys.is_wrong_in_label}
 use Rattle.review_file_document.proofs.keys.has_wrong_in_label.Given as goal
 

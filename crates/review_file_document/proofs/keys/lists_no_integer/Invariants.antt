@@ -1,5 +1,4 @@
-use Rattle.std.{proofs.Common.◌≡◌, proofs.Common.drop, specs.List.list_any}
-use Rattle.toml.specs.View.{items_view}
+use Rattle.{std.proofs.Common.◌≡◌, std.proofs.Common.drop, std.specs.List.list_any, toml.specs.View.items_view}
 use Rattle.review_file_document.specs.{Document.values, Keys.is_no_integer}
 use Rattle.review_file_document.proofs.keys.lists_no_integer.Given as goal
 

@@ -1,6 +1,5 @@
-use Rattle.std.{proofs.Common.◌≡◌, specs.List.list_any, specs.Prelude.is_none}
-use Rattle.toml.specs.{Data.get, View.members_view, View.table_view}
-use Rattle.review_file_document.specs.Document.{members}
+use Rattle.{std.proofs.Common.◌≡◌, std.specs.List.list_any, std.specs.Prelude.is_none, toml.specs.Data.get}
+use Rattle.{toml.specs.View.members_view, toml.specs.View.table_view, review_file_document.specs.Document.members}
 use Rattle.review_file_document.proofs.keys.some_lacks.Given as goal
 
 abbrev pub invariant-loop-part : goal.invariant-loop-part

@@ -1,5 +1,4 @@
-use Rattle.std.proofs.Common.{◌≡◌}
-use Rattle.toml.specs.View.{members_view, table_view}
+use Rattle.{std.proofs.Common.◌≡◌, toml.specs.View.members_view, toml.specs.View.table_view}
 use Rattle.review_file_document.specs.{Document.members, Names.has_bad_label}
 use Rattle.review_file_document.proofs.names.has_bad_label.Given as goal
 

@@ -1,6 +1,5 @@
 use Rattle.std.{proofs.Common.◌≡◌, proofs.Common.drop, specs.List.list_any, specs.Prelude.not}
-use Rattle.toml.specs.View.{items_view}
-use Rattle.review_names.specs.Names.{is_word}
+use Rattle.{toml.specs.View.items_view, review_names.specs.Names.is_word}
 use Rattle.review_file_document.specs.Document.{values, text_of}
 use Rattle.review_file_document.proofs.names.lists_bad_group.Given as goal
 

@@ -1,5 +1,4 @@
-use Rattle.std.proofs.Common.{◌≡◌}
-use Rattle.toml.specs.View.{members_view, table_view}
+use Rattle.{std.proofs.Common.◌≡◌, toml.specs.View.members_view, toml.specs.View.table_view}
 use Rattle.review_file_document.specs.{Document.members, Values.has_value}
 use Rattle.review_file_document.proofs.values.has_value.Given as goal
 

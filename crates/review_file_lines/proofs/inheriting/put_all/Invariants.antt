@@ -1,5 +1,5 @@
-use Rattle.std.{proofs.Common.◌≡◌, proofs.Common.drop, specs.Prelude.fold}
-use Rattle.review_file_rules.specs.Inherited.{put_by}
+use Rattle.std.proofs.Common.{◌≡◌, drop}
+use Rattle.{std.specs.Prelude.fold, review_file_rules.specs.Inherited.put_by}
 use Rattle.review_file_lines.proofs.inheriting.put_all.Given as goal
 
 abbrev pub invariant-loop-thing : goal.invariant-loop-thing

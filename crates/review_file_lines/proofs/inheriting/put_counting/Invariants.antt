@@ -1,5 +1,5 @@
-use Rattle.std.{proofs.Common.◌≡◌, proofs.Common.drop, specs.Prelude.filter, specs.Prelude.fold}
-use Rattle.review_expr.specs.declared.expr.Expr.{Expr}
+use Rattle.std.proofs.Common.{◌≡◌, drop}
+use Rattle.{std.specs.Prelude.filter, std.specs.Prelude.fold, review_expr.specs.declared.expr.Expr.Expr}
 use Rattle.review_file_rules.specs.{Inherited.counts, Inherited.put_by, View.RequirementView}
 use Rattle.review_file_lines.proofs.inheriting.put_counting.Given as goal
 

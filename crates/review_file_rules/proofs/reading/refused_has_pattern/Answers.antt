@@ -1,6 +1,5 @@
 use Rattle.std.proofs.Common.{refl}
-use Rattle.review_file_rules.proofs.Together.{pattern_spelled}
-use Rattle.review_file_rules.specs.declared.fault.ReadFault.TheVariants.{Pattern}
+use Rattle.review_file_rules.{proofs.Together.pattern_spelled, specs.declared.fault.ReadFault.TheVariants.Pattern}
 use Rattle.review_file_rules.proofs.reading.refused_has_pattern.Goals as goal
 
 pub returns : goal.returns

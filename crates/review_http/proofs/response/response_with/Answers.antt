@@ -1,5 +1,4 @@
-use Rattle.std.proofs.Common.{refl}
-use Rattle.review_http.specs.Responses.{response_with}
+use Rattle.{std.proofs.Common.refl, review_http.specs.Responses.response_with}
 use Rattle.review_http.proofs.response.response_with.Goals as goal
 
 pub returns : goal.returns

@@ -1,5 +1,4 @@
-use Rattle.std.proofs.Common.{Ok}
-use Rattle.review_http.proofs.Serving.{serves}
+use Rattle.{std.proofs.Common.Ok, review_http.proofs.Serving.serves}
 use Rattle.review_http.proofs.serve.serve_request.Goals as goal
 
 pub returns-in-Ok-clause-served : goal.returns-in-Ok-clause-served

@@ -1,6 +1,5 @@
 use Rattle.std.proofs.Common.{ℕ, List, subst, Err}
-use Rattle.review_http_requests.proofs.Telling.{judged_refused}
-use Rattle.review_http_requests.specs.inner.Words.{HeadIs}
+use Rattle.review_http_requests.{proofs.Telling.judged_refused, specs.inner.Words.HeadIs}
 use Rattle.review_http_requests.proofs.judge.judge.Goals as goal
 
 pub returns-in-Err : goal.returns-in-Err

@@ -1,5 +1,4 @@
-use Rattle.std.proofs.Common.{refl}
-use Rattle.review_http_requests.specs.Table.{table}
+use Rattle.{std.proofs.Common.refl, review_http_requests.specs.Table.table}
 use Rattle.review_http_requests.proofs.table.router.Goals as goal
 
 pub returns : goal.returns

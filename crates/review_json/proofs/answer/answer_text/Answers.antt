@@ -1,6 +1,4 @@
-use Rattle.std.proofs.Common.{◌∙◌}
-use Rattle.review_json.proofs.Texts.{whole_text}
-use Rattle.review_json.specs.Answer.{reply_data}
+use Rattle.{std.proofs.Common.◌∙◌, review_json.proofs.Texts.whole_text, review_json.specs.Answer.reply_data}
 use Rattle.review_json.proofs.answer.answer_text.Goals as goal
 
 pub returns : goal.returns

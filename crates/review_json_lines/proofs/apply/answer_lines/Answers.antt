@@ -1,6 +1,6 @@
 use Rattle.std.proofs.Common.{rules, ◌++◌, ◌∷◌, ◌∙◌, [], refl, ap, length, sym, subst, Some, None, Option}
-use Rattle.std.{proofs.KnownBytes.Appends-nil, proofs.KnownBytes.Appends-trans, specs.Io.KnownBytes.prepend_known}
-use Rattle.review_machine_deliveries.proofs.Ran.{ran_none}
+use Rattle.std.proofs.KnownBytes.{Appends-nil, Appends-trans}
+use Rattle.{std.specs.Io.KnownBytes.prepend_known, review_machine_deliveries.proofs.Ran.ran_none}
 use Rattle.review_json_lines.proofs.Answering.{counted, started, kept, one_more, ran_more, all_left, any_left, if_err, memory_left, output_left, gave_more, gave_all, gave_first, nothing_first}
 use Rattle.review_json_lines.specs.{Answers.with_asked, declared.apply.Asked.Asked, inner.Words.IsNextAsked}
 use Rattle.review_json_lines.specs.declared.fault.Fault.TheVariants as fault

@@ -1,7 +1,6 @@
-use Rattle.std.{proofs.Common.ℕ, proofs.Common.List, specs.Io.KnownBytes.prepend_known}
-use Rattle.review_words.specs.declared.reply.Reply.{Reply}
-use Rattle.review_json_lines.proofs.Answering.{AreAnswered}
-use Rattle.review_json_lines.specs.Answers.{is_complete}
+use Rattle.std.proofs.Common.{ℕ, List}
+use Rattle.{std.specs.Io.KnownBytes.prepend_known, review_words.specs.declared.reply.Reply.Reply}
+use Rattle.review_json_lines.{proofs.Answering.AreAnswered, specs.Answers.is_complete}
 use Rattle.review_json_lines.proofs.apply.answer_lines.Given as goal
 
 -- the lines so far are answered, in what was sent and what waits

@@ -1,6 +1,5 @@
-use Rattle.std.{proofs.Common.◌≡◌, proofs.Common.◌++◌, proofs.Common.drop, specs.Prelude.option_map}
-use Rattle.serde_json.specs.View.{items_view}
-use Rattle.review_json_routes.specs.Parts.{paths_in}
+use Rattle.std.proofs.Common.{◌≡◌, ◌++◌, drop}
+use Rattle.{std.specs.Prelude.option_map, serde_json.specs.View.items_view, review_json_routes.specs.Parts.paths_in}
 use Rattle.review_json_routes.proofs.changes.paths_in.Given as goal
 
 abbrev pub invariant-loop-value : goal.invariant-loop-value

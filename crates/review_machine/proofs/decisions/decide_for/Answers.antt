@@ -4,9 +4,8 @@ use Rattle.review_words.specs.declared.command.Command.TheVariants.{CreateAccoun
 use Rattle.review_words.specs.declared.reply.{NotTaken.NotTaken, Reply.Reply}
 use Rattle.review_machine_rows.specs.Answer.{IsAnswerBy, IsAnswerAt, most_requests}
 use Rattle.review_machine_rows.specs.{Changes.Reading, Decisions.RestsOn, Files.File, Steps.OfCommand}
-use Rattle.review_machine_rows.specs.View.{AreEnough, IsDecided, IsDecidedAt}
-use Rattle.review_machine_rows.specs.declared.rows.{Delta.Delta, Rows.Rows}
-use Rattle.review_machine_accounts.proofs.Decided.{decided_in}
+use Rattle.review_machine_rows.specs.{View.AreEnough, View.IsDecided, View.IsDecidedAt, declared.rows.Delta.Delta}
+use Rattle.{review_machine_rows.specs.declared.rows.Rows.Rows, review_machine_accounts.proofs.Decided.decided_in}
 use Rattle.review_machine.proofs.decisions.decide_for.Goals as goal
 
 -- a command of an account is decided, where this file was read

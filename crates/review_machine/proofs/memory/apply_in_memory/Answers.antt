@@ -1,6 +1,4 @@
-use Rattle.std.proofs.Common.{inr}
-use Rattle.review_memory.specs.Desk.{tables_of}
-use Rattle.review_machine.proofs.Nothing.{from_nothing}
+use Rattle.{std.proofs.Common.inr, review_memory.specs.Desk.tables_of, review_machine.proofs.Nothing.from_nothing}
 use Rattle.review_machine.proofs.memory.apply_in_memory.Goals as goal
 
 pub returns : goal.returns

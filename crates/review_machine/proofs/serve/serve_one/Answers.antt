@@ -1,5 +1,5 @@
-use Rattle.std.proofs.{Common.[], Common.false, Common.inl, Common.refl, KnownBytes.Appends-nil}
-use Rattle.review_http_requests.proofs.Given.{gave_none}
+use Rattle.std.proofs.Common.{[], false, inl, refl}
+use Rattle.{std.proofs.KnownBytes.Appends-nil, review_http_requests.proofs.Given.gave_none}
 use Rattle.review_machine.proofs.serve.serve_one.Goals as goal
 
 pub returns-in_default-clause-served : goal.returns-in_default-clause-served

@@ -1,7 +1,6 @@
 use Rattle.std.proofs.Common.{◌++◌, ◌∷◌, [], ◌∙◌, ap, sym}
 use Rattle.review_table.specs.Rows.{rows_of}
-use Rattle.review_machine_accounts.proofs.Members.{added_more}
-use Rattle.review_machine_accounts.specs.inner.Words.{added}
+use Rattle.review_machine_accounts.{proofs.Members.added_more, specs.inner.Words.added}
 use Rattle.review_machine_accounts.proofs.accounts.add_members.Goals as goal
 
 pub loop-account-preserved : goal.loop-account-preserved

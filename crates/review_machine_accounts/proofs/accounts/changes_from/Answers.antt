@@ -1,9 +1,7 @@
 use Rattle.std.proofs.Common.{◌++◌, ◌∙◌, ap, sym, subst, map}
-use Rattle.std.specs.Map.Iter.{deref_pair}
-use Rattle.review_table.specs.Rows.{NamesOnce, rows_of}
+use Rattle.{std.specs.Map.Iter.deref_pair, review_table.specs.Rows.NamesOnce, review_table.specs.Rows.rows_of}
 use Rattle.review_machine_rows.specs.Rows.{member_cmp}
-use Rattle.review_machine_accounts.proofs.Members.{changes_once}
-use Rattle.review_machine_accounts.specs.inner.Words.{added, dropped}
+use Rattle.review_machine_accounts.{proofs.Members.changes_once, specs.inner.Words.added, specs.inner.Words.dropped}
 use Rattle.review_machine_accounts.proofs.accounts.changes_from.Goals as goal
 
 pub returns-clause-once : goal.returns-clause-once

@@ -1,5 +1,5 @@
-use Rattle.std.{proofs.Common.◌≡◌, proofs.Common.◌++◌, proofs.Common.take, proofs.Common.map, specs.Map.Iter.deref_pair}
-use Rattle.review_machine_accounts.specs.inner.Words.{dropped}
+use Rattle.std.proofs.Common.{◌≡◌, ◌++◌, take, map}
+use Rattle.{std.specs.Map.Iter.deref_pair, review_machine_accounts.specs.inner.Words.dropped}
 use Rattle.review_machine_accounts.proofs.accounts.drop_members.Given as goal
 
 abbrev pub invariant-loop-account : goal.invariant-loop-account

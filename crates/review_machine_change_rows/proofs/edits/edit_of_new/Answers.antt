@@ -1,6 +1,5 @@
-use Rattle.std.{proofs.Common.refl, proofs.Common.subst, proofs.Common.sym, specs.Ordering.nat_cmp}
-use Rattle.review_table.specs.Rows.{NamesOnce}
-use Rattle.review_core_rules.specs.Seen.{vote_cmp}
+use Rattle.std.proofs.Common.{refl, subst, sym}
+use Rattle.{std.specs.Ordering.nat_cmp, review_table.specs.Rows.NamesOnce, review_core_rules.specs.Seen.vote_cmp}
 use Rattle.review_machine_change_rows.proofs.Edited.{begun, numbers_once}
 use Rattle.review_machine_change_rows.proofs.edits.edit_of_new.Goals as goal
 

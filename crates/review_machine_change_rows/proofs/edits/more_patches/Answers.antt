@@ -1,8 +1,7 @@
 use Rattle.std.proofs.Common.{◌≡◌, ◌+◌, ◌∙◌, ◌++◌, Some, None, cond, length, true, ap, sym, arith}
 use Rattle.review_names.specs.Forms.{is_within, most_patches}
 use Rattle.review_core_rules.proofs.Stays.{within_from}
-use Rattle.review_machine_change_rows.proofs.Edited.{has_number}
-use Rattle.review_machine_change_rows.specs.Edits.{puts_after}
+use Rattle.review_machine_change_rows.{proofs.Edited.has_number, specs.Edits.puts_after}
 use Rattle.review_machine_change_rows.proofs.edits.more_patches.Goals as goal
 
 pub unreachable-requires : goal.unreachable-requires

@@ -1,6 +1,5 @@
 use Rattle.std.proofs.Common.{◌≡◌, ◌++◌}
-use Rattle.review_table.specs.Rows.{rows_of}
-use Rattle.review_machine_change_rows.specs.inner.Words.{numbered}
+use Rattle.{review_table.specs.Rows.rows_of, review_machine_change_rows.specs.inner.Words.numbered}
 use Rattle.review_machine_change_rows.proofs.loading.comments_in_order.Given as goal
 
 -- the rows so far and those that are left are all

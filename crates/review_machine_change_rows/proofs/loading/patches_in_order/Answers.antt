@@ -1,6 +1,5 @@
 use Rattle.std.proofs.Common.{◌≡◌, ◌+◌, ◌∙◌, ◌++◌, ap, sym, [], arith, length}
-use Rattle.std.proofs.lemmas.Grind.{common_steps}
-use Rattle.review_table.specs.Rows.{rows_of}
+use Rattle.{std.proofs.lemmas.Grind.common_steps, review_table.specs.Rows.rows_of}
 use Rattle.review_machine_change_rows.proofs.Ordered.{gap, in_order, numbered_more}
 use Rattle.review_machine_change_rows.specs.inner.Words.{numbered}
 use Rattle.review_machine_change_rows.proofs.loading.patches_in_order.Goals as goal

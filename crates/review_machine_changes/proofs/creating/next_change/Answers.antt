@@ -1,6 +1,5 @@
 use Rattle.std.proofs.Common.{◌+◌, arith}
-use Rattle.review_names.specs.Forms.{most_changes}
-use Rattle.review_core_rules.proofs.Stays.{within_parts}
+use Rattle.{review_names.specs.Forms.most_changes, review_core_rules.proofs.Stays.within_parts}
 use Rattle.review_machine_changes.proofs.creating.next_change.Goals as goal
 
 -- a number that is within the greatest one fits

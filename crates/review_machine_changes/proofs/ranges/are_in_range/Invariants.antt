@@ -1,5 +1,5 @@
-use Rattle.std.{proofs.Common.◌≡◌, proofs.Common.drop, specs.List.list_all}
-use Rattle.review_machine_changes.specs.Facts.{range_in}
+use Rattle.std.proofs.Common.{◌≡◌, drop}
+use Rattle.{std.specs.List.list_all, review_machine_changes.specs.Facts.range_in}
 use Rattle.review_machine_changes.proofs.ranges.are_in_range.Given as goal
 
 abbrev pub invariant-loop-one : goal.invariant-loop-one

@@ -1,6 +1,5 @@
 use Rattle.std.{proofs.Common.subst, specs.Option.option_copied}
-use Rattle.review_core_rules.specs.Seen.{seen}
-use Rattle.review_machine_rows.specs.Answer.{first_refusal}
+use Rattle.{review_core_rules.specs.Seen.seen, review_machine_rows.specs.Answer.first_refusal}
 use Rattle.review_machine_changes.specs.{Facts.IsChecked, Requests.plain_list}
 use Rattle.review_machine_changes.proofs.requests.plain_checked.Goals as goal
 

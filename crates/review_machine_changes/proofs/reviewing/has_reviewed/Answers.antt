@@ -1,6 +1,5 @@
 use Rattle.std.proofs.Common.{◌∙◌, ap, sym, unwrap_or, length}
-use Rattle.review_names.specs.Forms.{is_within}
-use Rattle.review_machine_changes.proofs.Made.{within_itself}
+use Rattle.{review_names.specs.Forms.is_within, review_machine_changes.proofs.Made.within_itself}
 use Rattle.review_machine_changes.proofs.reviewing.has_reviewed.Goals as goal
 
 pub returns-in-None : goal.returns-in-None

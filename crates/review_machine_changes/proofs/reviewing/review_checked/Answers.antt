@@ -1,8 +1,7 @@
 use Rattle.std.proofs.Common.{◌≡◌, ◌⊎◌, inl, inr, subst, ⊎_elim, option_copied}
 use Rattle.review_words.specs.declared.reply.NotTaken.TheVariants.{Damaged, Memory}
 use Rattle.review_core_rules.specs.{Seen.seen, Sound.IsSound}
-use Rattle.review_machine_changes.proofs.Told.{err_with}
-use Rattle.review_machine_changes.specs.{Facts.IsChecked, inner.Facts.LacksFile}
+use Rattle.review_machine_changes.{proofs.Told.err_with, specs.Facts.IsChecked, specs.inner.Facts.LacksFile}
 use Rattle.review_machine_changes.proofs.reviewing.review_checked.Goals as goal
 
 pub returns-clause-checked : goal.returns-clause-checked

@@ -1,9 +1,7 @@
 use Rattle.std.{proofs.Common.◌∙◌, proofs.Common.Some, proofs.Common.sym, specs.Option.option_copied}
-use Rattle.review_names.specs.Forms.{is_within}
-use Rattle.review_words.specs.declared.reply.Refusal.TheVariants.{NoPatchSet}
+use Rattle.{review_names.specs.Forms.is_within, review_words.specs.declared.reply.Refusal.TheVariants.NoPatchSet}
 use Rattle.review_core_rules.specs.{Change.current, Change.reviewed, Seen.seen}
-use Rattle.review_machine_changes.proofs.Made.{first_of}
-use Rattle.review_machine_changes.specs.inner.Facts.{given_of, said_checks}
+use Rattle.review_machine_changes.{proofs.Made.first_of, specs.inner.Facts.given_of, specs.inner.Facts.said_checks}
 use Rattle.review_machine_changes.proofs.reviewing.review_refusal.Goals as goal
 
 pub returns-then-is_some-clause-refusal : goal.returns-then-is_some-clause-refusal

@@ -1,6 +1,5 @@
 use Rattle.std.proofs.Common.{◌≡◌, ◌≤◌, ◌+◌, ◌∙◌, ap, sym, subst, length, min, arith, Bor}
-use Rattle.std.specs.List.{AllByRecursion}
-use Rattle.review_names.specs.Forms.{most_comments}
+use Rattle.{std.specs.List.AllByRecursion, review_names.specs.Forms.most_comments}
 use Rattle.review_words.specs.{Texts.IsCommentNumber, declared.command.ChangeCommand.TheVariants.Review as ReviewOf}
 use Rattle.review_words.specs.declared.reply.{Answer.TheVariants.Reviewed, Reply.TheVariants.Done}
 use Rattle.review_core_rules.specs.{Change.after_plain, Change.said, Seen.seen, declared.rows.ChangeRows.ChangeRows}

@@ -1,6 +1,4 @@
-use Rattle.std.proofs.Common.{subst}
-use Rattle.review_core_rules.specs.Seen.{seen}
-use Rattle.review_machine_changes.specs.Facts.{IsChecked}
+use Rattle.{std.proofs.Common.subst, review_core_rules.specs.Seen.seen, review_machine_changes.specs.Facts.IsChecked}
 use Rattle.review_machine_changes.proofs.uploading.upload_checked.Goals as goal
 
 pub returns-clause-checked : goal.returns-clause-checked

@@ -1,6 +1,5 @@
 use Rattle.std.proofs.Common.{inl, rules, subst, sym, option_copied}
-use Rattle.review_words.specs.declared.command.Delivery.TheVariants.{Read}
-use Rattle.review_machine_rows.specs.Steps.{OfQuery}
+use Rattle.{review_words.specs.declared.command.Delivery.TheVariants.Read, review_machine_rows.specs.Steps.OfQuery}
 use Rattle.review_machine_deliveries.proofs.Served.{shown_served, shown_counts, shown_keeps, unread_keeps, unread_served, err_reply}
 use Rattle.review_machine_deliveries.specs.Gathered.{IsAllAsked}
 use Rattle.review_machine_deliveries.specs.Replies.{IsServed, KeepsUntaken, CountsReply}

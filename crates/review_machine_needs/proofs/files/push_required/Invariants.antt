@@ -1,5 +1,5 @@
-use Rattle.std.{proofs.Common.◌≡◌, proofs.Common.◌++◌, proofs.Common.map, proofs.Common.drop, specs.Prelude.flat_map}
-use Rattle.review_file_rules.specs.Named.{groups_of_requirement}
+use Rattle.std.proofs.Common.{◌≡◌, ◌++◌, map, drop}
+use Rattle.{std.specs.Prelude.flat_map, review_file_rules.specs.Named.groups_of_requirement}
 use Rattle.review_machine_rows.specs.declared.rows.Want.TheVariants as want
 use Rattle.review_machine_needs.proofs.files.push_required.Given as goal
 

@@ -1,6 +1,5 @@
 use Rattle.std.{proofs.Common.rules, specs.Prelude.option_copied}
-use Rattle.review_machine_rows.specs.Steps.{topic_of}
-use Rattle.review_machine_needs.proofs.Going.{above_asked}
+use Rattle.{review_machine_rows.specs.Steps.topic_of, review_machine_needs.proofs.Going.above_asked}
 use Rattle.review_machine_needs.proofs.needs.asked_above.Goals as goal
 
 pub returns : goal.returns

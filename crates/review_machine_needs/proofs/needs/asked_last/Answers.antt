@@ -1,5 +1,4 @@
-use Rattle.review_machine_rows.specs.Steps.{topic_of}
-use Rattle.review_machine_needs.proofs.Going.{last_asked}
+use Rattle.{review_machine_rows.specs.Steps.topic_of, review_machine_needs.proofs.Going.last_asked}
 use Rattle.review_machine_needs.proofs.needs.asked_last.Goals as goal
 
 pub returns : goal.returns

@@ -1,6 +1,5 @@
 use Rattle.std.proofs.Common.{◌∙◌, ◌-◌, ◌∷◌, map, ap, sym}
-use Rattle.std.{proofs.lemmas.List.map-append, specs.Option.option_copied}
-use Rattle.review_machine_rows.specs.Steps.{texts_in}
+use Rattle.{std.proofs.lemmas.List.map-append, std.specs.Option.option_copied, review_machine_rows.specs.Steps.texts_in}
 use Rattle.review_machine_needs.proofs.Going.{taken_more, texts_from, texts_more}
 use Rattle.review_machine_needs.proofs.reading.line_of.Goals as goal
 

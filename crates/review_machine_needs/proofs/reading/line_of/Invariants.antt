@@ -1,6 +1,5 @@
 use Rattle.std.{proofs.Common.◌≡◌, proofs.Common.◌++◌, proofs.Common.map, specs.Prelude.option_copied}
-use Rattle.review_machine_rows.specs.Steps.{texts_in}
-use Rattle.review_machine_needs.proofs.Going.{texts_from}
+use Rattle.{review_machine_rows.specs.Steps.texts_in, review_machine_needs.proofs.Going.texts_from}
 use Rattle.review_machine_needs.proofs.reading.line_of.Given as goal
 
 -- the texts that were taken with those that are left are all

@@ -1,8 +1,6 @@
 use Rattle.std.proofs.Common.{map, subst, sym, take, drop, length, ◌-◌}
-use Rattle.review_file_lines.proofs.Effective.{rest_texts}
-use Rattle.review_machine_rows.specs.Decisions.{IsUnread}
-use Rattle.review_machine_needs.proofs.Going.{unread_is}
-use Rattle.review_machine_needs.specs.inner.Files.{unread_cause}
+use Rattle.{review_file_lines.proofs.Effective.rest_texts, review_machine_rows.specs.Decisions.IsUnread}
+use Rattle.review_machine_needs.{proofs.Going.unread_is, specs.inner.Files.unread_cause}
 use Rattle.review_machine_needs.proofs.reading.read_parts.Goals as goal
 
 pub returns-in-Err-clause-cause : goal.returns-in-Err-clause-cause

@@ -1,6 +1,5 @@
-use Rattle.std.proofs.Common.{sym, ap, ◌∙◌, arith}
-use Rattle.std.{proofs.lemmas.Grind.common_steps, specs.Option.option_or}
-use Rattle.review_table.specs.Rows.{row_in, rows_of}
+use Rattle.std.proofs.{Common.sym, Common.ap, Common.◌∙◌, Common.arith, lemmas.Grind.common_steps}
+use Rattle.{std.specs.Option.option_or, review_table.specs.Rows.row_in, review_table.specs.Rows.rows_of}
 use Rattle.review_machine_rows.proofs.Looked.{one_done, none_left}
 use Rattle.review_machine_rows.proofs.known.add_each.Goals as goal
 

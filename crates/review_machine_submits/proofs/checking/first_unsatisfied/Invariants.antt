@@ -1,6 +1,5 @@
 use Rattle.std.proofs.Common.{Option, ℕ, List, drop}
-use Rattle.std.specs.List.{AllByRecursion}
-use Rattle.review_core_rules.specs.Facts.{IsFirstUnsatisfied}
+use Rattle.{std.specs.List.AllByRecursion, review_core_rules.specs.Facts.IsFirstUnsatisfied}
 use Rattle.review_machine_submits.specs.Submits.{IsThere, judged_in}
 use Rattle.review_machine_submits.proofs.checking.first_unsatisfied.Given as goal
 

@@ -1,5 +1,4 @@
-use Rattle.std.proofs.Common.{◌≡◌, drop}
-use Rattle.review_core_rules.specs.Facts.{unsatisfied_in}
+use Rattle.{std.proofs.Common.◌≡◌, std.proofs.Common.drop, review_core_rules.specs.Facts.unsatisfied_in}
 use Rattle.review_machine_submits.proofs.checking.unsatisfied.Given as goal
 
 abbrev pub invariant-loop-requirement : goal.invariant-loop-requirement

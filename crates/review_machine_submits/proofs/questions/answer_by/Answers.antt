@@ -1,5 +1,5 @@
-use Rattle.std.{proofs.Common.ap, proofs.Common.subst, proofs.Common.sym, specs.Option.option_copied}
-use Rattle.review_words.specs.declared.command.ChangeQuery.TheVariants.{Requirements}
+use Rattle.std.proofs.Common.{ap, subst, sym}
+use Rattle.{std.specs.Option.option_copied, review_words.specs.declared.command.ChangeQuery.TheVariants.Requirements}
 use Rattle.review_core_rules.specs.{Seen.seen, Shown.IsToldOf}
 use Rattle.review_machine_submits.specs.inner.Told.{IsToldBy, setting_by}
 use Rattle.review_machine_submits.proofs.questions.answer_by.Goals as goal

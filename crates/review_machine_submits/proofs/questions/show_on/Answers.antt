@@ -1,6 +1,5 @@
 use Rattle.std.proofs.Common.{◌∙◌, ap, sym, option_copied, option_map}
-use Rattle.review_words.specs.declared.command.Query.TheVariants.{OnChange}
-use Rattle.review_core_rules.specs.Seen.{seen}
+use Rattle.{review_words.specs.declared.command.Query.TheVariants.OnChange, review_core_rules.specs.Seen.seen}
 use Rattle.review_machine_submits.proofs.Loaded.{answered, none_answered, change_told, err_with, untold}
 use Rattle.review_machine_submits.proofs.questions.show_on.Goals as goal
 

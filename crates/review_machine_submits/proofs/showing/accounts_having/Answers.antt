@@ -1,8 +1,7 @@
 use Rattle.std.proofs.Common.{◌∙◌, Some, ap, map, subst, sym}
 use Rattle.std.specs.{List.filter, Map.keys_of, Map.Iter.deref_pair}
 use Rattle.review_core_rules.specs.{Listed.AreThose, Seen.of_account}
-use Rattle.review_machine_rows.specs.Answer.{has_role}
-use Rattle.review_machine_submits.proofs.Loaded.{those_listed}
+use Rattle.{review_machine_rows.specs.Answer.has_role, review_machine_submits.proofs.Loaded.those_listed}
 use Rattle.review_machine_submits.proofs.showing.accounts_having.Goals as goal
 
 pub returns : goal.returns

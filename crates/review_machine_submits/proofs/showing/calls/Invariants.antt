@@ -1,5 +1,5 @@
-use Rattle.std.{proofs.Common.◌≡◌, proofs.Common.◌++◌, proofs.Common.drop, proofs.Common.map, specs.Map.Iter.deref_pair}
-use Rattle.review_core_rules.specs.Shown.{shown_attention_entry}
+use Rattle.std.proofs.Common.{◌≡◌, ◌++◌, drop, map}
+use Rattle.{std.specs.Map.Iter.deref_pair, review_core_rules.specs.Shown.shown_attention_entry}
 use Rattle.review_machine_submits.proofs.showing.calls.Given as goal
 
 abbrev pub invariant-loop-account : goal.invariant-loop-account

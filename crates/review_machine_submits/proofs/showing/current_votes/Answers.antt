@@ -1,7 +1,6 @@
-use Rattle.std.{proofs.Common.◌∙◌, proofs.Common.ap, proofs.Common.map, specs.List.filter, specs.Map.Iter.deref_pair}
-use Rattle.review_core_rules.specs.Shown.{shown_vote}
-use Rattle.review_machine_submits.proofs.Loaded.{votes_shown}
-use Rattle.review_machine_submits.specs.inner.Told.{is_on}
+use Rattle.std.proofs.Common.{◌∙◌, ap, map}
+use Rattle.{std.specs.List.filter, std.specs.Map.Iter.deref_pair, review_core_rules.specs.Shown.shown_vote}
+use Rattle.review_machine_submits.{proofs.Loaded.votes_shown, specs.inner.Told.is_on}
 use Rattle.review_machine_submits.proofs.showing.current_votes.Goals as goal
 
 pub returns : goal.returns

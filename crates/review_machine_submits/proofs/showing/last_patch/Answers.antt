@@ -1,5 +1,5 @@
-use Rattle.std.{proofs.Common.◌∙◌, proofs.Common.sym, proofs.Common.ap, specs.Option.option_copied}
-use Rattle.review_machine_submits.proofs.Loaded.{none_last}
+use Rattle.std.proofs.Common.{◌∙◌, sym, ap}
+use Rattle.{std.specs.Option.option_copied, review_machine_submits.proofs.Loaded.none_last}
 use Rattle.review_machine_submits.proofs.showing.last_patch.Goals as goal
 
 pub unreachable-requires : goal.unreachable-requires

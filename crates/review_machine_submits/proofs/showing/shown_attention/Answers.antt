@@ -1,6 +1,5 @@
 use Rattle.std.{proofs.Common.◌∙◌, proofs.Common.ap, proofs.Common.map, proofs.Common.refl, specs.Map.Iter.deref_pair}
-use Rattle.review_table.specs.Rows.{rows_of}
-use Rattle.review_core_rules.specs.Shown.{shown_attention_entry}
+use Rattle.{review_table.specs.Rows.rows_of, review_core_rules.specs.Shown.shown_attention_entry}
 use Rattle.review_machine_submits.proofs.showing.shown_attention.Goals as goal
 
 pub returns : goal.returns

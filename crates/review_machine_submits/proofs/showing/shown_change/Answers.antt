@@ -1,6 +1,5 @@
 use Rattle.std.proofs.Common.{◌≡◌, ◌∙◌, Some, ap, length, refl, subst, sym, option_map}
-use Rattle.review_core_rules.specs.Change.{of_number}
-use Rattle.review_machine_submits.proofs.Loaded.{last_sender}
+use Rattle.{review_core_rules.specs.Change.of_number, review_machine_submits.proofs.Loaded.last_sender}
 use Rattle.review_machine_submits.proofs.showing.shown_change.Goals as goal
 
 pub returns : goal.returns

@@ -1,5 +1,4 @@
-use Rattle.std.{proofs.Common.drop, specs.List.AllByRecursion}
-use Rattle.review_words.specs.Texts.{IsChangeNumber}
+use Rattle.{std.proofs.Common.drop, std.specs.List.AllByRecursion, review_words.specs.Texts.IsChangeNumber}
 use Rattle.review_machine_submits.proofs.submitting.are_numbers.Given as goal
 
 -- where those that are left have numbers of their form, all have

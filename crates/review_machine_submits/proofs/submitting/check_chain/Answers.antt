@@ -1,7 +1,6 @@
-use Rattle.std.{proofs.Common.subst, proofs.Common.sym, specs.List.AllByRecursion}
-use Rattle.review_core_rules.specs.Seen.{seen}
-use Rattle.review_machine_submits.proofs.Decided.{are_there, members}
-use Rattle.review_machine_submits.specs.Submits.{IsThere}
+use Rattle.std.proofs.Common.{subst, sym}
+use Rattle.{std.specs.List.AllByRecursion, review_core_rules.specs.Seen.seen}
+use Rattle.review_machine_submits.{proofs.Decided.are_there, proofs.Decided.members, specs.Submits.IsThere}
 use Rattle.review_machine_submits.proofs.submitting.check_chain.Goals as goal
 
 pub first_unsatisfied-requires : goal.first_unsatisfied-requires

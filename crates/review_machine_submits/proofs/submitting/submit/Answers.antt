@@ -1,8 +1,7 @@
 use Rattle.std.proofs.Common.{◌∙◌, ap, subst, sym, option_copied, option_map}
 use Rattle.std.proofs.lemmas.Result.{IfOk-weaker, IfErr-weaker}
-use Rattle.review_words.specs.declared.command.Command.TheVariants.{Submit}
-use Rattle.review_words.specs.declared.reply.{NotTaken.TheVariants.Damaged, Refusal.TheVariants.NoChange}
-use Rattle.review_core_rules.specs.Seen.{seen}
+use Rattle.review_words.specs.declared.{command.Command.TheVariants.Submit, reply.NotTaken.TheVariants.Damaged}
+use Rattle.{review_words.specs.declared.reply.Refusal.TheVariants.NoChange, review_core_rules.specs.Seen.seen}
 use Rattle.review_machine_rows.specs.{Decisions.IsUndecided, Steps.OfCommand, View.AreEnough}
 use Rattle.review_machine_laws.proofs.Changes.{all_pass}
 use Rattle.review_machine_accounts.proofs.Decided.{asked_beside, refused_pair}

@@ -1,6 +1,4 @@
-use Rattle.std.proofs.Common.{inl}
-use Rattle.review_core_rules.specs.Seen.{seen}
-use Rattle.review_machine_rows.specs.Links.{links_in}
+use Rattle.{std.proofs.Common.inl, review_core_rules.specs.Seen.seen, review_machine_rows.specs.Links.links_in}
 use Rattle.review_machine_submits.proofs.Decided.{bad_link}
 use Rattle.review_machine_submits.proofs.submitting.submit_chain.Goals as goal
 

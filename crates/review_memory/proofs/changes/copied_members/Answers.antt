@@ -1,7 +1,6 @@
 use Rattle.std.proofs.{Common.◌∙◌, Common.sym, Common.◌++◌, Common.◌∷◌, Common.[], lemmas.List.take_more}
-use Rattle.review_table.specs.declared.table.RowEdit.{RowEdit}
-use Rattle.review_machine_rows.{proofs.Looked.All-step, specs.declared.rows.MemberKey.MemberKey}
-use Rattle.review_memory.specs.Desk.{IsNumber}
+use Rattle.{review_table.specs.declared.table.RowEdit.RowEdit, review_machine_rows.proofs.Looked.All-step}
+use Rattle.{review_machine_rows.specs.declared.rows.MemberKey.MemberKey, review_memory.specs.Desk.IsNumber}
 use Rattle.review_memory.proofs.changes.copied_members.Goals as goal
 
 pub loop-change-preserved : goal.loop-change-preserved

@@ -1,5 +1,4 @@
-use Rattle.std.{proofs.Common.◌≡◌, proofs.Common.take, specs.List.All}
-use Rattle.review_memory.specs.Desk.{IsNumber}
+use Rattle.{std.proofs.Common.◌≡◌, std.proofs.Common.take, std.specs.List.All, review_memory.specs.Desk.IsNumber}
 use Rattle.review_memory.proofs.changes.copied_members.Given as goal
 
 abbrev pub invariant-loop-change : goal.invariant-loop-change

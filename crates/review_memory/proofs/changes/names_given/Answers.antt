@@ -1,7 +1,6 @@
 use Rattle.std.proofs.Common.{◌≡◌, ◌+◌, ◌∙◌, ap, sym, subst, ◌++◌, ◌∷◌, [], List, take, Option, Some, ℕ, ◌<◌, length, get_or, All, Contains, IfSome}
 use Rattle.std.proofs.lemmas.List.Elements.{All-push, Contains-get_or}
-use Rattle.review_table.specs.declared.table.RowEdit.{RowEdit}
-use Rattle.review_machine_rows.proofs.Looked.{All-step}
+use Rattle.{review_table.specs.declared.table.RowEdit.RowEdit, review_machine_rows.proofs.Looked.All-step}
 use Rattle.review_memory.proofs.{Applied.given_more, Applied.listed_here, Lower.All-whole}
 use Rattle.review_memory.proofs.changes.names_given.Goals.{in-Some+in_ok-copy+in_ok-push, in_default}
 use Rattle.review_memory.specs.{Desk.IsGiven, Desk.IsNameOf, Desk.IsNumber, declared.keys.NameKey.NameKey}

@@ -1,6 +1,5 @@
 use Rattle.std.proofs.Common.{◌≡◌, ◌+◌, ◌∙◌, ap, sym, subst, ◌++◌, ◌∷◌, [], List, take, Option, ℕ, All, Contains, IfSome, nat_cmp}
-use Rattle.review_table.specs.Rows.{row_in, rows_of}
-use Rattle.review_machine_rows.proofs.Looked.{All-step}
+use Rattle.{review_table.specs.Rows.row_in, review_table.specs.Rows.rows_of, review_machine_rows.proofs.Looked.All-step}
 use Rattle.review_memory.proofs.{Applied.held_more, Applied.listed_here, Lower.All-whole}
 use Rattle.review_memory.proofs.changes.names_held.Goals.{in-Some+in_ok-copy+in_ok-push, in_default}
 use Rattle.review_memory.specs.{Desk.IsHeld, declared.keys.NameKey.NameKey}

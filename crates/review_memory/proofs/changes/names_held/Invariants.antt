@@ -1,6 +1,5 @@
 use Rattle.std.{proofs.Common.take, specs.List.All}
-use Rattle.review_table.specs.Rows.{rows_of}
-use Rattle.review_memory.specs.Desk.{IsHeld}
+use Rattle.{review_table.specs.Rows.rows_of, review_memory.specs.Desk.IsHeld}
 use Rattle.review_memory.proofs.changes.names_held.Given as goal
 
 abbrev pub invariant-loop-change : goal.invariant-loop-change

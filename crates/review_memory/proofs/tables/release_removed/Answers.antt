@@ -1,8 +1,6 @@
 use Rattle.std.proofs.Common.{◌≡◌, ◌∙◌, ◌∷◌, ◌+◌, sym, subst, drop, add-one}
-use Rattle.std.proofs.Math.Seq.{drop-cons}
-use Rattle.review_table.specs.Rows.{HasEmptyOnly}
-use Rattle.review_memory.proofs.Lower.{none_removed, past_all}
-use Rattle.review_memory.specs.Desk.{is_removed}
+use Rattle.{std.proofs.Math.Seq.drop-cons, review_table.specs.Rows.HasEmptyOnly}
+use Rattle.review_memory.{proofs.Lower.none_removed, proofs.Lower.past_all, specs.Desk.is_removed}
 use Rattle.review_memory.proofs.tables.release_removed.Goals as goal
 
 pub loop-change-preserved : goal.loop-change-preserved

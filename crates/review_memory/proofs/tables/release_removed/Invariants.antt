@@ -1,6 +1,5 @@
 use Rattle.std.proofs.Common.{◌≡◌, drop}
-use Rattle.review_table.specs.Rows.{rows_of, HasEmptyOnly}
-use Rattle.review_memory.specs.Desk.{is_removed}
+use Rattle.{review_table.specs.Rows.rows_of, review_table.specs.Rows.HasEmptyOnly, review_memory.specs.Desk.is_removed}
 use Rattle.review_memory.proofs.tables.release_removed.Given as goal
 
 abbrev pub invariant-loop-change : goal.invariant-loop-change

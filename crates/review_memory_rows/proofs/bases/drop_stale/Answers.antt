@@ -1,6 +1,5 @@
 use Rattle.std.specs.BTreeMap.{is_at}
-use Rattle.review_memory_rows.proofs.Based.{none_spare}
-use Rattle.review_memory_rows.specs.Bases.{commit_cmp}
+use Rattle.review_memory_rows.{proofs.Based.none_spare, specs.Bases.commit_cmp}
 use Rattle.review_memory_rows.proofs.bases.drop_stale.Goals as goal
 
 pub returns-then-ne-clause-full : goal.returns-then-ne-clause-full

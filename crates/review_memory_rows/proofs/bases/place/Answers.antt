@@ -1,5 +1,4 @@
-use Rattle.std.proofs.Common.{subst}
-use Rattle.review_table.specs.Rows.{rows_of}
+use Rattle.{std.proofs.Common.subst, review_table.specs.Rows.rows_of}
 use Rattle.review_memory_rows.proofs.Based.{WithRow, as_before}
 use Rattle.review_memory_rows.specs.{Bases.commit_cmp, declared.keys.CommitKey.CommitKey}
 use Rattle.review_memory_rows.proofs.bases.place.Goals as goal

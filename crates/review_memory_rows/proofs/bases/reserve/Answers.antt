@@ -1,7 +1,6 @@
 use Rattle.std.{proofs.Common.subst, specs.Cmp.Lexicographic.slice_cmp, specs.Ordering.nat_cmp}
 use Rattle.review_table.specs.Rows.{HavePlaces, HasEmptyOnly, is_named}
-use Rattle.review_machine_rows.specs.Rows.{branch_cmp}
-use Rattle.review_memory_rows.proofs.Based.{none_spare}
+use Rattle.{review_machine_rows.specs.Rows.branch_cmp, review_memory_rows.proofs.Based.none_spare}
 use Rattle.review_memory_rows.proofs.bases.reserve.Goals as goal
 
 pub returns-clause-ended : goal.returns-clause-ended

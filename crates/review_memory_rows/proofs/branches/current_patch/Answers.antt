@@ -1,6 +1,4 @@
-use Rattle.std.specs.Option.{option_copied}
-use Rattle.review_table.specs.Rows.{rows_of}
-use Rattle.review_memory_rows.proofs.Sent.{current_of}
+use Rattle.{std.specs.Option.option_copied, review_table.specs.Rows.rows_of, review_memory_rows.proofs.Sent.current_of}
 use Rattle.review_memory_rows.proofs.branches.current_patch.Goals as goal
 
 pub returns-in-Some : goal.returns-in-Some

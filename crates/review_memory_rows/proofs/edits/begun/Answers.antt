@@ -1,7 +1,6 @@
 use Rattle.std.proofs.{Common.◌∙◌, Common.None, lemmas.Result.IfOk-weaker}
 use Rattle.review_machine_change_rows.specs.Tables.{part_in}
-use Rattle.review_memory_rows.proofs.Turned.{bare_before}
-use Rattle.review_memory_rows.specs.Kept.{AreEdited}
+use Rattle.review_memory_rows.{proofs.Turned.bare_before, specs.Kept.AreEdited}
 use Rattle.review_memory_rows.proofs.edits.begun.Goals as goal
 
 pub returns : goal.returns

@@ -1,6 +1,5 @@
 use Rattle.std.proofs.Common.{◌++◌, ◌<◌, ◌∙◌, ap, subst, length, get_or}
-use Rattle.review_memory_rows.proofs.Turned.{sent_more}
-use Rattle.review_memory_rows.specs.Kept.{sent_in}
+use Rattle.review_memory_rows.{proofs.Turned.sent_more, specs.Kept.sent_in}
 use Rattle.review_memory_rows.proofs.kept.add_sent.Goals as goal
 
 pub loop-patch-preserved : goal.loop-patch-preserved

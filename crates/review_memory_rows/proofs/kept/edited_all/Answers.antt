@@ -1,5 +1,4 @@
-use Rattle.review_table.specs.Rows.{rows_of}
-use Rattle.review_memory_rows.proofs.Turned.{puts_more}
+use Rattle.{review_table.specs.Rows.rows_of, review_memory_rows.proofs.Turned.puts_more}
 use Rattle.review_memory_rows.proofs.kept.edited_all.Goals as goal
 
 pub loop-edit-preserved : goal.loop-edit-preserved

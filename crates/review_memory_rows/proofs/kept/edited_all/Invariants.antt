@@ -1,6 +1,4 @@
-use Rattle.std.proofs.Common.{take}
-use Rattle.review_table.specs.Rows.{rows_of}
-use Rattle.review_memory_rows.specs.Kept.{PutAllEdited}
+use Rattle.{std.proofs.Common.take, review_table.specs.Rows.rows_of, review_memory_rows.specs.Kept.PutAllEdited}
 use Rattle.review_memory_rows.proofs.kept.edited_all.Given as goal
 
 abbrev pub invariant-loop-edit : goal.invariant-loop-edit

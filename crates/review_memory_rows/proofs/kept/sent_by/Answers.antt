@@ -1,5 +1,4 @@
-use Rattle.review_memory_rows.proofs.Turned.{sent_by_more}
-use Rattle.review_memory_rows.specs.Kept.{sent_by}
+use Rattle.review_memory_rows.{proofs.Turned.sent_by_more, specs.Kept.sent_by}
 use Rattle.review_memory_rows.proofs.kept.sent_by.Goals as goal
 
 pub loop-edit-preserved : goal.loop-edit-preserved

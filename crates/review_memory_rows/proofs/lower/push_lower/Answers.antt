@@ -1,7 +1,6 @@
 use Rattle.std.proofs.Common.{◌∙◌, ◌++◌, ap, sym, map, take}
 use Rattle.std.{proofs.lemmas.List.append_assoc, proofs.lemmas.List.take_all, specs.Map.Iter.deref_pair}
-use Rattle.review_memory_rows.proofs.Dropped.{lower_more}
-use Rattle.review_memory_rows.specs.Answers.{if_lower, lower}
+use Rattle.review_memory_rows.{proofs.Dropped.lower_more, specs.Answers.if_lower, specs.Answers.lower}
 use Rattle.review_memory_rows.proofs.lower.push_lower.Goals as goal
 
 pub loop-row-preserved : goal.loop-row-preserved

@@ -1,5 +1,5 @@
-use Rattle.std.{proofs.Common.◌≡◌, proofs.Common.◌++◌, proofs.Common.map, proofs.Common.take, specs.Map.Iter.deref_pair}
-use Rattle.review_memory_rows.specs.Answers.{lower}
+use Rattle.std.proofs.Common.{◌≡◌, ◌++◌, map, take}
+use Rattle.{std.specs.Map.Iter.deref_pair, review_memory_rows.specs.Answers.lower}
 use Rattle.review_memory_rows.proofs.lower.push_lower.Given as goal
 
 abbrev pub invariant-loop-row : goal.invariant-loop-row

@@ -1,6 +1,5 @@
 use Rattle.std.specs.Prelude.{flat_map}
-use Rattle.review_memory_rows.proofs.Turned.{flat_more}
-use Rattle.review_memory_rows.specs.Kept.{placed_in}
+use Rattle.review_memory_rows.{proofs.Turned.flat_more, specs.Kept.placed_in}
 use Rattle.review_memory_rows.proofs.places.placed_by.Goals as goal
 
 pub loop-edit-preserved : goal.loop-edit-preserved

@@ -1,5 +1,5 @@
-use Rattle.std.{proofs.Common.◌≡◌, proofs.Common.ℕ, proofs.Common.List, proofs.Common.◌++◌, specs.Vec.vec_len}
-use Rattle.review_names.specs.Names.{set_of}
+use Rattle.std.proofs.Common.{◌≡◌, ℕ, List, ◌++◌}
+use Rattle.{std.specs.Vec.vec_len, review_names.specs.Names.set_of}
 use Rattle.review_names.proofs.names.collected.Given as goal
 
 -- the set is that of the accounts that are taken off the end

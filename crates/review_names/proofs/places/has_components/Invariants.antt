@@ -1,7 +1,7 @@
 use denote.Shadow.{shadow}
 use denote.Text.{Utf8}
-use Rattle.std.{proofs.Common.◌≡◌, proofs.Common.length, specs.List.list_all}
-use Rattle.review_names.specs.Forms.{components}
+use Rattle.std.proofs.Common.{◌≡◌, length}
+use Rattle.{std.specs.List.list_all, review_names.specs.Forms.components}
 use Rattle.review_names.proofs.places.has_components.Given as goal
 
 abbrev pub invariant-loop-component : goal.invariant-loop-component

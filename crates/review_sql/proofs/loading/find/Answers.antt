@@ -1,7 +1,5 @@
 use Rattle.std.proofs.Common.{◌≡◌, Ok, subst, sym}
-use Rattle.sqlite.specs.Held.{state}
-use Rattle.review_sql_tables.proofs.Found.{look_on}
-use Rattle.review_sql.proofs.Finding.{is_group}
+use Rattle.{sqlite.specs.Held.state, review_sql_tables.proofs.Found.look_on, review_sql.proofs.Finding.is_group}
 use Rattle.review_sql.specs.Loading.{LearnsBounded, LearnsSeen}
 use Rattle.review_machine_rows.specs.declared.rows.Want.TheVariants as want
 use Rattle.review_sql.proofs.loading.find.Goals as goal

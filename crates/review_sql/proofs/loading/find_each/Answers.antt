@@ -1,9 +1,7 @@
 use Rattle.std.proofs.Common.{◌≡◌, Option, Ok, false, subst, rules}
-use Rattle.sqlite_trees.specs.Tree.{Trees}
-use Rattle.review_sql_tables.specs.Search.{row_at}
+use Rattle.{sqlite_trees.specs.Tree.Trees, review_sql_tables.specs.Search.row_at}
 use Rattle.review_sql_records.specs.{Forms.desk, declared.rows.DeskRow.DeskRow}
-use Rattle.review_sql.proofs.Finding.{seen_open}
-use Rattle.review_sql.specs.Loading.{LooksIf, WereSeen}
+use Rattle.review_sql.{proofs.Finding.seen_open, specs.Loading.LooksIf, specs.Loading.WereSeen}
 use Rattle.review_sql.proofs.loading.find_each.Goals as goal
 
 pub returns-in_ok-_desk-clause-looks : goal.returns-in_ok-_desk-clause-looks

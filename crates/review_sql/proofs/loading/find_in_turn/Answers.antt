@@ -1,6 +1,5 @@
 use Rattle.std.proofs.Common.{◌≡◌, ◌∙◌, Ok, Err, subst, sym, rules, arith}
-use Rattle.std.proofs.lemmas.List.{take_all}
-use Rattle.review_machine_rows.specs.Known.{AreAsked}
+use Rattle.{std.proofs.lemmas.List.take_all, review_machine_rows.specs.Known.AreAsked}
 use Rattle.review_sql.proofs.Finding.{Have, all_seen, have_more, learnt_asked, one_failed, one_more, seen_unlearnt}
 use Rattle.review_sql.specs.Loading.{LearnsBounded, LooksIf, LooksOnce, WereSeen}
 use Rattle.review_sql.specs.declared.loading.Ended.TheVariants as ended

@@ -1,7 +1,5 @@
 use Rattle.std.proofs.Common.{◌≡◌, take, Ok}
-use Rattle.review_machine_rows.specs.Known.{AreAsked}
-use Rattle.review_sql.proofs.Finding.{Have}
-use Rattle.review_sql.specs.Loading.{LooksIf}
+use Rattle.{review_machine_rows.specs.Known.AreAsked, review_sql.proofs.Finding.Have, review_sql.specs.Loading.LooksIf}
 use Rattle.review_sql.proofs.loading.find_in_turn.Given as goal
 
 abbrev pub invariant-loop-want : goal.invariant-loop-want

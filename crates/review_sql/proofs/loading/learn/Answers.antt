@@ -1,7 +1,6 @@
 use Rattle.std.proofs.Common.{◌≡◌, sym, subst}
 use Rattle.review_machine_rows.specs.Known.{meaning}
-use Rattle.review_sql.proofs.Finding.{has_learnt, learnt_seen}
-use Rattle.review_sql.specs.Loading.{LearnsSeen}
+use Rattle.review_sql.{proofs.Finding.has_learnt, proofs.Finding.learnt_seen, specs.Loading.LearnsSeen}
 use Rattle.review_sql.specs.declared.loading.Ended.TheVariants as ended
 use Rattle.review_sql.proofs.loading.learn.Goals as goal
 

@@ -1,8 +1,6 @@
 use Rattle.std.proofs.Common.{◌≡◌, refl, sym, subst}
-use Rattle.review_table.specs.Rows.{rows_of}
-use Rattle.review_machine_rows.specs.Known.{Members}
-use Rattle.review_sql.proofs.Finding.{has_learnt, learnt_seen}
-use Rattle.review_sql.specs.Loading.{LearnsSeen}
+use Rattle.{review_table.specs.Rows.rows_of, review_machine_rows.specs.Known.Members}
+use Rattle.review_sql.{proofs.Finding.has_learnt, proofs.Finding.learnt_seen, specs.Loading.LearnsSeen}
 use Rattle.review_machine_rows.specs.declared.rows.Want.TheVariants as want
 use Rattle.review_sql.specs.declared.loading.Ended.TheVariants as ended
 use Rattle.review_sql.proofs.loading.learn_group.Goals as goal

@@ -1,5 +1,4 @@
-use Rattle.sqlite.specs.Held.{state}
-use Rattle.review_sql.proofs.Found.{asked_loaded, served_loaded}
+use Rattle.{sqlite.specs.Held.state, review_sql.proofs.Found.asked_loaded, review_sql.proofs.Found.served_loaded}
 use Rattle.review_sql.proofs.loading.load.Goals as goal
 
 pub returns-clause-serves : goal.returns-clause-serves

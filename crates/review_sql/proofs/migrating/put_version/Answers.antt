@@ -1,5 +1,4 @@
-use Rattle.sqlite.specs.Held.{state}
-use Rattle.review_sql_tables.proofs.Sequences.{next}
+use Rattle.{sqlite.specs.Held.state, review_sql_tables.proofs.Sequences.next}
 use Rattle.review_sql.proofs.migrating.put_version.Goals as goal
 
 pub returns-clause-ran : goal.returns-clause-ran

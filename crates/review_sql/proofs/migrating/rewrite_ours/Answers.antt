@@ -1,6 +1,5 @@
 use Rattle.std.proofs.Common.{rules, ◌≡◌, true}
-use Rattle.sqlite.specs.Held.{state}
-use Rattle.review_sql.proofs.Raised.{raised_ours}
+use Rattle.{sqlite.specs.Held.state, review_sql.proofs.Raised.raised_ours}
 use Rattle.review_sql.proofs.migrating.rewrite_ours.Goals as goal
 
 pub returns-clause-ran : goal.returns-clause-ran

@@ -1,9 +1,7 @@
 use Rattle.std.proofs.Common.{rules, Bool, ◌≡◌, ◌∙◌, ap, not, subst, IsTrue}
-use Rattle.std.specs.Bool.{Decides}
-use Rattle.sqlite.{proofs.StateLemmas.clean_if_open, specs.Held.Held, specs.Held.state}
-use Rattle.sqlite_trees.specs.Tree.{Trees}
-use Rattle.review_sql.proofs.Peeking.{peeked}
-use Rattle.review_sql.specs.Opened.{AreAllApart, Peeks}
+use Rattle.{std.specs.Bool.Decides, sqlite.proofs.StateLemmas.clean_if_open}
+use Rattle.{sqlite.specs.Held.Held, sqlite.specs.Held.state, sqlite_trees.specs.Tree.Trees}
+use Rattle.review_sql.{proofs.Peeking.peeked, specs.Opened.AreAllApart, specs.Opened.Peeks}
 use Rattle.review_sql.proofs.opening.peek.Goals as goal
 
 pub returns-clause-peeks : goal.returns-clause-peeks

@@ -1,5 +1,4 @@
-use Rattle.sqlite.specs.Held.{state}
-use Rattle.review_sql.proofs.Peeking.{refused_third}
+use Rattle.{sqlite.specs.Held.state, review_sql.proofs.Peeking.refused_third}
 use Rattle.review_sql.proofs.opening.see.Goals as goal
 
 pub returns-in-Third-clause-refused : goal.returns-in-Third-clause-refused

@@ -1,8 +1,6 @@
 use Rattle.std.proofs.Common.{rules, ◌≡◌, ◌∙◌, true, ap, subst}
-use Rattle.std.specs.Bool.{Decides}
-use Rattle.sqlite.{proofs.StateLemmas.clean_if_open, specs.Effect.Database, specs.Held.state}
-use Rattle.review_sql.proofs.Peeking.{seen_ours}
-use Rattle.review_sql.specs.Opened.{AreAllApart}
+use Rattle.{std.specs.Bool.Decides, sqlite.proofs.StateLemmas.clean_if_open, sqlite.specs.Effect.Database}
+use Rattle.{sqlite.specs.Held.state, review_sql.proofs.Peeking.seen_ours, review_sql.specs.Opened.AreAllApart}
 use Rattle.review_sql.proofs.opening.see_desk.Goals as goal
 
 pub returns-in-Ok-clause-seen : goal.returns-in-Ok-clause-seen

@@ -1,6 +1,5 @@
 use Rattle.std.proofs.Common.{rules, ◌≡◌, ℕ, List, true, false, inl, inr, sym, subst, get_or, arith}
-use Rattle.std.proofs.lemmas.Bool.{cases_lt}
-use Rattle.sqlite.specs.{Effect.Database, Held.state}
+use Rattle.{std.proofs.lemmas.Bool.cases_lt, sqlite.specs.Effect.Database, sqlite.specs.Held.state}
 use Rattle.review_sql.proofs.Staying.{stays_still, stays_then}
 use Rattle.review_sql.specs.Shelf.{IsUnderstood, rows_read}
 use Rattle.review_sql.proofs.there.are_all_there.Goals as goal

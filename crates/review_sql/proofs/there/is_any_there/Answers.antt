@@ -1,9 +1,7 @@
 use Rattle.std.proofs.Common.{rules, ◌≡◌, ◌<◌, ℕ, List, length, refl, true, false, inl, inr, sym, subst, get_or, map, arith}
-use Rattle.std.proofs.lemmas.Bool.{cases_lt}
-use Rattle.sqlite.specs.{Effect.Database, Held.state}
+use Rattle.{std.proofs.lemmas.Bool.cases_lt, sqlite.specs.Effect.Database, sqlite.specs.Held.state}
 use Rattle.review_sql_tables.specs.declared.texts.TheConstants.{ANY_ROW}
-use Rattle.review_sql.proofs.Staying.{stays_still, stays_then}
-use Rattle.review_sql.specs.Shelf.{IsUnderstood}
+use Rattle.review_sql.{proofs.Staying.stays_still, proofs.Staying.stays_then, specs.Shelf.IsUnderstood}
 use Rattle.review_sql.proofs.there.is_any_there.Goals as goal
 
 pub loop-at-init : goal.loop-at-init

@@ -1,6 +1,4 @@
-use Rattle.std.proofs.Common.{Ok}
-use Rattle.sqlite.specs.Held.{state}
-use Rattle.review_sql_tables.proofs.Found.{look_on}
+use Rattle.{std.proofs.Common.Ok, sqlite.specs.Held.state, review_sql_tables.proofs.Found.look_on}
 use Rattle.review_sql_change_lookups.proofs.Joined.{KnowsAll}
 use Rattle.review_sql_change_lookups.proofs.joins.find_joined.Goals as goal
 

@@ -1,8 +1,6 @@
 use Rattle.std.proofs.Common.{◌≡◌, ◌∙◌, ◌+◌, Some, None, Ok, subst, sym, rules, arith}
-use Rattle.sqlite.specs.Held.{state}
-use Rattle.review_sql_tables.{proofs.Found.look_on, specs.Ran.Looks}
-use Rattle.review_machine_rows.specs.declared.rows.PlaceKey.{PlaceKey}
-use Rattle.review_sql_lookups.specs.Loads.{IfTold}
+use Rattle.{sqlite.specs.Held.state, review_sql_tables.proofs.Found.look_on, review_sql_tables.specs.Ran.Looks}
+use Rattle.{review_machine_rows.specs.declared.rows.PlaceKey.PlaceKey, review_sql_lookups.specs.Loads.IfTold}
 use Rattle.review_sql_change_lookups.proofs.Joined.{joined_all, joined_first, joined_more, joined_none, KnowsAll, KnowsLast, KnowsOne, SoFar}
 use Rattle.review_sql_change_lookups.specs.Joins.{IsLastPlace}
 use Rattle.review_sql_change_lookups.proofs.joins.find_joins.Goals as goal

@@ -1,5 +1,4 @@
-use Rattle.std.proofs.Common.{refl}
-use Rattle.review_sql_change_lookups.proofs.Joining.{none_joined}
+use Rattle.{std.proofs.Common.refl, review_sql_change_lookups.proofs.Joining.none_joined}
 use Rattle.review_sql_change_lookups.proofs.places.none_joined.Goals as goal
 
 pub returns : goal.returns

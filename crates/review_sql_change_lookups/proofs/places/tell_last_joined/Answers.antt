@@ -1,6 +1,5 @@
 use Rattle.std.proofs.Common.{◌≡◌, true, false, refl, sym, subst, rules}
-use Rattle.review_sql_change_lookups.proofs.{Joining.last_joined, Placed.last_elsewhere}
-use Rattle.review_sql_change_lookups.specs.Joins.{IsHeaderAt}
+use Rattle.review_sql_change_lookups.{proofs.Joining.last_joined, proofs.Placed.last_elsewhere, specs.Joins.IsHeaderAt}
 use Rattle.review_sql_change_lookups.proofs.places.tell_last_joined.Goals as goal
 
 pub returns : goal.returns

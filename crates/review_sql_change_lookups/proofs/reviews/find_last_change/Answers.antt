@@ -1,6 +1,5 @@
 use Rattle.std.proofs.Common.{rules, ◌≡◌, Option, ℕ, None, Some, Ok}
-use Rattle.sqlite.specs.Held.{state}
-use Rattle.sqlite_trees.specs.Tree.{Trees}
+use Rattle.{sqlite.specs.Held.state, sqlite_trees.specs.Tree.Trees}
 use Rattle.review_sql_tables.{proofs.Found.look_both, proofs.Found.look_on, specs.Greatest.HasGreatest}
 use Rattle.review_sql_records.specs.Keyed.{is_small, where_is}
 use Rattle.review_sql_change_records.specs.Forms.{change_numbers}

@@ -1,7 +1,5 @@
 use Rattle.std.proofs.Common.{◌≡◌, ℕ, ℤ, List, Option, option_map, Ok}
-use Rattle.std.specs.Ordering.{nat_cmp}
-use Rattle.sqlite.specs.Held.{state}
-use Rattle.sqlite_trees.specs.Tree.{Trees}
+use Rattle.{std.specs.Ordering.nat_cmp, sqlite.specs.Held.state, sqlite_trees.specs.Tree.Trees}
 use Rattle.review_table.specs.Rows.{rows_of}
 use Rattle.review_sql_tables.{proofs.Found.look_both, proofs.Found.look_on, specs.Fronts.AreParts, specs.Search.row_at}
 use Rattle.review_core_rules.specs.Seen.{vote_cmp}

@@ -1,7 +1,6 @@
 use Rattle.std.proofs.Common.{◌≡◌, Some, rules, subst}
 use Rattle.review_machine_change_rows.specs.{Tables.HaveFault, declared.loading.ChangeFault.TheVariants.Gap}
-use Rattle.review_sql_change_lookups.proofs.Reviewing.{gap_damaged, why_told}
-use Rattle.review_sql_change_lookups.specs.Reviews.{HaveTables}
+use Rattle.review_sql_change_lookups.{proofs.Reviewing.gap_damaged, proofs.Reviewing.why_told, specs.Reviews.HaveTables}
 use Rattle.review_machine_rows.specs.declared.rows.Want.TheVariants as want
 use Rattle.review_sql_change_lookups.proofs.reviews.tell_change.Goals as goal
 

@@ -1,7 +1,5 @@
-use Rattle.std.proofs.Common.{false, Ok}
-use Rattle.sqlite.specs.Held.{state}
-use Rattle.review_sql_tables.proofs.Found.{look_on}
-use Rattle.review_sql_change_lookups.proofs.Sending.{KnowsSent}
+use Rattle.{std.proofs.Common.false, std.proofs.Common.Ok, sqlite.specs.Held.state}
+use Rattle.{review_sql_tables.proofs.Found.look_on, review_sql_change_lookups.proofs.Sending.KnowsSent}
 use Rattle.review_sql_change_lookups.proofs.senders.find_change_of.Goals as goal
 
 pub returns-clause-looks : goal.returns-clause-looks

@@ -1,6 +1,5 @@
 use Rattle.std.proofs.Common.{◌≡◌, Some, None, true, Ok, subst, rules}
-use Rattle.sqlite.specs.Held.{state}
-use Rattle.review_sql_tables.proofs.Found.{look_both, look_on}
+use Rattle.{sqlite.specs.Held.state, review_sql_tables.proofs.Found.look_both, review_sql_tables.proofs.Found.look_on}
 use Rattle.review_sql_change_lookups.proofs.Sending.{KnowsSent, is_outside, looks_so, stands_merged_so}
 use Rattle.review_sql_change_lookups.proofs.senders.find_merged.Goals as goal
 

@@ -1,7 +1,5 @@
 use Rattle.std.proofs.Common.{◌≡◌, Ok}
-use Rattle.sqlite.specs.Held.{state}
-use Rattle.review_sql_tables.specs.Ran.{Looks}
-use Rattle.review_sql_change_lookups.proofs.Sending.{Seen}
+use Rattle.{sqlite.specs.Held.state, review_sql_tables.specs.Ran.Looks, review_sql_change_lookups.proofs.Sending.Seen}
 use Rattle.review_sql_change_lookups.proofs.senders.find_sent.Given as goal
 
 abbrev pub invariant-loop-one : goal.invariant-loop-one

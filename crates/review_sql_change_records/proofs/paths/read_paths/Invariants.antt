@@ -1,7 +1,6 @@
 use denote.Shadow.{shadow}
 use denote.Text.{Utf8}
-use Rattle.std.proofs.Common.{length}
-use Rattle.review_sql_change_records.proofs.Lines.{AreLinesSoFar}
+use Rattle.{std.proofs.Common.length, review_sql_change_records.proofs.Lines.AreLinesSoFar}
 use Rattle.review_sql_change_records.proofs.paths.read_paths.Given as goal
 
 abbrev pub invariant-loop-line : goal.invariant-loop-line

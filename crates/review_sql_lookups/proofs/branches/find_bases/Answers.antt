@@ -1,7 +1,5 @@
 use Rattle.std.proofs.Common.{Option, List, ℕ, option_map, Ok}
-use Rattle.std.specs.Ordering.{nat_cmp}
-use Rattle.sqlite.specs.Held.{state}
-use Rattle.sqlite_trees.specs.Tree.{Trees}
+use Rattle.{std.specs.Ordering.nat_cmp, sqlite.specs.Held.state, sqlite_trees.specs.Tree.Trees}
 use Rattle.review_table.specs.Rows.{rows_of}
 use Rattle.review_sql_tables.{proofs.Found.look_on, specs.Fronts.AreParts}
 use Rattle.review_sql_records.specs.Forms.{branch_bases, base_parts}

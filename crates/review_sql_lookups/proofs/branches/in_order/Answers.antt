@@ -1,10 +1,8 @@
 use Rattle.std.proofs.Common.{◌≡◌, ◌+◌, ◌∙◌, ◌++◌, ap, sym, subst, Some, [], arith, length}
-use Rattle.std.proofs.lemmas.Grind.{common_steps}
-use Rattle.review_table.specs.Rows.{rows_of}
+use Rattle.{std.proofs.lemmas.Grind.common_steps, review_table.specs.Rows.rows_of}
 use Rattle.review_machine_change_rows.proofs.Ordered.{gap, in_order, numbered_more}
 use Rattle.review_machine_change_rows.specs.inner.Words.{numbered}
-use Rattle.review_sql_lookups.proofs.Telling.{ordered, unordered}
-use Rattle.review_sql_lookups.specs.Loads.{IsOrdered}
+use Rattle.review_sql_lookups.{proofs.Telling.ordered, proofs.Telling.unordered, specs.Loads.IsOrdered}
 use Rattle.review_sql_lookups.proofs.branches.in_order.Goals as goal
 
 pub loop-place-init : goal.loop-place-init

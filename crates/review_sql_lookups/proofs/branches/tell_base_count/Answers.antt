@@ -1,8 +1,7 @@
-use Rattle.std.proofs.{Common.◌≡◌, Common.◌∙◌, Common.refl, Common.sym, Common.arith, lemmas.Option.same_Some}
-use Rattle.review_sql_tables.specs.Greatest.{as_counted}
+use Rattle.std.proofs.Common.{◌≡◌, ◌∙◌, refl, sym, arith}
+use Rattle.{std.proofs.lemmas.Option.same_Some, review_sql_tables.specs.Greatest.as_counted}
 use Rattle.review_machine_rows.specs.{Limits.most_bases, Rows.BasesOf}
-use Rattle.review_sql_lookups.proofs.Bounded.{counted_below}
-use Rattle.review_sql_lookups.specs.Tables.{tables_at}
+use Rattle.review_sql_lookups.{proofs.Bounded.counted_below, specs.Tables.tables_at}
 use Rattle.review_sql_lookups.proofs.branches.tell_base_count.Goals as goal
 
 pub returns : goal.returns

@@ -1,7 +1,6 @@
 use Rattle.std.proofs.Common.{◌≡◌, ◌∙◌, Some, None, refl, sym, ap, rules}
 use Rattle.review_sql_records.specs.declared.rows.DeskRow.{DeskRow}
-use Rattle.review_sql_lookups.proofs.Odd.{desk_damaged}
-use Rattle.review_sql_lookups.specs.Tables.{number_of, tables_at}
+use Rattle.review_sql_lookups.{proofs.Odd.desk_damaged, specs.Tables.number_of, specs.Tables.tables_at}
 use Rattle.review_sql_lookups.proofs.branches.tell_requests.Goals as goal
 
 pub returns-in-Some-Some : goal.returns-in-Some-Some

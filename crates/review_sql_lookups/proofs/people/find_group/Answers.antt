@@ -1,10 +1,7 @@
 use Rattle.std.proofs.Common.{Option, List, ℕ, option_map, Ok, Some, None}
-use Rattle.std.specs.Ordering.{nat_cmp}
-use Rattle.sqlite.specs.Held.{state}
-use Rattle.sqlite_trees.specs.Tree.{Trees}
-use Rattle.review_table.specs.Rows.{rows_of}
-use Rattle.review_sql_tables.{proofs.Found.look_on, specs.Fronts.AreParts}
-use Rattle.review_machine_rows.specs.Known.{HasMembers}
+use Rattle.{std.specs.Ordering.nat_cmp, sqlite.specs.Held.state, sqlite_trees.specs.Tree.Trees}
+use Rattle.{review_table.specs.Rows.rows_of, review_sql_tables.proofs.Found.look_on}
+use Rattle.{review_sql_tables.specs.Fronts.AreParts, review_machine_rows.specs.Known.HasMembers}
 use Rattle.review_sql_records.specs.Forms.{group_members, member_parts}
 use Rattle.review_sql_lookups.proofs.{Odd.members_damaged, Telling.group_told}
 use Rattle.review_sql_lookups.specs.{Loads.IfTold, Tables.tables_at}

@@ -1,6 +1,5 @@
 use Rattle.std.proofs.Common.{◌≡◌, ℕ, List, Option, Some, None, Ok, subst, rules}
-use Rattle.sqlite.specs.Held.{state}
-use Rattle.sqlite_trees.specs.Tree.{Trees}
+use Rattle.{sqlite.specs.Held.state, sqlite_trees.specs.Tree.Trees}
 use Rattle.review_sql_tables.{proofs.Found.look_both, proofs.Found.look_on, specs.Greatest.HasOne, specs.Search.row_at}
 use Rattle.review_sql_records.specs.Forms.{accounts, account_names}
 use Rattle.review_sql_lookups.proofs.Odd.{name_damaged}

@@ -1,5 +1,4 @@
-use Rattle.std.proofs.Common.{None, refl}
-use Rattle.review_sql_lookups.proofs.Telling.{unheld}
+use Rattle.{std.proofs.Common.None, std.proofs.Common.refl, review_sql_lookups.proofs.Telling.unheld}
 use Rattle.review_sql_lookups.proofs.people.no_holder.Goals as goal
 
 pub returns : goal.returns

@@ -1,7 +1,6 @@
 use Rattle.std.proofs.Common.{◌≡◌, ◌∙◌, Some, false, refl, sym, ap, rules}
 use Rattle.review_machine_rows.specs.Rows.{AccountRow}
-use Rattle.review_sql_lookups.proofs.Odd.{holder_damaged}
-use Rattle.review_sql_lookups.specs.Tables.{told}
+use Rattle.review_sql_lookups.{proofs.Odd.holder_damaged, specs.Tables.told}
 use Rattle.review_sql_lookups.proofs.people.tell_holder.Goals as goal
 
 pub returns : goal.returns

@@ -1,6 +1,5 @@
 use Rattle.std.proofs.Common.{Vec, Global, ◌∙◌, [], length, ap, Ok, Some}
-use Rattle.sqlite.specs.{Held.state, declared.rows.Row.Row}
-use Rattle.sqlite_trees.specs.Tree.{Trees}
+use Rattle.{sqlite.specs.Held.state, sqlite.specs.declared.rows.Row.Row, sqlite_trees.specs.Tree.Trees}
 use Rattle.review_sql_tables.proofs.{Found.look_on, Meaning.all_pass}
 use Rattle.review_sql_tables.specs.{Desk.projects_2, Greatest.as_counted, Search.rows_at, inner.Words.ShowsCount}
 use Rattle.review_sql_records.proofs.projects.count.Goals as goal

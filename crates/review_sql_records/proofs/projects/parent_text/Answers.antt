@@ -1,6 +1,5 @@
-use Rattle.std.proofs.Common.{◌≡◌, true, sym, subst}
-use Rattle.std.{proofs.lemmas.Bool.and_from, proofs.lemmas.Str.is_utf8-from_IsUtf8, specs.Str.is_utf8}
-use Rattle.review_sql_records.specs.Forms.{is_parent}
+use Rattle.std.proofs.{Common.◌≡◌, Common.true, Common.sym, Common.subst, lemmas.Bool.and_from}
+use Rattle.{std.proofs.lemmas.Str.is_utf8-from_IsUtf8, std.specs.Str.is_utf8, review_sql_records.specs.Forms.is_parent}
 use Rattle.review_sql_records.proofs.projects.parent_text.Goals as goal
 
 pub returns-in-Some-clause-good : goal.returns-in-Some-clause-good

@@ -1,7 +1,5 @@
-use Rattle.std.proofs.Common.{[]}
-use Rattle.sqlite.specs.Held.{state}
-use Rattle.review_sql_tables.proofs.{Counting.asked_count, Sequences.look, TextsOfLookups.count_projects}
-use Rattle.review_sql_tables.specs.Desk.{projects_2}
+use Rattle.{std.proofs.Common.[], sqlite.specs.Held.state, review_sql_tables.proofs.Counting.asked_count}
+use Rattle.review_sql_tables.{proofs.Sequences.look, proofs.TextsOfLookups.count_projects, specs.Desk.projects_2}
 use Rattle.review_sql_records.proofs.projects.select_count.Goals as goal
 
 pub returns-clause-looks : goal.returns-clause-looks

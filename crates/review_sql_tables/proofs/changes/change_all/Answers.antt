@@ -1,8 +1,6 @@
 use Rattle.std.proofs.Common.{rules, ◌≡◌, ◌∙◌, ◌-◌, suc, drop, get_or, ◌∷◌, Ok, Err, subst, sym, arith}
-use Rattle.std.proofs.Math.Seq.{drop-cons}
-use Rattle.sqlite.specs.Held.{state}
-use Rattle.review_sql_tables.proofs.Sequences.{next, stop}
-use Rattle.review_sql_tables.specs.{Ran.Inside, Search.SetsRows}
+use Rattle.{std.proofs.Math.Seq.drop-cons, sqlite.specs.Held.state}
+use Rattle.review_sql_tables.{proofs.Sequences.next, proofs.Sequences.stop, specs.Ran.Inside, specs.Search.SetsRows}
 use Rattle.review_sql_tables.proofs.changes.change_all.Goals as goal
 
 pub loop-left-preserved : goal.loop-left-preserved

@@ -1,7 +1,5 @@
-use Rattle.std.proofs.Common.{Some}
-use Rattle.sqlite.specs.Held.{state}
-use Rattle.review_sql_tables.proofs.{Keys.row_put, Sequences.next, Sequences.told}
-use Rattle.review_sql_tables.specs.Search.{SetsRow}
+use Rattle.{std.proofs.Common.Some, sqlite.specs.Held.state}
+use Rattle.review_sql_tables.{proofs.Keys.row_put, proofs.Sequences.next, proofs.Sequences.told, specs.Search.SetsRow}
 use Rattle.review_sql_tables.proofs.changes.replace.Goals as goal
 
 pub returns-clause-ran : goal.returns-clause-ran

@@ -1,5 +1,4 @@
-use Rattle.std.proofs.Common.{◌≡◌, Some, arith}
-use Rattle.sqlite.specs.Held.{state}
+use Rattle.{std.proofs.Common.◌≡◌, std.proofs.Common.Some, std.proofs.Common.arith, sqlite.specs.Held.state}
 use Rattle.review_sql_tables.proofs.Keys.{row_remade, row_again, row_then_first}
 use Rattle.review_sql_tables.proofs.Sequences.{next, told, weaker}
 use Rattle.review_sql_tables.specs.Search.{SetsRow}

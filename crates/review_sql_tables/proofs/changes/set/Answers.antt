@@ -1,5 +1,4 @@
-use Rattle.std.proofs.Common.{rules, ◌≡◌, Some}
-use Rattle.sqlite.specs.Held.{state}
+use Rattle.{std.proofs.Common.rules, std.proofs.Common.◌≡◌, std.proofs.Common.Some, sqlite.specs.Held.state}
 use Rattle.review_sql_tables.proofs.{Keys.row_new, Sequences.told_ready}
 use Rattle.review_sql_tables.specs.{Search.SetsRow, declared.table.Sets.TheVariants.PutsIn}
 use Rattle.review_sql_tables.proofs.changes.set.Goals as goal

@@ -1,8 +1,7 @@
 use Rattle.std.proofs.Common.{rules, ◌≡◌, ◌∙◌, IsUtf8, ℕ, List, Some, None, ap, sym, refl, inl, inr}
 use Rattle.std.proofs.lemmas.{Bool.cases_Bool, Str.is_utf8-from_IsUtf8, Str.IsUtf8-from_is_utf8}
-use Rattle.std.specs.Str.{is_utf8}
-use Rattle.sqlite_value.specs.{Order.column, declared.value.Value.Value, declared.value.Value.TheVariants.Text}
-use Rattle.review_sql_tables.specs.Columns.{text_in}
+use Rattle.{std.specs.Str.is_utf8, sqlite_value.specs.Order.column, sqlite_value.specs.declared.value.Value.Value}
+use Rattle.{sqlite_value.specs.declared.value.Value.TheVariants.Text, review_sql_tables.specs.Columns.text_in}
 use Rattle.review_sql_tables.proofs.columns.text_at.Goals as goal
 
 reads : (v : Value) (t : List ℕ) → v ≡ Text t → IsUtf8 t → text_in v ≡ Some t

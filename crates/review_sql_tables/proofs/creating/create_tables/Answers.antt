@@ -1,5 +1,4 @@
-use Rattle.std.proofs.Common.{sym, subst}
-use Rattle.sqlite.specs.Held.{state}
+use Rattle.{std.proofs.Common.sym, std.proofs.Common.subst, sqlite.specs.Held.state}
 use Rattle.review_sql_tables.proofs.Migrated.{grows, grows_second}
 use Rattle.review_sql_tables.proofs.Sequences.{Next, follow, retold}
 use Rattle.review_sql_tables.specs.Desk.{desk_schema, schema_0, schema_1, schema_2}

@@ -1,6 +1,5 @@
 use Rattle.std.proofs.Common.{◌∙◌}
-use Rattle.review_sql_tables.proofs.Made.{made_in_memory, decides_desk}
-use Rattle.review_sql_tables.specs.Versions.{schema_at}
+use Rattle.review_sql_tables.{proofs.Made.made_in_memory, proofs.Made.decides_desk, specs.Versions.schema_at}
 use Rattle.review_sql_tables.proofs.creating.is_desk.Goals as goal
 
 pub returns : goal.returns

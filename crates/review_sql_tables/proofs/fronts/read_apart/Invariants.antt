@@ -1,6 +1,4 @@
-use Rattle.std.proofs.Common.{take}
-use Rattle.review_table.specs.Rows.{rows_of}
-use Rattle.review_sql_tables.specs.inner.Words.{WereApart}
+use Rattle.{std.proofs.Common.take, review_table.specs.Rows.rows_of, review_sql_tables.specs.inner.Words.WereApart}
 use Rattle.review_sql_tables.proofs.fronts.read_apart.Given as goal
 
 abbrev pub invariant-loop-row : goal.invariant-loop-row

@@ -1,7 +1,5 @@
-use Rattle.std.proofs.Common.{[]}
-use Rattle.sqlite.specs.Held.{state}
-use Rattle.review_sql_tables.proofs.{Made.makes_by, Sequences.one}
-use Rattle.review_sql_tables.specs.Made.{MakesBy}
+use Rattle.{std.proofs.Common.[], sqlite.specs.Held.state}
+use Rattle.review_sql_tables.{proofs.Made.makes_by, proofs.Sequences.one, specs.Made.MakesBy}
 use Rattle.review_sql_tables.proofs.making.make.Goals as goal
 
 pub returns-clause-ran : goal.returns-clause-ran

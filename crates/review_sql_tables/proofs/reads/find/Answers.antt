@@ -1,8 +1,6 @@
 use Rattle.std.proofs.Common.{Vec, Global, rules, ◌≡◌, ◌∙◌, ap, Ok}
-use Rattle.sqlite.specs.{Held.state, declared.rows.Row.Row}
-use Rattle.sqlite_trees.specs.Tree.{Trees}
-use Rattle.review_sql_tables.proofs.Found.{look_on, one_found}
-use Rattle.review_sql_tables.specs.Search.{only, Finds}
+use Rattle.{sqlite.specs.Held.state, sqlite.specs.declared.rows.Row.Row, sqlite_trees.specs.Tree.Trees}
+use Rattle.review_sql_tables.{proofs.Found.look_on, proofs.Found.one_found, specs.Search.only, specs.Search.Finds}
 use Rattle.review_sql_tables.proofs.reads.find.Goals as goal
 
 pub returns-clause-looks : goal.returns-clause-looks

@@ -1,6 +1,5 @@
 use Rattle.std.proofs.Common.{Vec, Global, rules, ◌≡◌, subst, option_map, Ok}
-use Rattle.sqlite.specs.{Held.state, declared.rows.Row.Row}
-use Rattle.sqlite_trees.specs.Tree.{Trees}
+use Rattle.{sqlite.specs.Held.state, sqlite.specs.declared.rows.Row.Row, sqlite_trees.specs.Tree.Trees}
 use Rattle.review_sql_tables.proofs.Found.{look_on, all_found}
 use Rattle.review_sql_tables.specs.{Search.Finds, inner.Words.WereRead}
 use Rattle.review_sql_tables.proofs.reads.find_all.Goals as goal

@@ -1,7 +1,6 @@
-use Rattle.std.{proofs.Common.◌≡◌, proofs.Common.◌≤◌, proofs.Common.take, proofs.Common.Ok, specs.Bool.Decides}
-use Rattle.sqlite.specs.Held.{state}
-use Rattle.review_sql_tables.proofs.Ids.{Apart}
-use Rattle.review_sql_tables.specs.{Desk.desk_tables, Ran.Looks}
+use Rattle.std.proofs.Common.{◌≡◌, ◌≤◌, take, Ok}
+use Rattle.{std.specs.Bool.Decides, sqlite.specs.Held.state}
+use Rattle.review_sql_tables.{proofs.Ids.Apart, specs.Desk.desk_tables, specs.Ran.Looks}
 use Rattle.review_sql_tables.proofs.rowids.are_all_apart.Given as goal
 
 abbrev pub invariant-loop-at : goal.invariant-loop-at

@@ -1,5 +1,4 @@
-use Rattle.std.proofs.Common.{◌≡◌, ◌∙◌}
-use Rattle.sqlite.specs.{Held.state, Values.bound}
+use Rattle.{std.proofs.Common.◌≡◌, std.proofs.Common.◌∙◌, sqlite.specs.Held.state, sqlite.specs.Values.bound}
 use Rattle.review_sql_tables.proofs.{Effects.inserted, Sequences.one_inside, Sequences.opened, Sequences.refused}
 use Rattle.review_sql_tables.proofs.table.insert.Goals as goal
 

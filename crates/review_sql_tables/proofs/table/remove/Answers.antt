@@ -1,7 +1,6 @@
 use Rattle.std.proofs.Common.{◌≡◌, ◌∙◌}
-use Rattle.sqlite.specs.{Held.state, Values.bound}
-use Rattle.review_sql_tables.proofs.{Effects.deleted, Sequences.one_inside, Sequences.opened}
-use Rattle.review_sql_tables.specs.Texts.{values_of}
+use Rattle.{sqlite.specs.Held.state, sqlite.specs.Values.bound, review_sql_tables.proofs.Effects.deleted}
+use Rattle.review_sql_tables.{proofs.Sequences.one_inside, proofs.Sequences.opened, specs.Texts.values_of}
 use Rattle.review_sql_tables.proofs.table.remove.Goals as goal
 
 pub returns-clause-ran : goal.returns-clause-ran

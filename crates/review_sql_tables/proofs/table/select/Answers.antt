@@ -1,7 +1,5 @@
-use Rattle.std.proofs.Common.{◌≡◌, ◌∙◌}
-use Rattle.sqlite.specs.{Held.state, Values.bound}
-use Rattle.review_sql_tables.proofs.{Meaning.asked, Sequences.look}
-use Rattle.review_sql_tables.specs.Texts.{values_of}
+use Rattle.{std.proofs.Common.◌≡◌, std.proofs.Common.◌∙◌, sqlite.specs.Held.state, sqlite.specs.Values.bound}
+use Rattle.review_sql_tables.{proofs.Meaning.asked, proofs.Sequences.look, specs.Texts.values_of}
 use Rattle.review_sql_tables.proofs.table.select.Goals as goal
 
 pub returns-clause-looks : goal.returns-clause-looks

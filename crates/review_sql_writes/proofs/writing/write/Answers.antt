@@ -1,7 +1,5 @@
-use Rattle.sqlite.specs.Held.{state}
-use Rattle.review_sql_tables.proofs.Sequences.{next, retold}
-use Rattle.review_sql_writes.proofs.Commit.{commits}
-use Rattle.review_sql_writes.specs.Commits.{Commits}
+use Rattle.{sqlite.specs.Held.state, review_sql_tables.proofs.Sequences.next, review_sql_tables.proofs.Sequences.retold}
+use Rattle.review_sql_writes.{proofs.Commit.commits, specs.Commits.Commits}
 use Rattle.review_sql_writes.proofs.writing.write.Goals as goal
 
 pub returns-clause-ran : goal.returns-clause-ran

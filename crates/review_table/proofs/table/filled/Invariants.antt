@@ -1,5 +1,4 @@
-use Rattle.std.proofs.Common.{◌≡◌, map}
-use Rattle.review_table.specs.inner.Words.{place_of}
+use Rattle.{std.proofs.Common.◌≡◌, std.proofs.Common.map, review_table.specs.inner.Words.place_of}
 use Rattle.review_table.proofs.table.filled.Given as goal
 
 abbrev pub invariant-loop-key : goal.invariant-loop-key

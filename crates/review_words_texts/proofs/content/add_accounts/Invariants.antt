@@ -1,6 +1,5 @@
 use Rattle.std.proofs.Common.{◌≡◌, ◌++◌, drop, map}
-use Rattle.review_names.specs.Numerals.{numeral}
-use Rattle.review_words_texts.specs.Shown.{shown}
+use Rattle.{review_names.specs.Numerals.numeral, review_words_texts.specs.Shown.shown}
 use Rattle.review_words_texts.proofs.content.add_accounts.Given as goal
 
 abbrev pub invariant-loop-account : goal.invariant-loop-account

@@ -1,6 +1,5 @@
-use Rattle.std.{proofs.Common.◌≡◌, proofs.Common.◌++◌, proofs.Common.drop, proofs.Common.map, specs.Prelude.flat_map}
-use Rattle.review_words.specs.Texts.{comment_fields}
-use Rattle.review_words_texts.specs.Shown.{shown}
+use Rattle.std.proofs.Common.{◌≡◌, ◌++◌, drop, map}
+use Rattle.{std.specs.Prelude.flat_map, review_words.specs.Texts.comment_fields, review_words_texts.specs.Shown.shown}
 use Rattle.review_words_texts.proofs.content.add_comments.Given as goal
 
 abbrev pub invariant-loop-comment : goal.invariant-loop-comment

@@ -1,8 +1,7 @@
 use Rattle.std.proofs.Common.{◌≡◌, [], ◌∷◌, ◌++◌, length, map, ap, subst, ◌∙◌, IfOk, codes, string_bytes}
 use Rattle.review_names.specs.Numerals.{numeral}
 use Rattle.review_words.specs.Texts.{command_fields, shown_truth, text_of}
-use Rattle.review_words.specs.declared.command.Command.TheVariants.{CreateChange}
-use Rattle.review_words_texts.specs.Shown.{shown}
+use Rattle.{review_words.specs.declared.command.Command.TheVariants.CreateChange, review_words_texts.specs.Shown.shown}
 use Rattle.review_words_texts.proofs.content.change_text.Goals as goal
 
 pub returns : goal.returns

@@ -1,6 +1,5 @@
 use Rattle.std.proofs.Common.{◌≡◌, ◌++◌, drop, map, string_bytes}
-use Rattle.review_words.specs.Texts.{text_of}
-use Rattle.review_words_texts.specs.Shown.{shown}
+use Rattle.{review_words.specs.Texts.text_of, review_words_texts.specs.Shown.shown}
 use Rattle.review_words_texts.proofs.pieces.joined.Given as goal
 
 abbrev pub invariant-loop-piece : goal.invariant-loop-piece

@@ -1,6 +1,5 @@
 use Rattle.std.proofs.{Common.◌≤◌, Common.length, Common.map, Common.arith, lemmas.List.length-map}
-use Rattle.review_names.specs.Forms.{most_comments}
-use Rattle.review_words_texts.proofs.Told.{gives_stored}
+use Rattle.{review_names.specs.Forms.most_comments, review_words_texts.proofs.Told.gives_stored}
 use Rattle.review_words_texts.proofs.reading.read_comments.Goals as goal
 
 pub returns-clause-stored : goal.returns-clause-stored

@@ -1,7 +1,6 @@
-use Rattle.std.proofs.{Common.◌≤◌, Common.length, Common.map, Common.arith, lemmas.List.length-map}
-use Rattle.review_names.specs.Forms.{most_changes}
-use Rattle.review_words.specs.Texts.{most_joined}
-use Rattle.review_words_texts.proofs.Told.{gives_stored}
+use Rattle.std.proofs.Common.{◌≤◌, length, map, arith}
+use Rattle.{std.proofs.lemmas.List.length-map, review_names.specs.Forms.most_changes}
+use Rattle.{review_words.specs.Texts.most_joined, review_words_texts.proofs.Told.gives_stored}
 use Rattle.review_words_texts.proofs.reading.read_joined.Goals as goal
 
 pub returns-clause-stored : goal.returns-clause-stored

@@ -1,6 +1,5 @@
 use Rattle.std.proofs.Common.{◌≡◌, ◌++◌, drop, map}
-use Rattle.review_names.specs.Numerals.{numeral}
-use Rattle.review_words_texts.specs.Shown.{shown}
+use Rattle.{review_names.specs.Numerals.numeral, review_words_texts.specs.Shown.shown}
 use Rattle.review_words_texts.proofs.replies.add_comments.Given as goal
 
 abbrev pub invariant-loop-comment : goal.invariant-loop-comment

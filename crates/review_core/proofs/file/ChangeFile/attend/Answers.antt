@@ -1,5 +1,4 @@
-use Rattle.std.proofs.Common.{ap}
-use Rattle.review_words.specs.declared.command.ChangeCommand.TheVariants.{AddAttention}
+use Rattle.{std.proofs.Common.ap, review_words.specs.declared.command.ChangeCommand.TheVariants.AddAttention}
 use Rattle.review_core_rules.specs.{Change.no_copying, Seen.seen}
 use Rattle.review_core.proofs.file.ChangeFile.attend.Goals as goal
 

@@ -1,5 +1,4 @@
-use Rattle.std.proofs.Common.{ap}
-use Rattle.review_core_rules.specs.Seen.{seen}
+use Rattle.{std.proofs.Common.ap, review_core_rules.specs.Seen.seen}
 use Rattle.review_core.proofs.file.ChangeFile.merged.Goals as goal
 
 pub returns : goal.returns

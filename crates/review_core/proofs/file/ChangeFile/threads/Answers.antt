@@ -1,6 +1,5 @@
 use Rattle.std.proofs.Common.{◌≡◌, ◌∙◌, true, length, sym, ap, subst, nat_le}
-use Rattle.review_names.specs.Forms.{most_comments}
-use Rattle.review_core_rules.specs.Threads.{threads}
+use Rattle.{review_names.specs.Forms.most_comments, review_core_rules.specs.Threads.threads}
 use Rattle.review_core.proofs.file.ChangeFile.threads.Goals as goal
 
 pub threads-requires : goal.threads-requires

@@ -1,10 +1,8 @@
-use Rattle.std.proofs.Common.{ap}
-use Rattle.review_names.specs.Forms.{most_patches}
+use Rattle.{std.proofs.Common.ap, review_names.specs.Forms.most_patches}
 use Rattle.review_words.specs.declared.command.ChangeCommand.TheVariants.{Upload}
 use Rattle.review_core_rules.proofs.Stays.{within_next}
 use Rattle.review_core_rules.specs.{Change.Setting, Change.copying, Change.current, Seen.seen}
-use Rattle.review_core_tables.specs.Copies.{group_list}
-use Rattle.review_core.proofs.Fitting.{next_free}
+use Rattle.{review_core_tables.specs.Copies.group_list, review_core.proofs.Fitting.next_free}
 use Rattle.review_core.proofs.file.ChangeFile.with_patch_set.Goals as goal
 
 pub with_patch_set-requires-clause-next : goal.with_patch_set-requires-clause-next

@@ -1,6 +1,5 @@
 use Rattle.std.proofs.Common.{sym, ◌∙◌}
-use Rattle.review_expr_terms.proofs.Moves.{in_quote, in_word}
-use Rattle.review_expr_terms.specs.Scanned.{lexemes}
+use Rattle.review_expr_terms.{proofs.Moves.in_quote, proofs.Moves.in_word, specs.Scanned.lexemes}
 use Rattle.review_expr_terms.proofs.lexemes.Scanner.step.Goals as goal
 
 pub returns-then-self-clause-moved : goal.returns-then-self-clause-moved

@@ -1,5 +1,4 @@
-use Rattle.std.proofs.{Common.◌∙◌, lemmas.List.get_or_default}
-use Rattle.review_expr_terms.proofs.Alike.{has_match_of}
+use Rattle.{std.proofs.Common.◌∙◌, std.proofs.lemmas.List.get_or_default, review_expr_terms.proofs.Alike.has_match_of}
 use Rattle.review_expr_terms.proofs.pattern.Pattern.matches.Goals as goal
 
 pub returns : goal.returns

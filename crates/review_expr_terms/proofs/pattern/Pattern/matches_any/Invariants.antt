@@ -1,6 +1,5 @@
 use Rattle.std.{proofs.Common.◌≡◌, proofs.Common.drop, specs.List.list_any}
-use Rattle.regex.specs.Strings.{matcher_pattern}
-use Rattle.review_expr_terms.specs.Patterns.{matches_whole}
+use Rattle.{regex.specs.Strings.matcher_pattern, review_expr_terms.specs.Patterns.matches_whole}
 use Rattle.review_expr_terms.proofs.pattern.Pattern.matches_any.Given as goal
 
 abbrev pub invariant-loop-path : goal.invariant-loop-path

@@ -1,6 +1,5 @@
 use Rattle.std.proofs.Common.{◌∙◌, ap₂}
-use Rattle.review_file_rules.specs.Inherited.{inherit}
-use Rattle.review_file_lines.proofs.Effective.{effective_with}
+use Rattle.{review_file_rules.specs.Inherited.inherit, review_file_lines.proofs.Effective.effective_with}
 use Rattle.review_file_lines.proofs.lines.ReadLine.inherit.Goals as goal
 
 pub invariant_of-result : goal.invariant_of-result

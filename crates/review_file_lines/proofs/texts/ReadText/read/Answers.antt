@@ -1,5 +1,4 @@
-use Rattle.std.proofs.Common.{◌∙◌, sym}
-use Rattle.review_file.proofs.Carried.{read_as}
+use Rattle.{std.proofs.Common.◌∙◌, std.proofs.Common.sym, review_file.proofs.Carried.read_as}
 use Rattle.review_file_lines.proofs.texts.ReadText.read.Goals as goal
 
 pub returns-in-Ok-clause-read : goal.returns-in-Ok-clause-read

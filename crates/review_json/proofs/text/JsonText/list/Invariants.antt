@@ -1,6 +1,5 @@
 use Rattle.std.proofs.Common.{◌≡◌, ◌++◌, drop, map}
-use Rattle.json.specs.Tree.{items_tokens}
-use Rattle.serde_json.specs.{View.items_of, Written.items_outline}
+use Rattle.{json.specs.Tree.items_tokens, serde_json.specs.View.items_of, serde_json.specs.Written.items_outline}
 use Rattle.review_json.proofs.text.JsonText.list.Given as goal
 
 -- the text with the items that are left is the text before with all of them

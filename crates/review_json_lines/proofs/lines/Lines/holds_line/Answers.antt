@@ -1,6 +1,5 @@
 use Rattle.std.proofs.Common.{ℕ, List, subst}
-use Rattle.memchr.specs.Find.{IsFirstByte, is_byte}
-use Rattle.review_json_lines.proofs.Begun.{holds_end}
+use Rattle.{memchr.specs.Find.IsFirstByte, memchr.specs.Find.is_byte, review_json_lines.proofs.Begun.holds_end}
 use Rattle.review_json_lines.proofs.lines.Lines.holds_line.Goals as goal
 
 pub returns : goal.returns

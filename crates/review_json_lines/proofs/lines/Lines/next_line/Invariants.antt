@@ -1,5 +1,4 @@
-use Rattle.std.specs.Io.KnownBytes.{prepend_known}
-use Rattle.review_json_lines.proofs.Begun.{IsBegun}
+use Rattle.{std.specs.Io.KnownBytes.prepend_known, review_json_lines.proofs.Begun.IsBegun}
 use Rattle.review_json_lines.proofs.lines.Lines.next_line.Given as goal
 
 abbrev pub invariant-loop : goal.invariant-loop

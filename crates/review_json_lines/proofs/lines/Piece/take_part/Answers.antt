@@ -1,6 +1,5 @@
 use Rattle.std.proofs.Common.{ℕ, List, Some, None, ◌++◌, ◌∷◌, ◌∙◌, drop, length, take, sym, ap, subst, refl}
-use Rattle.std.proofs.Math.Seq.{drop-length}
-use Rattle.memchr.specs.Find.{IsFirstByte, is_byte}
+use Rattle.{std.proofs.Math.Seq.drop-length, memchr.specs.Find.IsFirstByte, memchr.specs.Find.is_byte}
 use Rattle.review_json_lines.proofs.Begun.{none_found, one_found, none_before}
 use Rattle.review_json_lines.specs.Lines.{IsLineOf, line_feed}
 use Rattle.review_json_lines.proofs.lines.Piece.take_part.Goals as goal

@@ -1,5 +1,4 @@
-use Rattle.review_machine_rows.proofs.Looked.{added_known}
-use Rattle.review_machine_rows.specs.declared.rows.Rows.{Rows}
+use Rattle.review_machine_rows.{proofs.Looked.added_known, specs.declared.rows.Rows.Rows}
 use Rattle.review_machine_rows.proofs.rows.Rows.take_from.Goals as goal
 
 pub returns : goal.returns

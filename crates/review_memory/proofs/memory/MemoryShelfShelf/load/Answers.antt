@@ -1,6 +1,5 @@
 use Rattle.std.{proofs.Common.subst, specs.Prelude.IfOk}
-use Rattle.review_machine_rows.specs.Known.{Agrees}
-use Rattle.review_memory.specs.Desk.{tables_of}
+use Rattle.{review_machine_rows.specs.Known.Agrees, review_memory.specs.Desk.tables_of}
 use Rattle.review_memory.proofs.memory.MemoryShelfShelf.load.Goals as goal
 
 pub returns-clause-found : goal.returns-clause-found

@@ -1,6 +1,5 @@
 use Rattle.std.{proofs.Common.refl, specs.Cmp.Lexicographic.slice_cmp, specs.Ordering.nat_cmp}
-use Rattle.review_machine_rows.specs.Rows.{member_cmp}
-use Rattle.review_memory.proofs.Lower.{removed_only}
+use Rattle.{review_machine_rows.specs.Rows.member_cmp, review_memory.proofs.Lower.removed_only}
 use Rattle.review_memory.proofs.tables.MemoryTables.apply.Goals as goal
 
 pub returns-clause-done : goal.returns-clause-done

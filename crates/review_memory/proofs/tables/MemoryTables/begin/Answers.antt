@@ -1,5 +1,4 @@
-use Rattle.std.proofs.Common.{sym, subst}
-use Rattle.review_table.specs.Rows.{rows_of}
+use Rattle.{std.proofs.Common.sym, std.proofs.Common.subst, review_table.specs.Rows.rows_of}
 use Rattle.review_memory.proofs.{Applied.room_stored, Applied.spare_stored, Lower.on_ok}
 use Rattle.review_memory.specs.Desk.{AreIndexed, HasRoom, HasRoomOnlyFor}
 use Rattle.review_memory.specs.declared.tables.MemoryTables.{MemoryTables}

@@ -1,5 +1,4 @@
-use Rattle.review_table.specs.Rows.{rows_of}
-use Rattle.review_memory.proofs.Applied.{used_given}
+use Rattle.{review_table.specs.Rows.rows_of, review_memory.proofs.Applied.used_given}
 use Rattle.review_memory.proofs.tables.MemoryTables.drop_given.Goals as goal
 
 pub returns-else-accounts-gt1-clause-dropped : goal.returns-else-accounts-gt1-clause-dropped

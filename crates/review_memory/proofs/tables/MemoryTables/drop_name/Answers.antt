@@ -1,6 +1,5 @@
-use Rattle.std.{proofs.Common.◌∙◌, proofs.Common.sym, proofs.Common.None, specs.BTreeMap.is_at}
-use Rattle.review_table.specs.Rows.{rows_of}
-use Rattle.review_memory_rows.proofs.Based.{none_spare}
+use Rattle.std.proofs.Common.{◌∙◌, sym, None}
+use Rattle.{std.specs.BTreeMap.is_at, review_table.specs.Rows.rows_of, review_memory_rows.proofs.Based.none_spare}
 use Rattle.review_memory.proofs.First.{remove_indexed, remove_adds_none, with_row_here}
 use Rattle.review_memory.specs.Desk.{name_cmp}
 use Rattle.review_memory.proofs.tables.MemoryTables.drop_name.Goals as goal

@@ -1,6 +1,5 @@
 use Rattle.std.{proofs.Common.◌≡◌, proofs.Common.◌∙◌, proofs.Common.ap, proofs.Common.Some, specs.Ordering.nat_cmp}
-use Rattle.review_table.specs.Rows.{row_in, rows_of}
-use Rattle.review_machine_rows.proofs.Looked.{All-step}
+use Rattle.{review_table.specs.Rows.row_in, review_table.specs.Rows.rows_of, review_machine_rows.proofs.Looked.All-step}
 use Rattle.review_memory.specs.{Desk.Desk, Desk.name_cmp, declared.keys.NameKey.NameKey}
 use Rattle.review_memory.proofs.tables.MemoryTables.drop_names.Goals as goal
 

@@ -1,6 +1,5 @@
 use Rattle.std.proofs.Common.{◌≡◌, subst, Some}
-use Rattle.review_table.specs.Rows.{row_in, rows_of}
-use Rattle.review_machine_rows.proofs.Looked.{All-step}
+use Rattle.{review_table.specs.Rows.row_in, review_table.specs.Rows.rows_of, review_machine_rows.proofs.Looked.All-step}
 use Rattle.review_memory.proofs.First.{WithRow, put_keeps, put_only, with_row_here}
 use Rattle.review_memory.specs.{Desk.name_cmp, declared.keys.NameKey.NameKey}
 use Rattle.review_memory.proofs.tables.MemoryTables.list_names.Goals as goal

@@ -1,5 +1,4 @@
-use Rattle.std.proofs.Common.{◌≡◌, take}
-use Rattle.review_table.specs.Rows.{rows_of}
+use Rattle.{std.proofs.Common.◌≡◌, std.proofs.Common.take, review_table.specs.Rows.rows_of}
 use Rattle.review_memory.specs.Desk.{desk_of, AddsNames, AreIndexed, HasNoSpareRoom, KeepsNames}
 use Rattle.review_memory.proofs.tables.MemoryTables.list_names.Given as goal
 

@@ -1,5 +1,4 @@
-use Rattle.std.proofs.Common.{take}
-use Rattle.review_machine_rows.specs.Known.{Agrees, AreAsked}
+use Rattle.{std.proofs.Common.take, review_machine_rows.specs.Known.Agrees, review_machine_rows.specs.Known.AreAsked}
 use Rattle.review_memory.specs.Desk.{desk_of, tables_of}
 use Rattle.review_memory.proofs.tables.MemoryTables.load.Given as goal
 

@@ -1,6 +1,5 @@
 use Rattle.std.proofs.Common.{◌≡◌, ◌<◌, ◌^◌, ◌-◌, ◌∙◌, Some, sym, subst}
-use Rattle.review_table.specs.Rows.{row_in, rows_of}
-use Rattle.review_memory_rows.specs.Kept.{IsReady}
+use Rattle.{review_table.specs.Rows.row_in, review_table.specs.Rows.rows_of, review_memory_rows.specs.Kept.IsReady}
 use Rattle.review_memory.proofs.Applied.{applied_from, listed_still, unmade_sound}
 use Rattle.review_memory.specs.Desk.{Desk, desk_of, name_cmp, IsIndexed}
 use Rattle.review_memory.proofs.tables.MemoryTables.make.Goals as goal

@@ -2,8 +2,7 @@ use Rattle.std.proofs.Common.{◌∙◌, ap, cond, None, map, not, ◌&&◌}
 use Rattle.std.{proofs.lemmas.Cmp.nat_list_eq_equiv, specs.Cmp.Lexicographic.slice_cmp, specs.Map.Iter.deref_pair}
 use Rattle.std.specs.Ordering.{nat_cmp, ordering_then, is_le, is_lt}
 use Rattle.review_table.specs.Rows.{row_in, rows_of}
-use Rattle.review_memory.proofs.Applied.{row_between_numbers}
-use Rattle.review_memory.specs.Desk.{name_cmp}
+use Rattle.review_memory.{proofs.Applied.row_between_numbers, specs.Desk.name_cmp}
 use Rattle.review_memory.proofs.tables.MemoryTables.named.Goals as goal
 
 pub loop-key-init : goal.loop-key-init

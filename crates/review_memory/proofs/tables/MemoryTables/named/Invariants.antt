@@ -1,7 +1,6 @@
 use Rattle.std.proofs.Common.{◌≡◌, ℕ, Some, map}
 use Rattle.std.specs.{Map.Iter.deref_pair, Ordering.nat_cmp}
-use Rattle.review_table.specs.Rows.{row_in, rows_of}
-use Rattle.review_memory.specs.Desk.{name_cmp}
+use Rattle.{review_table.specs.Rows.row_in, review_table.specs.Rows.rows_of, review_memory.specs.Desk.name_cmp}
 use Rattle.review_memory.proofs.tables.MemoryTables.named.Given as goal
 
 abbrev pub invariant-loop-key : goal.invariant-loop-key

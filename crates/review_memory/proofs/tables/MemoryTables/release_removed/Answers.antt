@@ -1,9 +1,7 @@
-use Rattle.std.proofs.Common.{◌∙◌, sym, subst}
-use Rattle.std.specs.{Cmp.Lexicographic.slice_cmp, Ordering.nat_cmp}
-use Rattle.review_table.specs.Rows.{HasEmptyOnly, rows_of}
+use Rattle.std.{proofs.Common.◌∙◌, proofs.Common.sym, proofs.Common.subst, specs.Cmp.Lexicographic.slice_cmp}
+use Rattle.{std.specs.Ordering.nat_cmp, review_table.specs.Rows.HasEmptyOnly, review_table.specs.Rows.rows_of}
 use Rattle.review_machine_rows.specs.Rows.{member_cmp}
-use Rattle.review_memory.proofs.Lower.{file_stays}
-use Rattle.review_memory.specs.Desk.{is_removed}
+use Rattle.review_memory.{proofs.Lower.file_stays, specs.Desk.is_removed}
 use Rattle.review_memory.proofs.tables.MemoryTables.release_removed.Goals as goal
 
 pub returns-clause-same : goal.returns-clause-same

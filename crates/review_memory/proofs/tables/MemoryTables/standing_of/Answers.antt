@@ -1,5 +1,5 @@
-use Rattle.std.{proofs.Common.ℕ, proofs.Common.subst, specs.Prelude.MatchBool}
-use Rattle.review_machine_rows.specs.Known.{IsMergedWith}
+use Rattle.std.proofs.Common.{ℕ, subst}
+use Rattle.{std.specs.Prelude.MatchBool, review_machine_rows.specs.Known.IsMergedWith}
 use Rattle.review_memory_rows.specs.{Bases.IsCommitThere, Kept.row_of as kept_row, Kept.IsSentIn}
 use Rattle.review_memory.proofs.Changed.{nowhere_here, outside_here, patch_set_here}
 use Rattle.review_memory.specs.Desk.{desk_of}

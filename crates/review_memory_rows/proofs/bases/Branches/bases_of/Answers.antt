@@ -1,8 +1,7 @@
 use Rattle.std.proofs.Common.{◌≡◌, ◌+◌, ◌∙◌, ◌++◌, ◌∷◌, [], ap, sym, subst, arith, is_some}
 use Rattle.review_table.specs.Rows.{rows_of}
 use Rattle.review_memory_rows.proofs.Based.{seen_at, none_of, AreUpTo, up_to_more, all_listed, gap, zero_taken}
-use Rattle.review_memory_rows.proofs.Dropped.{copied_some}
-use Rattle.review_memory_rows.specs.Bases.{BranchesView, base_at}
+use Rattle.review_memory_rows.{proofs.Dropped.copied_some, specs.Bases.BranchesView, specs.Bases.base_at}
 use Rattle.review_memory_rows.proofs.bases.Branches.bases_of.Goals as goal
 
 pub returns-then-is_some-clause-gap : goal.returns-then-is_some-clause-gap

@@ -1,5 +1,4 @@
-use Rattle.std.proofs.Common.{◌≡◌}
-use Rattle.review_memory_rows.proofs.Based.{AreUpTo}
+use Rattle.{std.proofs.Common.◌≡◌, review_memory_rows.proofs.Based.AreUpTo}
 use Rattle.review_memory_rows.proofs.bases.Branches.bases_of.Given as goal
 
 abbrev pub invariant-loop-before : goal.invariant-loop-before

@@ -1,8 +1,7 @@
 use Rattle.std.proofs.Common.{◌≡◌, ◌∙◌, ap, cond, Option, Some, None, map, not, ◌&&◌, [], arith}
 use Rattle.std.{proofs.lemmas.Grind.common_steps, specs.Map.Iter.deref_pair, specs.Ordering.is_le, specs.Ordering.is_lt}
-use Rattle.review_table.specs.Rows.{row_in, rows_of}
-use Rattle.review_machine_rows.specs.{Rows.place_cmp, declared.rows.PlaceKey.PlaceKey}
-use Rattle.review_memory_rows.proofs.Based.{between_places}
+use Rattle.{review_table.specs.Rows.row_in, review_table.specs.Rows.rows_of, review_machine_rows.specs.Rows.place_cmp}
+use Rattle.{review_machine_rows.specs.declared.rows.PlaceKey.PlaceKey, review_memory_rows.proofs.Based.between_places}
 use Rattle.review_memory_rows.specs.{Bases.BranchesView, Bases.commit_cmp, declared.keys.CommitKey.CommitKey}
 use Rattle.review_memory_rows.proofs.bases.Branches.has.Goals as goal
 

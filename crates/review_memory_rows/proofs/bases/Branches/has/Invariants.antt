@@ -1,5 +1,5 @@
-use Rattle.std.{proofs.Common.◌≡◌, proofs.Common.ℕ, proofs.Common.Some, proofs.Common.map, specs.Map.Iter.deref_pair}
-use Rattle.review_table.specs.Rows.{row_in}
+use Rattle.std.proofs.Common.{◌≡◌, ℕ, Some, map}
+use Rattle.{std.specs.Map.Iter.deref_pair, review_table.specs.Rows.row_in}
 use Rattle.review_memory_rows.specs.Bases.{base_at, commit_cmp}
 use Rattle.review_memory_rows.proofs.bases.Branches.has.Given as goal
 

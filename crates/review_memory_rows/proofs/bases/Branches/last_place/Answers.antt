@@ -1,5 +1,5 @@
-use Rattle.std.{proofs.Common.ap, proofs.Common.sym, proofs.Common.subst, specs.Option.unwrap_or}
-use Rattle.review_table.specs.Rows.{rows_of}
+use Rattle.std.proofs.Common.{ap, sym, subst}
+use Rattle.{std.specs.Option.unwrap_or, review_table.specs.Rows.rows_of}
 use Rattle.review_memory_rows.specs.Bases.{BranchesView, IsLastPlace}
 use Rattle.review_memory_rows.proofs.bases.Branches.last_place.Goals as goal
 

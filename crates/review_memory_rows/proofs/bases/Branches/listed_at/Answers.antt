@@ -1,5 +1,5 @@
-use Rattle.std.{proofs.Common.ap, proofs.Common.sym, specs.Option.option_map}
-use Rattle.review_memory_rows.specs.Bases.{commit_at}
+use Rattle.std.proofs.Common.{ap, sym}
+use Rattle.{std.specs.Option.option_map, review_memory_rows.specs.Bases.commit_at}
 use Rattle.review_memory_rows.proofs.bases.Branches.listed_at.Goals as goal
 
 pub returns-then-base-last : goal.returns-then-base-last

@@ -1,7 +1,5 @@
-use Rattle.std.proofs.Common.{◌∙◌, ap, sym}
-use Rattle.review_table.specs.Rows.{rows_of}
-use Rattle.review_memory_rows.proofs.Based.{seen_at}
-use Rattle.review_memory_rows.specs.Bases.{BranchesView}
+use Rattle.{std.proofs.Common.◌∙◌, std.proofs.Common.ap, std.proofs.Common.sym, review_table.specs.Rows.rows_of}
+use Rattle.review_memory_rows.{proofs.Based.seen_at, specs.Bases.BranchesView}
 use Rattle.review_memory_rows.proofs.bases.Branches.stands_at.Goals as goal
 
 pub returns : goal.returns

@@ -1,5 +1,4 @@
-use Rattle.review_table.specs.Rows.{rows_of}
-use Rattle.review_memory_rows.proofs.Sent.{merged_or_not}
+use Rattle.{review_table.specs.Rows.rows_of, review_memory_rows.proofs.Sent.merged_or_not}
 use Rattle.review_memory_rows.proofs.kept.KeptChanges.is_merged.Goals as goal
 
 pub returns : goal.returns

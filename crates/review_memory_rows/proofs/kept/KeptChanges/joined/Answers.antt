@@ -1,7 +1,6 @@
 use Rattle.std.proofs.Common.{◌≡◌, ◌∙◌, ap, map, [], arith, subst, sym}
-use Rattle.std.{proofs.lemmas.Grind.common_steps, specs.Map.Iter.deref_pair}
-use Rattle.review_table.{proofs.Lasts.between, specs.Rows.row_in, specs.Rows.rows_of}
-use Rattle.review_machine_rows.specs.Known.{HaveJoined}
+use Rattle.{std.proofs.lemmas.Grind.common_steps, std.specs.Map.Iter.deref_pair, review_table.proofs.Lasts.between}
+use Rattle.{review_table.specs.Rows.row_in, review_table.specs.Rows.rows_of, review_machine_rows.specs.Known.HaveJoined}
 use Rattle.review_memory_rows.proofs.Joined.{joined_done, joined_first, joined_more, AreJoinedSoFar}
 use Rattle.review_memory_rows.specs.Kept.{place_cmp, row_of, KeptView}
 use Rattle.review_memory_rows.proofs.kept.KeptChanges.joined.Goals as goal

@@ -1,7 +1,5 @@
-use Rattle.std.{proofs.Common.map, specs.Map.Iter.deref_pair}
-use Rattle.review_table.specs.Rows.{rows_of}
-use Rattle.review_memory_rows.proofs.Joined.{AreJoinedSoFar}
-use Rattle.review_memory_rows.specs.Kept.{row_of}
+use Rattle.{std.proofs.Common.map, std.specs.Map.Iter.deref_pair, review_table.specs.Rows.rows_of}
+use Rattle.review_memory_rows.{proofs.Joined.AreJoinedSoFar, specs.Kept.row_of}
 use Rattle.review_memory_rows.proofs.kept.KeptChanges.joined.Given as goal
 
 abbrev pub invariant-loop-key : goal.invariant-loop-key

@@ -1,7 +1,6 @@
 use Rattle.std.{proofs.Common.ap, proofs.Common.sym, proofs.Common.◌∙◌, specs.Ordering.nat_cmp}
 use Rattle.review_table.specs.Rows.{row_in, rows_of}
-use Rattle.review_memory_rows.proofs.Joined.{not_kept}
-use Rattle.review_memory_rows.specs.Kept.{KeptView}
+use Rattle.review_memory_rows.{proofs.Joined.not_kept, specs.Kept.KeptView}
 use Rattle.review_memory_rows.proofs.kept.KeptChanges.joined_at.Goals as goal
 
 pub returns-in_default : goal.returns-in_default

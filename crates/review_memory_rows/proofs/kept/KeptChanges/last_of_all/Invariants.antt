@@ -1,6 +1,5 @@
 use Rattle.std.{proofs.Common.map, specs.Map.Iter.deref_pair}
-use Rattle.review_table.specs.Rows.{rows_of}
-use Rattle.review_memory_rows.proofs.Joined.{IsLastSoFar}
+use Rattle.{review_table.specs.Rows.rows_of, review_memory_rows.proofs.Joined.IsLastSoFar}
 use Rattle.review_memory_rows.proofs.kept.KeptChanges.last_of_all.Given as goal
 
 abbrev pub invariant-loop-key : goal.invariant-loop-key

@@ -1,8 +1,7 @@
 use Rattle.std.{proofs.Common.sym, proofs.Common.◌∙◌, proofs.Common.ap, specs.Ordering.nat_cmp}
 use Rattle.review_table.specs.Rows.{row_in, rows_of}
 use Rattle.review_machine_change_rows.proofs.Shown.{passed}
-use Rattle.review_memory_rows.proofs.Turned.{has_none, unread}
-use Rattle.review_memory_rows.specs.Kept.{IsUnread, KeptView}
+use Rattle.review_memory_rows.{proofs.Turned.has_none, proofs.Turned.unread, specs.Kept.IsUnread, specs.Kept.KeptView}
 use Rattle.review_memory_rows.proofs.kept.KeptChanges.load.Goals as goal
 
 pub returns-in_err-copied_rows-in-Some-clause-fault : goal.returns-in_err-copied_rows-in-Some-clause-fault

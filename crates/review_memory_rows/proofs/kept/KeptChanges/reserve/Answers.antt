@@ -1,5 +1,4 @@
-use Rattle.std.proofs.Common.{subst, sym}
-use Rattle.review_memory_rows.specs.Kept.{IsFull}
+use Rattle.{std.proofs.Common.subst, std.proofs.Common.sym, review_memory_rows.specs.Kept.IsFull}
 use Rattle.review_memory_rows.proofs.kept.KeptChanges.reserve.Goals as goal
 
 pub returns-in-Ok-clause-spare : goal.returns-in-Ok-clause-spare

@@ -1,7 +1,5 @@
-use Rattle.std.proofs.Common.{false, subst}
-use Rattle.review_table.specs.Rows.{rows_of}
-use Rattle.review_memory_rows.proofs.Sent.{no_sender}
-use Rattle.review_memory_rows.specs.Kept.{IsFoundSent}
+use Rattle.{std.proofs.Common.false, std.proofs.Common.subst, review_table.specs.Rows.rows_of}
+use Rattle.review_memory_rows.{proofs.Sent.no_sender, specs.Kept.IsFoundSent}
 use Rattle.review_memory_rows.proofs.kept.KeptChanges.sender.Goals as goal
 
 pub returns-in-None : goal.returns-in-None

@@ -1,5 +1,4 @@
-use Rattle.review_table.specs.Rows.{rows_of}
-use Rattle.review_memory_rows.proofs.Sent.{sent_patch_by}
+use Rattle.{review_table.specs.Rows.rows_of, review_memory_rows.proofs.Sent.sent_patch_by}
 use Rattle.review_memory_rows.proofs.kept.KeptChanges.sent_patch.Goals as goal
 
 pub returns : goal.returns

@@ -1,8 +1,7 @@
 use Rattle.std.proofs.Common.{◌≡◌, ℕ, List, Option, Some, None, IfOk, IfErr, true, refl, sym, ap, subst, ◌∙◌}
 use Rattle.std.specs.Prelude.{ok_or}
-use Rattle.review_names.proofs.Accounts.{account_shown, account_none}
-use Rattle.review_names.specs.{Names.is_account_number, Numerals.numeral, Numerals.account_of}
-use Rattle.review_names.specs.declared.names.BadName.TheVariants.{Form}
+use Rattle.review_names.{proofs.Accounts.account_shown, proofs.Accounts.account_none, specs.Names.is_account_number}
+use Rattle.review_names.specs.{Numerals.numeral, Numerals.account_of, declared.names.BadName.TheVariants.Form}
 use Rattle.review_names.proofs.names.AccountNo.read.Goals as goal
 
 shows : (o : Option ℕ) (text : List ℕ) → account_of text ≡ o → IfOk (ok_or o Form) (λ n. (numeral n ≡ text) × (is_account_number n ≡ true))

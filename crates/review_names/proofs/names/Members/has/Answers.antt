@@ -1,6 +1,5 @@
 use Rattle.std.proofs.Common.{◌==◌, ap, sym, subst, ◌∙◌, nat_cmp}
-use Rattle.std.specs.List.{list_any, Sorted.IsStrictlySortedBy}
-use Rattle.review_names.proofs.Searches.{found}
+use Rattle.{std.specs.List.list_any, std.specs.List.Sorted.IsStrictlySortedBy, review_names.proofs.Searches.found}
 use Rattle.review_names.proofs.names.Members.has.Goals as goal
 
 pub returns : goal.returns

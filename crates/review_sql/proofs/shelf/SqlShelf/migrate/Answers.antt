@@ -1,6 +1,5 @@
 use Rattle.std.proofs.Common.{rules, ◌≡◌, ◌∙◌, ap, not, subst, IsTrue}
-use Rattle.sqlite.{proofs.StateLemmas.clean_if_open, specs.Held.state}
-use Rattle.review_sql_lookups.specs.Tables.{tables_at}
+use Rattle.{sqlite.proofs.StateLemmas.clean_if_open, sqlite.specs.Held.state, review_sql_lookups.specs.Tables.tables_at}
 use Rattle.review_sql.proofs.{Again.unfit_closed, Left.unfit_left_behind, Raised.holds_brought, Raised.migrated}
 use Rattle.review_sql.specs.Migrated.{IsBrought, IsNotMigrated}
 use Rattle.review_sql.proofs.shelf.SqlShelf.migrate.Goals as goal

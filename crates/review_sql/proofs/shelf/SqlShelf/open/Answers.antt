@@ -1,6 +1,5 @@
 use Rattle.std.proofs.Common.{rules, ◌≡◌, false}
-use Rattle.sqlite.specs.Held.{state}
-use Rattle.review_sql_lookups.specs.Tables.{tables_at}
+use Rattle.{sqlite.specs.Held.state, review_sql_lookups.specs.Tables.tables_at}
 use Rattle.review_sql.proofs.{Again.goes_on, Again.refused_again, Left.refused_left}
 use Rattle.review_sql.proofs.Made.{empty_refused, is_opened, none_seen, not_ours}
 use Rattle.review_sql.specs.{Shelf.Holds, declared.faults.DeskFault.TheVariants.NotOurs}

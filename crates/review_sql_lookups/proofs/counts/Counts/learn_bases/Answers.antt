@@ -1,5 +1,4 @@
-use Rattle.review_table.specs.Rows.{rows_of}
-use Rattle.review_machine_rows.specs.Rows.{BasesOf}
+use Rattle.{review_table.specs.Rows.rows_of, review_machine_rows.specs.Rows.BasesOf}
 use Rattle.review_sql_lookups.proofs.Bounded.{learnt}
 use Rattle.review_sql_lookups.proofs.counts.Counts.learn_bases.Goals as goal
 

@@ -1,5 +1,4 @@
-use Rattle.std.proofs.Common.{rules}
-use Rattle.review_table.specs.Rows.{rows_of}
+use Rattle.{std.proofs.Common.rules, review_table.specs.Rows.rows_of}
 use Rattle.review_sql_lookups.proofs.Bounded.{grown, one_request_more, still}
 use Rattle.review_sql_lookups.proofs.counts.Counts.note.Goals as goal
 

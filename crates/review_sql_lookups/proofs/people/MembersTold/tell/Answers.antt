@@ -1,7 +1,6 @@
 use Rattle.std.proofs.Common.{ap, sym}
 use Rattle.review_machine_rows.specs.Rows.{MemberKey, MemberRow}
-use Rattle.review_sql_lookups.proofs.Telling.{odd_told}
-use Rattle.review_sql_lookups.specs.Tables.{told}
+use Rattle.review_sql_lookups.{proofs.Telling.odd_told, specs.Tables.told}
 use Rattle.review_machine_rows.specs.declared.rows.Want.TheVariants as want
 use Rattle.review_sql_lookups.proofs.people.MembersTold.tell.Goals as goal
 

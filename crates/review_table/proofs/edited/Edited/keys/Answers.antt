@@ -1,7 +1,6 @@
 use Rattle.std.proofs.Common.{◌≡◌, ◌∙◌, ◌++◌, ap, sym, map, append-nil}
 use Rattle.std.specs.{BTreeMap.is_at, List.list_any, Map.keys_of}
-use Rattle.review_table.proofs.Noted.{among}
-use Rattle.review_table.specs.Rows.{rows_of}
+use Rattle.review_table.{proofs.Noted.among, specs.Rows.rows_of}
 use Rattle.review_table.proofs.edited.Edited.keys.Goals as goal
 
 pub returns : goal.returns

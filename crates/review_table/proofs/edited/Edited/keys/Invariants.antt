@@ -1,5 +1,5 @@
-use Rattle.std.{proofs.Common.◌≡◌, proofs.Common.◌++◌, proofs.Common.map, specs.Map.keys_of, specs.Map.Iter.deref_pair}
-use Rattle.review_table.specs.Rows.{rows_of}
+use Rattle.std.proofs.Common.{◌≡◌, ◌++◌, map}
+use Rattle.{std.specs.Map.keys_of, std.specs.Map.Iter.deref_pair, review_table.specs.Rows.rows_of}
 use Rattle.review_table.proofs.edited.Edited.keys.Given as goal
 
 abbrev pub invariant-loop-key : goal.invariant-loop-key

@@ -1,5 +1,5 @@
-use Rattle.std.{proofs.Common.◌≡◌, proofs.Common.None, proofs.Common.cond, specs.BTreeMap.is_at, specs.List.list_any}
-use Rattle.review_table.specs.Edited.{edited_row}
+use Rattle.std.proofs.Common.{◌≡◌, None, cond}
+use Rattle.{std.specs.BTreeMap.is_at, std.specs.List.list_any, review_table.specs.Edited.edited_row}
 use Rattle.review_table.proofs.edited.Edited.take_away.Given as goal
 
 abbrev pub invariant-loop-key : goal.invariant-loop-key

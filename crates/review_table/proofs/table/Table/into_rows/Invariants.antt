@@ -1,5 +1,4 @@
-use Rattle.std.proofs.Common.{◌≡◌, ◌++◌}
-use Rattle.review_table.specs.Rows.{rows_of}
+use Rattle.{std.proofs.Common.◌≡◌, std.proofs.Common.◌++◌, review_table.specs.Rows.rows_of}
 use Rattle.review_table.proofs.table.Table.into_rows.Given as goal
 
 abbrev pub invariant-loop-key : goal.invariant-loop-key

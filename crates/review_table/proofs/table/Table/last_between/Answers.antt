@@ -1,7 +1,6 @@
 use Rattle.std.proofs.Common.{sym}
 use Rattle.review_table.proofs.Lasts.{if_none, if_some, last_found, last_inside, none_above, none_inside}
-use Rattle.review_table.proofs.Places.{select_none}
-use Rattle.review_table.specs.Rows.{rows_of}
+use Rattle.review_table.{proofs.Places.select_none, specs.Rows.rows_of}
 use Rattle.review_table.proofs.table.Table.last_between.Goals as goal
 
 pub returns-in-Greater-clause-none : goal.returns-in-Greater-clause-none

@@ -1,5 +1,4 @@
-use Rattle.std.proofs.Common.{◌≡◌, length}
-use Rattle.review_table.specs.Rows.{rows_of}
+use Rattle.{std.proofs.Common.◌≡◌, std.proofs.Common.length, review_table.specs.Rows.rows_of}
 use Rattle.review_table.proofs.table.Table.last_key.Given as goal
 
 abbrev pub invariant-loop-key : goal.invariant-loop-key

@@ -1,6 +1,5 @@
 use Rattle.std.proofs.Common.{◌≡◌, length}
-use Rattle.review_table.proofs.Lasts.{between}
-use Rattle.review_table.specs.Rows.{rows_of}
+use Rattle.review_table.{proofs.Lasts.between, specs.Rows.rows_of}
 use Rattle.review_table.proofs.table.Table.last_ordered.Given as goal
 
 abbrev pub invariant-loop-key : goal.invariant-loop-key

@@ -1,6 +1,5 @@
-use Rattle.std.{proofs.Common.◌∙◌, proofs.Common.ap, proofs.Common.sym, proofs.Common.Some, specs.BTreeMap.is_at}
-use Rattle.review_table.proofs.Places.{rows_of_removed}
-use Rattle.review_table.specs.Rows.{rows_of}
+use Rattle.std.proofs.Common.{◌∙◌, ap, sym, Some}
+use Rattle.{std.specs.BTreeMap.is_at, review_table.proofs.Places.rows_of_removed, review_table.specs.Rows.rows_of}
 use Rattle.review_table.proofs.table.Table.release_one.Goals as goal
 
 pub returns-in-Some-None-clause-same : goal.returns-in-Some-None-clause-same

@@ -1,5 +1,5 @@
-use Rattle.std.{proofs.Common.◌≡◌, proofs.Common.◌++◌, proofs.Common.map, specs.Map.Iter.deref_pair}
-use Rattle.review_table.specs.Rows.{rows_of}
+use Rattle.std.proofs.Common.{◌≡◌, ◌++◌, map}
+use Rattle.{std.specs.Map.Iter.deref_pair, review_table.specs.Rows.rows_of}
 use Rattle.review_table.proofs.table.Table.rows.Given as goal
 
 abbrev pub invariant-loop-key : goal.invariant-loop-key

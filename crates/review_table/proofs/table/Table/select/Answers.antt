@@ -1,6 +1,5 @@
-use Rattle.std.{proofs.Common.◌∙◌, proofs.Common.ap, proofs.Common.sym, proofs.Common.map, specs.Map.Iter.deref_pair}
-use Rattle.review_table.proofs.Places.{select_none}
-use Rattle.review_table.specs.Rows.{rows_of}
+use Rattle.std.proofs.Common.{◌∙◌, ap, sym, map}
+use Rattle.{std.specs.Map.Iter.deref_pair, review_table.proofs.Places.select_none, review_table.specs.Rows.rows_of}
 use Rattle.review_table.proofs.table.Table.select.Goals as goal
 
 pub returns-in-Greater-clause-rows : goal.returns-in-Greater-clause-rows

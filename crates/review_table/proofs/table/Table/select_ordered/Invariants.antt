@@ -1,6 +1,6 @@
-use Rattle.std.{proofs.Common.◌≡◌, proofs.Common.◌++◌, proofs.Common.map, specs.BTreeMap.Range.range_contains}
-use Rattle.std.specs.{List.filter, Map.Iter.deref_pair, declared.ops.Bound.TheVariants.Included}
-use Rattle.review_table.specs.Rows.{rows_of}
+use Rattle.std.proofs.Common.{◌≡◌, ◌++◌, map}
+use Rattle.std.specs.{BTreeMap.Range.range_contains, List.filter, Map.Iter.deref_pair}
+use Rattle.{std.specs.declared.ops.Bound.TheVariants.Included, review_table.specs.Rows.rows_of}
 use Rattle.review_table.proofs.table.Table.select_ordered.Given as goal
 
 abbrev pub invariant-loop-key : goal.invariant-loop-key
