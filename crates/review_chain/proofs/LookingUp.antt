@@ -7,18 +7,15 @@ use Rattle.review_chain.specs.Branches.{Branch, parent_standing}
 use Rattle.review_chain.specs.Parts.{Want, TheChange, TheCommit, IsWanted, IsPart, Knows, Lacks, NeedsChange}
 use Rattle.review_chain.specs.Steps.{Before, TheBase, Change, Bad, Wants, before, before_link, before_known, before_change, before_fault, before_parent, left, left_by, left_from}
 use Rattle.review_chain.specs.Walks.{IsWalk, first_of, most_changes, patch_set_fault}
-use Rattle.review_chain.specs.declared.links.{Link.Link, Standing.Standing}
-use Rattle.review_chain.specs.declared.links.Standing.TheVariants.{InBranch, PatchSet, Nowhere}
+use Rattle.review_chain.specs.declared.links.{Link.Link, Standing.Standing, Standing.TheVariants.PatchSet}
 use Rattle.review_chain.specs.declared.walks.ChainFault.{ChainFault, TheVariants.TooLong}
 
 -- ---- how many at most
 
 left_by_most : (twice : ℕ) (v : Before) (further : ℕ → ℕ) → ((d : ℕ) → further d ≤ twice + 1) → left_by twice v further ≤ twice + 1
-left_by_most twice TheBase further h = omega arith
 left_by_most twice (Change d) further h = h d
-left_by_most twice (Bad fault) further h = omega arith
 left_by_most twice (Wants (TheChange d)) further h = omega arith
-left_by_most twice (Wants (TheCommit x)) further h = omega arith
+left_by_most twice _ further h = omega arith
 
 left_most : (b : Branch) (more c : ℕ) → left_from b more c ≤ 2 * more + 1
 unfolding left_from
@@ -47,13 +44,12 @@ change_left twice d k (Some l) further h = fault_left twice d (patch_set_fault k
 
 -- where it is known what the parent is
 known_left : (b : Branch) (n twice : ℕ) (s : Standing) (further : ℕ → ℕ) → ((d : ℕ) → further d ≤ twice) → left_by twice (before_known b n s) further ≤ twice
-known_left b n twice InBranch further h = omega arith
-known_left b n twice Nowhere further h = omega arith
 known_left b n twice (PatchSet d k) further h = by_full (n == most_changes)
   where
     by_full : (full : Bool) → left_by twice (if full then Bad TooLong else before_change d k (b.link d)) further ≤ twice
     by_full true = omega arith
     by_full false = change_left twice d k (b.link d) further (h d)
+known_left b n twice _ further h = omega arith
 
 -- where the change is known whose patch set the parent is
 fault_less : (twice d : ℕ) (fault : Option ChainFault) (further : ℕ → ℕ) → further d < twice → left_by twice (before_fault d fault) further < twice

@@ -1,5 +1,5 @@
 -- Parts of a branch: what they have of a chain, and what is wanted of it.
-use Rattle.std.proofs.Common.{◌≡◌, ◌≢◌, ℕ, Bool, true, false, not, List, [], ◌∷◌, length, Option, Some, None, IsSome, ◌⊎◌, inl, inr, refl, sym, ap, ◌∙◌, subst, eqb-true, ◌==◌, if◌then◌else◌, option_and_then, option_map, zero, suc, ◌+◌, ◌-◌, ◌<◌, arith, Result, Ok, Err, IfOk, IfSome, IfNone}
+use Rattle.std.proofs.Common.{◌≡◌, ◌≢◌, ℕ, Bool, true, false, not, List, [], ◌∷◌, length, Option, Some, None, IsSome, ◌⊎◌, inl, inr, refl, sym, ap, ◌∙◌, subst, eqb-true, ◌==◌, if◌then◌else◌, option_and_then, option_map, zero, suc, ◌+◌, ◌-◌, ◌<◌, arith, Result, Ok, IfOk, IfSome, IfNone}
 use Rattle.{std.proofs.lemmas.Bool.false≢true, review_words.specs.declared.shown.State.State}
 use Rattle.review_words.specs.declared.shown.State.TheVariants.{New, Merged as MergedState, Abandoned as AbandonedState}
 use Rattle.review_chain.proofs.Walking.{Meets, IsEnd, IsTold, ending, one_walk, one_end, chain_meets, bad_meets, meets_chain, meets_bad, meets_wanted, told_end, met, decided, goes_on, wanted_meets}
@@ -32,9 +32,8 @@ keeps_full part whole is d k true m = refl
 keeps_full part whole is d k false m = keeps_change part whole is d k (part.link d) refl m
 
 keeps_known : (part whole : Branch) → IsPart part whole → (n : ℕ) (s : Standing) → IsMet (before_known part n s) → before_known whole n s ≡ before_known part n s
-keeps_known part whole is n InBranch m = refl
-keeps_known part whole is n Nowhere m = refl
 keeps_known part whole is n (PatchSet d k) m = keeps_full part whole is d k (n == most_changes) m
+keeps_known part whole is n _ m = refl
 
 keeps_parent : (part whole : Branch) → IsPart part whole → (n : ℕ) (x : List ℕ) (o : Option Standing) → part.standing x ≡ o → IsMet (before_parent part n x o) → before_parent whole n x (whole.standing x) ≡ before_parent part n x o
 keeps_parent part whole is n x None e m = absurd m
@@ -63,9 +62,8 @@ follows_kept part whole is d c f = record {
 }
 
 pub walk_kept : (part whole : Branch) → IsPart part whole → (walk : List ℕ) (c : ℕ) → IsWalk part walk c → IsWalk whole walk c
-walk_kept part whole is [] c h = h
-walk_kept part whole is (d ∷ []) c h = h
 walk_kept part whole is (d ∷ e ∷ rest) c h = (follows_kept part whole is d e h.0, walk_kept part whole is (e ∷ rest) c h.1)
+walk_kept part whole is _ c h = h
 
 -- a change that is wanted, and of which the whole knows no more, is wanted there too
 wanted_change : (whole : Branch) (d k e : ℕ) (o : Option Link) → before_change d k o ≡ Wants (TheChange e) → whole.link e ≡ None → before_change d k (whole.link d) ≡ Wants (TheChange e)
@@ -101,10 +99,8 @@ wanted_stays part whole is walk c e h none =
     record { walks = walk_kept part whole is walk c h.walks; short = h.short; meets = wanted_link part whole is (length walk) (first_of walk) e (part.link (first_of walk)) refl h.meets none }
 
 told_met : (v : Before) → IsTold v → IsMet v
-told_met TheBase t = tt
-told_met (Change d) t = tt
-told_met (Bad fault) t = tt
 told_met (Wants want) t = t
+told_met _ t = tt
 
 pub meets_kept : (part whole : Branch) → IsPart part whole → (walk : List ℕ) (c : ℕ) (v : Before) → Meets part walk c v → IsTold v → Meets whole walk c v
 meets_kept part whole is walk c v h told = record { walks = walk_kept part whole is walk c h.walks; short = h.short; meets = before_kept part whole is (length walk) (first_of walk) v h.meets (told_met v told) }
@@ -112,10 +108,9 @@ meets_kept part whole is walk c v h told = record { walks = walk_kept part whole
 -- ---- what is decided
 
 end_told : (b : Branch) (c : ℕ) → IsDecided b c → (walk : List ℕ) (v : Before) → Meets b walk c v → IsEnd v → IsTold v
-end_told b c decided walk TheBase h e = tt
 end_told b c decided walk (Change d) h e = e
-end_told b c decided walk (Bad fault) h e = tt
 end_told b c decided walk (Wants want) h e = decided walk want (meets_wanted b walk c want h)
+end_told b c decided walk _ h e = tt
 
 -- what the whole has, a part has in which nothing is wanted
 pub meets_decided : (part whole : Branch) → IsPart part whole → (walk : List ℕ) (c : ℕ) (v : Before) → IsDecided part c → Meets whole walk c v → IsTold v → Meets part walk c v
@@ -163,10 +158,9 @@ first_there b (d ∷ e ∷ rest) c h there = let f = h.0 in rw f.there refl
 
 -- a parent is in the branch, or the commit of a patch set of a change that is there
 abbrev IsGood : Branch → Option Standing → Type 0
-IsGood b None = ⊥
 IsGood b (Some InBranch) = Unit {0}
-IsGood b (Some Nowhere) = ⊥
 IsGood b (Some (PatchSet d k)) = IsSome (b.link d)
+IsGood b _ = ⊥
 
 good_commit : (b : Branch) (o : Option Standing) (d k : ℕ) → o ≡ Some (PatchSet d k) → IsSome (b.link d) → IsGood b o
 good_commit b o d k e there = subst (IsGood b) (sym e) there
@@ -314,12 +308,10 @@ still_wanted b after c d is w none =
 
 -- what is found wanted is, by a walk
 pub found_wanted : (b : Branch) (c : ℕ) {E : Type 0} (r : Result (Option LookUp) E) → IfOk r (λ found. option_map want_of found ≡ wanted b c) → IfOk r (λ found. IfSome found (λ w. (walk : List ℕ) × IsWanted b walk c (want_of w)))
-found_wanted b c (Err e) is = tt
-found_wanted b c (Ok None) is = tt
 found_wanted b c (Ok (Some w)) is = subst (Says b c) (sym is) (wanted_says b c)
+found_wanted b c _ is = tt
 
 -- where nothing is found wanted the change is decided
 pub found_decided : (b : Branch) (c : ℕ) {E : Type 0} (r : Result (Option LookUp) E) → IfOk r (λ found. option_map want_of found ≡ wanted b c) → IfOk r (λ found. IfNone found (IsDecided b c))
-found_decided b c (Err e) is = tt
 found_decided b c (Ok None) is = subst (Says b c) (sym is) (wanted_says b c)
-found_decided b c (Ok (Some w)) is = tt
+found_decided b c _ is = tt

@@ -29,11 +29,10 @@ below_full n short e = grind (arith, nat_tests)
 
 fine_parts : (same wip : Bool) (s : State) → (if not same then Some Outdated else if is_abandoned s then Some Abandoned else if wip then Some Wip else if is_merged s then Some Broken else None) ≡ None → (same ≡ true) × (s ≡ New) × (wip ≡ false)
 fine_parts true false New e = (refl, refl, refl)
-fine_parts true true New e = absurd (let f : Some Wip ≡ None = e in cc)
-fine_parts true true MergedState e = absurd (let f : Some Wip ≡ None = e in cc)
 fine_parts true false MergedState e = absurd (let f : Some Broken ≡ None = e in cc)
 fine_parts true wip AbandonedState e = absurd (let f : Some Abandoned ≡ None = e in cc)
 fine_parts false wip s e = absurd (let f : Some Outdated ≡ None = e in cc)
+fine_parts true true _ e = absurd (let f : Some Wip ≡ None = e in cc)
 
 by_fault : (b : Branch) (n c d k : ℕ) (l : Link) (fault : Option ChainFault) → (n == most_changes) ≡ false → parent_standing b c ≡ Some (PatchSet d k) → b.link d ≡ Some l → patch_set_fault k l ≡ fault → Means b n c (before_fault d fault)
 by_fault b n c d k l (Some fault) full p there e =
@@ -204,10 +203,9 @@ onto-push [] d rest = refl
 onto-push (x ∷ more) d rest = onto-push more d (x ∷ rest)
 
 AreBefore-push : (b : Branch) (more : List ℕ) (d : ℕ) (rest : List ℕ) → AreBefore b more rest → Follows b d (first_of (onto more rest)) → AreBefore b (more ++ d ∷ []) rest
-AreBefore-push b [] d [] h f = h
 AreBefore-push b [] d (x ∷ rest) h f = (f, tt)
-AreBefore-push b (y ∷ more) d [] h f = h
 AreBefore-push b (y ∷ more) d (x ∷ rest) h f = (h.0, AreBefore-push b more d (y ∷ x ∷ rest) h.1 f)
+AreBefore-push b _ d [] h f = h
 
 -- a walk is what stands before its change
 walk_before : (b : Branch) (xs : List ℕ) (c : ℕ) → IsWalk b xs c → (more : List ℕ) × (xs ≡ onto more (c ∷ [])) × AreBefore b more (c ∷ [])
@@ -316,26 +314,20 @@ never_unknown b n (PatchSet d k) e = by_tests (n == most_changes) (b.link d) e
 pub bad_fault : (b : Branch) (walk : List ℕ) (c : ℕ) (fault : ChainFault) → IsBadLink b walk c fault → IsFault b c fault
 bad_fault b walk c Memory h = tt
 bad_fault b walk c Unknown h = absurd (never_unknown b (length walk) h.parent h.wrong)
-bad_fault b walk c TooLong h = (walk, h)
-bad_fault b walk c Outdated h = (walk, h)
-bad_fault b walk c Abandoned h = (walk, h)
-bad_fault b walk c Wip h = (walk, h)
-bad_fault b walk c Broken h = (walk, h)
+bad_fault b walk c _ h = (walk, h)
 
 -- ---- what an end decides
 
 -- nothing is missing there
 abbrev pub IsTold : Before → Type 0
-IsTold TheBase = Unit {0}
 IsTold (Change d) = ⊥
-IsTold (Bad fault) = Unit {0}
 IsTold (Wants want) = ⊥
+IsTold _ = Unit {0}
 
 pub told_end : (v : Before) → IsTold v → IsEnd v
-told_end TheBase t = tt
 told_end (Change d) t = t
-told_end (Bad fault) t = tt
 told_end (Wants want) t = absurd t
+told_end _ t = tt
 
 -- where a walk to a change ends and nothing is missing, nothing is wanted
 pub decided : (b : Branch) (walk : List ℕ) (c : ℕ) (v : Before) → Meets b walk c v → IsTold v → IsDecided b c

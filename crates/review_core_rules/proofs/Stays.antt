@@ -8,7 +8,7 @@ use Rattle.review_words.specs.declared.changes.{Given.Given, NewChange.NewChange
 use Rattle.review_words.specs.declared.changes.{NewPatch.NewPatch, Review.Review as ReviewOf, Role.Role}
 use Rattle.review_words.specs.declared.changes.Role.TheVariants.{Reviewer, Cc}
 use Rattle.review_words.specs.declared.command.ChangeCommand.{ChangeCommand}
-use Rattle.review_words.specs.declared.command.ChangeCommand.TheVariants.{Upload, Review, AddReviewer, RemoveReviewer, SetWip, SetReady, Abandon, Restore, AddAttention, RemoveAttention}
+use Rattle.review_words.specs.declared.command.ChangeCommand.TheVariants.{Upload, Review, AddReviewer, RemoveReviewer, AddAttention}
 use Rattle.review_core_rules.specs.Change.{stored_as, message_of, given_or, Change, Copying, after_copying, settled, eligible, removes, uploader, writer_role, gives_vote, says_something, called_by, kept_or, begun, joined_at, current, reviewed, said, new_comments, carried}
 use Rattle.review_core_rules.specs.{Sound.are_in_order, Sound.answer_stored, Sound.fits, Sound.IsSound, Votes.voted}
 use Rattle.review_core_rules.specs.declared.rows.{AttentionEntry.AttentionEntry, CommentRow.CommentRow}
@@ -163,12 +163,7 @@ stays_eligible k (RemoveReviewer v) caller request c u h out =
     go same false true x h k = refl
     go true false false x h k = absurd (let e : true ≡ false = k in cc)
     go false false false x h k = h
-stays_eligible k SetWip caller request c u h out = h
-stays_eligible k SetReady caller request c u h out = h
-stays_eligible k Abandon caller request c u h out = h
-stays_eligible k Restore caller request c u h out = h
-stays_eligible k (AddAttention v reason) caller request c u h out = h
-stays_eligible k (RemoveAttention v reason) caller request c u h out = h
+stays_eligible k _ caller request c u h out = h
 
 by_rule : (e x : Bool) (w : Option Why) → is_some (if e && x then w else None) ≡ true → e ≡ true
 by_rule true x w h = refl

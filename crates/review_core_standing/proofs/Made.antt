@@ -40,8 +40,7 @@ kept_step : {X : Type 0} (b d : Bool) (v : X) (rest more : Option X) (f : X → 
     cond b (cond d (Some v) rest) rest ≡ option_filter f (cond d (Some v) more)
 kept_step true true v rest more f ih here = sym (ap (λ b. cond b (Some v) None) (here refl).0)
 kept_step false true v rest more f ih here = ih ∙ (ap (option_filter f) (here refl).1 ∙ sym (ap (λ b. cond b (Some v) None) (here refl).0))
-kept_step true false v rest more f ih here = ih
-kept_step false false v rest more f ih here = ih
+kept_step _ false v rest more f ih here = ih
 
 -- the row of a key among those that are kept
 pub row_kept : {K X : Type 0} {R : K → K → Ordering} → Tells R → (p : K × X → Bool) (rows : List (K × X)) → IsStrictlySortedBy R (keys_of rows) → (q : K) →
@@ -74,11 +73,10 @@ order_kept R p (e ∷ es) s = at (p e) (order_kept R p es s.1)
 -- ==== a term counts accounts
 
 pub voters_alike : (s : Setting) (c : Change) (f : ChangeFacts) (v : Voters) (a : ℕ) → AreFacts s c f → is_voter f v a ≡ is_asked_for s c v a
-voters_alike s c f voters.Everyone a h = refl
 voters_alike s c f voters.NonUploader a h = ap (λ u. not (a == u)) h.uploader
 voters_alike s c f voters.Owner a h = ap (λ u. a == u) h.owner
-voters_alike s c f (voters.Account k) a h = refl
 voters_alike s c f (voters.Group g) a h = ap (λ (l : GroupList). has_account l g a) h.groups
+voters_alike s c f _ a h = refl
 
 counted_alike : (s : Setting) (c : Change) (f : ChangeFacts) (t : LabelTerm) (a : ℕ) (v : ℤ) → AreFacts s c f → v ≡ c.vote (current c) t.label a → is_counted f t (a, v) ≡ counts s c t a
 counted_alike s c f t a v h is = λ i. meets (h.ranges t.label i) t.comparison (is i) && voters_alike s c f t.voters a h i

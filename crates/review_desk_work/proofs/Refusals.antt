@@ -54,30 +54,24 @@ of_range : (least most n : ℕ) → Agree (range_kinds least most n)
 of_range least most n = search (either, one, none)
 
 of_request : (a : ArgAction) → Agree (request_kinds a)
-of_request action.Set = none
-of_request action.Append = none
-of_request action.SetTrue = none
-of_request action.SetFalse = none
-of_request action.Count = none
 of_request action.Help = one _
 of_request action.HelpShort = one _
 of_request action.HelpLong = one _
 of_request action.Version = one _
+of_request _ = none
 
 of_count : (a : Rule) (values : List Text) (rows : List Row) → Agree (count_fault a values rows)
 of_count a [] rows = either _ none (one _)
 of_count a (v ∷ vs) rows = of_values _ _ (v ∷ vs)
 
 of_action : (act : ArgAction) (again : Bool) (a : Rule) (values : List Text) (rows : List Row) → Agree (action_fault act again a values rows)
-of_action action.Set again a values rows = one_of _ (either _ (one _) none) (of_values _ _ values)
-of_action action.SetTrue again a values rows = one_of _ (either _ (one _) none) (of_values _ _ values)
-of_action action.SetFalse again a values rows = one_of _ (either _ (one _) none) (of_values _ _ values)
 of_action action.Append again a values rows = of_values _ _ values
 of_action action.Count again a values rows = of_count a values rows
 of_action action.Help again a values rows = one _
 of_action action.HelpShort again a values rows = one _
 of_action action.HelpLong again a values rows = one _
 of_action action.Version again a values rows = one _
+of_action _ again a values rows = one_of _ (either _ (one _) none) (of_values _ _ values)
 
 of_use : (again : Bool) (a : Rule) (values : List Text) (rows : List Row) → Agree (use_fault again a values rows)
 of_use again a values rows = search (one_of, of_range, of_action)

@@ -45,11 +45,7 @@ module _ {X : Type 0} (state : X → Shown) (count : ℕ) (before after : Peers)
 
 not_refused : (rest : ℕ) (fault : DeskFault) → left_by (Err (desk_fault fault)) ≡ Some rest → ⊥
 not_refused rest desk.NotADesk is = let none : None ≡ Some rest = is in cc
-not_refused rest desk.NotOurs is = let none : None ≡ Some rest = is in cc
-not_refused rest desk.WrongVersion is = let none : None ≡ Some rest = is in cc
-not_refused rest desk.Store is = let none : None ≡ Some rest = is in cc
-not_refused rest desk.NotEmpty is = let none : None ≡ Some rest = is in cc
-not_refused rest desk.Memory is = let none : None ≡ Some rest = is in cc
+not_refused rest _ is = let none : None ≡ Some rest = is in cc
 
 module _ {S : Type 0} (g : Ghosts S) (count rest : ℕ) (before after : Known) (ended : Result Outcome ProgramFault) (is : left_by ended ≡ Some rest) where
   on_shelf : (is_ours : Bool) (old new : Held S) → OnShelf g is_ours (Does (Serve count) before after ended) old new → rest < count

@@ -1,5 +1,5 @@
 -- The faults of the program, from those of its parts.
-use Rattle.std.specs.Prelude.{ℕ, ◌≡◌, ◌==◌, if◌then◌else◌, List, Result, Ok, Err, codes}
+use Rattle.std.specs.Prelude.{ℕ, ◌==◌, if◌then◌else◌, List, Result, Ok, Err, codes}
 use Rattle.review_http.specs.declared.connections.ConnectionsFault.{ConnectionsFault}
 use Rattle.review_json_lines.specs.declared.fault.{Fault.Fault, Outcome.Outcome}
 use Rattle.review_json_lines.specs.declared.fault.Outcome.TheVariants.{Complete, Incomplete}

@@ -55,13 +55,12 @@ bad_value reading IsDeep text t place code.TooLong h k = absurd (omega (arith, h
 bad_value reading IsDeep text t place code.Empty h k =
     let same : [] ≡ h.1.0 = one_cut text h.1.0 [] h.1.1.1 k.2 in absurd (omega (arith, h.1.1.2, ap length same))
 bad_value reading IsDeep text t place code.Unbalanced h k = absurd (not_both (balanced 0 h.1.0) h.1.1.3 (k.2 h.1.0 h.1.1.1))
-bad_value reading IsDeep text t place code.BadTerm h (inl k) = absurd (no_flaw reading text h.0 place _ h.1 k)
 bad_value reading IsDeep text t place code.BadTerm h (inr k) = absurd (no_shape reading text t BadTerm h k.1)
-bad_value reading IsDeep text t place code.BadValue h (inl k) = absurd (no_flaw reading text h.0 place _ h.1 k)
 bad_value reading IsDeep text t place code.BadValue h (inr k) = (refl, k)
 bad_value reading IsDeep text t place code.Zero h k = absurd (no_flaw reading text h.0 place _ h.1 k)
 bad_value reading IsDeep text t place code.TooDeep h k = absurd (no_shape reading text t TooDeep h k.1)
 bad_value reading IsDeep text t place code.Mixed h k = absurd (no_shape reading text t Mixed h k.1)
+bad_value reading IsDeep text t place _ h (inl k) = absurd (no_flaw reading text h.0 place _ h.1 k)
 
 -- a text has one tree
 pub one_tree : {A : Type 0} → (reading : List ℕ → Reading A) (text : List ℕ) (t u : Tree A) → HasExpr reading text t → HasExpr reading text u → t ≡ u

@@ -49,10 +49,9 @@ some_first (Good ts) r flaw s e = cc
 some_first (Bad f) r flaw s e = cc
 
 some_rest : {A : Type 0} → (x : Reading (List (Tok A))) (r : Option (List (Tok A))) → IsSome (joined x r) → IsSome r
-some_rest (Good ts) (Some us) s = refl
 some_rest (Good ts) None s = s
-some_rest (Bad f) (Some us) s = refl
 some_rest (Bad f) None s = s
+some_rest _ (Some us) s = refl
 
 abbrev IsFirst : {A : Type 0} → (List ℕ → Reading A) → List Lexeme → List Lexeme → Lexeme → List Lexeme → Flaw → Type 0
 IsFirst reading ls before l after flaw = (before ++ l ∷ after ≡ ls) × IsSome (tokens_before reading before (l ∷ after)) × (lexeme_tokens reading l after ≡ Bad flaw)
@@ -95,14 +94,12 @@ one_flaw reading text p q f g h k =
 
 one_shape : {A : Type 0} → (ts : List (Tok A)) (f g : Fault) → HasFault ts f → HasFault ts g → f ≡ g
 one_shape ts BadTerm BadTerm h k = refl
-one_shape ts BadTerm TooDeep h k = absurd (h k.0 k.1)
-one_shape ts BadTerm Mixed h k = absurd (h k.0 k.1)
-one_shape ts TooDeep BadTerm h k = absurd (k h.0 h.1)
 one_shape ts TooDeep TooDeep h k = refl
 one_shape ts TooDeep Mixed h k = let deep : all_depth h.0 ≡ all_depth k.0 = ap all_depth (one_spelling h.0 k.0 (h.1 ∙ sym k.1)) in absurd (omega (arith, deep, h.2, k.2))
-one_shape ts Mixed BadTerm h k = absurd (k h.0 h.1)
 one_shape ts Mixed TooDeep h k = let deep : all_depth h.0 ≡ all_depth k.0 = ap all_depth (one_spelling h.0 k.0 (h.1 ∙ sym k.1)) in absurd (omega (arith, deep, h.2, k.2))
 one_shape ts Mixed Mixed h k = refl
+one_shape ts _ BadTerm h k = absurd (k h.0 h.1)
+one_shape ts BadTerm _ h k = absurd (h k.0 k.1)
 
 blank_laid : (text : List ℕ) (ls : List Lexeme) → IsLaidOut ls text → IsTrue (all_blank text) → ⊥
 blank_laid text ls h b = let same : [] ≡ ls = one_cut text ls [] h.1 b in absurd (omega (arith, h.2, ap length same))

@@ -43,8 +43,7 @@ fault_along f keeps r IsDeep IsPattern fault.BadTerm h = ap f h ∙ keeps NoTerm
 fault_along f keeps r IsDeep IsPattern fault.BadValue (inl h) = inl (ap f h ∙ keeps NoValue)
 fault_along f keeps r IsDeep IsPattern fault.BadValue (inr h) = inr h
 fault_along f keeps r IsDeep IsPattern fault.Zero h = ap f h ∙ keeps Zero
-fault_along f keeps r IsDeep IsPattern fault.Engine h = h
-fault_along f keeps r IsDeep IsPattern fault.Memory h = h
+fault_along f keeps r IsDeep IsPattern _ h = h
 
 pub toks_more : {A : Type 0} → (new old : List (Token A)) (t : Token A) → new ≡ old ++ t ∷ [] → toks new ≡ toks old ++ tok t ∷ []
 toks_more new old t e = ap toks e ∙ map-append _ _ _

@@ -23,6 +23,5 @@ with_tokens reading text bytes ps qs ts e short cut some matched f good =
 pub shape_refused : {A : Type 0} → (reading : List ℕ → Reading A) (IsDeep IsPattern : List ℕ → Type 0) (text : List ℕ) (ts : List (Tok A)) (e : ShapeFault) →
     HasTokens reading text ts → IsShapeFault ts e → IsParseFault reading IsDeep IsPattern text (shape_fault e)
 shape_refused reading IsDeep IsPattern text ts shape.BadTerm h f = inr (refl, (ts, h, f))
-shape_refused reading IsDeep IsPattern text ts shape.TooDeep h f = (refl, (ts, h, f))
-shape_refused reading IsDeep IsPattern text ts shape.Mixed h f = (refl, (ts, h, f))
 shape_refused reading IsDeep IsPattern text ts shape.Memory h f = tt
+shape_refused reading IsDeep IsPattern text ts _ h f = (refl, (ts, h, f))

@@ -26,13 +26,9 @@ at_start place text h = (omega (arith, h), omega (arith, h))
 
 pub place_within : {A : Type 0} → (reading : List ℕ → Reading A) (IsDeep : List ℕ → Type 0) (text : List ℕ) (place : ℕ) (c : ExprCode) → IsFault reading IsDeep text place c →
     (place ≤ length text) × (place ≤ 4096)
-place_within reading IsDeep text place code.TooLong h = at_start place text h.0
-place_within reading IsDeep text place code.Empty h = at_start place text h.0
-place_within reading IsDeep text place code.Unbalanced h = at_start place text h.0
 place_within reading IsDeep text place code.BadTerm (inl h) = reached_within reading text place h.0 h.1 h.2
 place_within reading IsDeep text place code.BadTerm (inr h) = at_start place text h.0
 place_within reading IsDeep text place code.BadValue (inl h) = reached_within reading text place h.0 h.1 h.2
 place_within reading IsDeep text place code.BadValue (inr h) = reached_within reading text place h.0 h.1 h.2
 place_within reading IsDeep text place code.Zero h = reached_within reading text place h.0 h.1 h.2
-place_within reading IsDeep text place code.TooDeep h = at_start place text h.0
-place_within reading IsDeep text place code.Mixed h = at_start place text h.0
+place_within reading IsDeep text place _ h = at_start place text h.0

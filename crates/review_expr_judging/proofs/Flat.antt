@@ -1,7 +1,7 @@
 -- Flat lists: a node behind its members, and a stack that a flat list is run on.
 use Rattle.std.proofs.Common.{◌≡◌, ℕ, zero, suc, ◌+◌, ◌-◌, ◌≤◌, Bool, ◌&&◌, ◌||◌, List, [], ◌∷◌, ◌++◌, length, map, take, drop, get_or, refl, sym, ap, ap₂, ◌∙◌, arith, append_assoc}
-use Rattle.std.proofs.Math.{ListN.drop_of_length-le, Seq.drop-append_seam, Seq.take-append_seam}
-use Rattle.std.proofs.lemmas.List.{append-nil, length-append, length-map, map-append}
+use Rattle.std.proofs.Math.ListN.{drop_of_length-le}
+use Rattle.std.proofs.lemmas.List.{append-nil, length-map, map-append}
 use Rattle.std.specs.List.{list_all, list_any}
 use Rattle.review_expr_terms.specs.Grammar.{Tree, Term, Neg, All, Any, Trees, End, With, trees}
 use Rattle.review_expr_terms.specs.{Views.view, declared.tree.Node.Node}
@@ -57,16 +57,6 @@ mutual
 -- a tree's flat list leads from nothing to its truth value
 pub leads_whole : {A : Type 0} (h : A → Bool) (t : Tree A) → LeadsTo h [] (postfix t) (holds h t)
 leads_whole {A = A} h t = rw (sym (append-nil (postfix t))) (leads_tree {A = A} h t [] [] (holds h t) refl)
-
--- what lies under the top values of a stack, and those
-under_top : (stack under top : List Bool) (n : ℕ) → stack ≡ under ++ top → length top ≡ n → length stack - n ≡ length under
-under_top stack under top n e f = let g : length stack ≡ length under + length top = ap length e ∙ length-append under top in omega (arith, f, g)
-
-pub under_is : (stack under top : List Bool) (n : ℕ) → stack ≡ under ++ top → length top ≡ n → take (length stack - n) stack ≡ under
-under_is stack under top n e f = ap₂ take (under_top stack under top n e f) e ∙ take-append_seam under top
-
-pub top_is : (stack under top : List Bool) (n : ℕ) → stack ≡ under ++ top → length top ≡ n → drop (length stack - n) stack ≡ top
-top_is stack under top n e f = ap₂ drop (under_top stack under top n e f) e ∙ drop-append_seam under top
 
 pub leads_list : {A : Type 0} (h : A → Bool) (t : Tree A) (stack : List Bool) (list steps : List (Step A)) → stack ≡ [] → steps ≡ list → map entry list ≡ postfix t → LeadsTo h stack (map entry steps) (holds h t)
 leads_list h t stack list steps none same e = rw (none, same, e) (leads_whole h t)

@@ -3,7 +3,7 @@ use mathlib.Core.Logic.{∥∥₁_map}
 use Rattle.std.proofs.Common.{◌≡◌, ◌≢◌, ℕ, suc, ◌+◌, Bool, true, false, ◌&&◌, List, [], ◌∷◌, ◌++◌, length, codes, Some, IsTrue, refl, sym, ap, ap₂, ◌∙◌, subst, arith, append_assoc, length-append, append-nil, ◌==◌, Option, None, if◌then◌else◌, bytes_eq, String, Global, string_bytes, Result, Ok, Err, IfOk, ◌≤◌, ◌<◌, lit<}
 use Rattle.std.{proofs.lemmas.Bool.Decides.nat_tests, proofs.lemmas.Option.same_Some, specs.Char.is_ascii_lowercase}
 use Rattle.review_expr_terms.specs.Grammar.{Tok, NotWord, AndWord, OrWord, Join, And, Or, Tree, Term, Neg, All, Any, Trees, End, With, between, spelled, all_spelled, Word as Token, Open as Opens, Close as Closes, Unary, Members, Leaf, Group, Not, One, Next, trees, listed, has_or, tree_of, trees_of, tree, all_depth}
-use Rattle.review_expr_terms.specs.Lexemes.{Lexeme, Word, Open, Close, IsCut, balanced, ends, runs, Word as AWord, Open as AnOpen, Close as AClose}
+use Rattle.review_expr_terms.specs.Lexemes.{Lexeme, Word, Open, Close, IsCut, balanced, ends, runs, Word as AWord}
 use Rattle.review_expr_terms.specs.Words.{Reading, Good, Bad, NoTerm}
 use Rattle.review_expr.specs.Expressions.{HasExpr, IsExpression}
 use Rattle.review_expr.specs.Tokens.{word_tokens, tokens, joined, opens_at, operator_by, operator_or, term_token, meaning, alone, behind_minus, lone_minus, after_minus, unsigned, is_signed, lexeme_tokens, tokens_before}
@@ -147,12 +147,11 @@ pub printed_carried : {A : Type 0} → (reading : List ℕ → Reading A) (word 
     Carries reading (printed word t) (all_spelled (level d t))
 printed_carried reading word d (Term a) f g = member_carried reading word d (Term a) f g
 printed_carried reading word d (Neg t) f g = member_carried reading word d (Neg t) f g
-printed_carried reading word d (All End) f g = cc
 printed_carried reading word d (All (With t ts)) f g =
     joined_carried reading word d And (codes "AND") AndWord (record { is = and_word reading; between_is = refl }) t ts (member_carried reading word d t (and_left _ _ (and_right _ _ f)) g.0) (and_right _ _ (and_right _ _ f)) g.1
-printed_carried reading word d (Any End) f g = cc
 printed_carried reading word d (Any (With t ts)) f g =
     joined_carried reading word d Or (codes "OR") OrWord (record { is = or_word reading; between_is = refl }) t ts (member_carried reading word d t (and_left _ _ (and_right _ _ f)) g.0) (and_right _ _ (and_right _ _ f)) g.1
+printed_carried reading word d _ f g = cc
 
 -- ==== each term of a tree that a text has is spelled by a word of the text
 
@@ -177,11 +176,10 @@ together P [] ys h g = g
 together P (t ∷ ts) ys h g = (h.0, together P ts ys h.1 g)
 
 listed_terms : {A : Type 0} → (P : A → Type 0) (or : Bool) (ts : List (Tree A)) → EachTerms P (trees ts) → AllTerms P (listed or ts)
-listed_terms P true [] h = h
-listed_terms P false [] h = h
 listed_terms P or (t ∷ []) h = h.0
 listed_terms P true (t ∷ u ∷ ts) h = h
 listed_terms P false (t ∷ u ∷ ts) h = h
+listed_terms P _ [] h = h
 
 mutual
   unary_terms : {A : Type 0} → (P : A → Type 0) (u : Unary A) → AllWords P (spelled u) → AllTerms P (tree_of u)
@@ -254,8 +252,7 @@ word_read_by reading opens false v w = alone_read (IsRead reading) (meaning read
 
 lexeme_read : {A : Type 0} → (reading : List ℕ → Reading A) (l : Lexeme) (after : List Lexeme) → GoodTokens (IsRead reading) (lexeme_tokens reading l after)
 lexeme_read reading (AWord place w) after = word_read_by reading (opens_at (place + 1) after) (is_signed w) (unsigned w) w
-lexeme_read reading (AnOpen place) after = (tt, tt)
-lexeme_read reading AClose after = (tt, tt)
+lexeme_read reading _ after = (tt, tt)
 
 joined_read : {A : Type 0} → (P : A → Type 0) (x : Reading (List (Tok A))) (r : Option (List (Tok A))) → GoodTokens P x → SomeTokens P r → SomeTokens P (joined x r)
 joined_read P (Good ts) (Some us) h g = together P ts us h g
@@ -320,10 +317,8 @@ spelled_word reading w a h e =
 
 some_token : {A : Type 0} → (u : Unary A) → 1 ≤ length (spelled u)
 some_token (Leaf true a) = omega arith
-some_token (Leaf false a) = omega arith
 some_token (Group true ms) = omega arith
-some_token (Group false ms) = omega arith
-some_token (Not u) = omega arith
+some_token _ = omega arith
 
 some_tokens : {A : Type 0} → (ms : Members A) → 1 ≤ length (all_spelled ms)
 some_tokens (One u) = some_token u

@@ -35,18 +35,12 @@ copy_name of_copy.Has = codes "has"
 name_back : (key : CopyKey) → copy_key (copy_name key) ≡ Some key
 unfolding copy_key copy_name
 name_back of_copy.Is = refl
-name_back of_copy.ChangeKind = refl
-name_back of_copy.ApproverIn = refl
-name_back of_copy.UploaderIn = refl
-name_back of_copy.Has = refl
+name_back _ = refl
 
 name_lacks : (key : CopyKey) → lacks 58 (copy_name key) ≡ true
 unfolding copy_name
 name_lacks of_copy.Is = refl
-name_lacks of_copy.ChangeKind = refl
-name_lacks of_copy.ApproverIn = refl
-name_lacks of_copy.UploaderIn = refl
-name_lacks of_copy.Has = refl
+name_lacks _ = refl
 
 -- a term whose word is a key and a value that give it
 record Spelled (t : CopyTerm) : Type 0 where
@@ -129,10 +123,7 @@ copy_again w t e = read_spelled t (spelled_by w t e)
 one_word : (key : CopyKey) (text : List ℕ) → lacks 34 text ≡ true → IsOneWord (word_of (copy_name key) text)
 unfolding copy_name word_of
 one_word of_copy.Is text h = (_, _, refl, refl, quoted_runs text h)
-one_word of_copy.ChangeKind text h = (_, _, refl, refl, quoted_runs text h)
-one_word of_copy.ApproverIn text h = (_, _, refl, refl, quoted_runs text h)
-one_word of_copy.UploaderIn text h = (_, _, refl, refl, quoted_runs text h)
-one_word of_copy.Has text h = (_, _, refl, refl, quoted_runs text h)
+one_word _ text h = (_, _, refl, refl, quoted_runs text h)
 
 pub copy_stands : (w : List ℕ) (t : CopyTerm) → copy_reading w ≡ Good t → IsOneWord (copy_word t)
 copy_stands w t e = let s = spelled_by w t e in subst IsOneWord (sym s.is) (one_word s.key s.text s.bare)

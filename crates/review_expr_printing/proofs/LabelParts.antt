@@ -72,8 +72,7 @@ count_part (count.Above k) = codes "count>" ++ numeral k
 
 count_shown : (c : Count) → count_text (Some c) ≡ 44 ∷ count_part c
 count_shown (count.Exactly k) = refl
-count_shown (count.AtLeast k) = refl
-count_shown (count.Above k) = refl
+count_shown _ = refl
 
 bare_count : (c : Count) → bare (count_part c) ≡ true
 bare_count (count.Exactly k) = bare_numeral k
@@ -174,11 +173,9 @@ tail_of (voters.Group group) k named h =
 
 -- no quote stands in the parts
 pub voters_lack : (v : Voters) → IsNamed v → lacks 34 (voters_text v) ≡ true
-voters_lack voters.Everyone h = refl
-voters_lack voters.NonUploader h = refl
-voters_lack voters.Owner h = refl
 voters_lack (voters.Account n) h = bare_quote (numeral n) (bare_numeral n)
 voters_lack (voters.Group group) h = bare_quote group (bare_word group h)
+voters_lack _ h = refl
 
 pub count_lacks : (k : Option Count) → lacks 34 (count_text k) ≡ true
 count_lacks None = refl
@@ -398,10 +395,9 @@ longest_again s b r label stops =
 -- a label before a comparison
 named_front : (s : List ℕ) (c : Comparison) (r : List ℕ) → is_label s ≡ true → longest_label 40 (s ++ (comparison_text c ++ r)) ≡ Some (s, comparison_text c ++ r)
 named_front s (comparison.Is asked) r label = longest_again s 61 _ label (refl, refl)
-named_front s (comparison.AtLeast z) r label = longest_again s 62 _ label (refl, refl)
-named_front s (comparison.Above z) r label = longest_again s 62 _ label (refl, refl)
 named_front s (comparison.AtMost z) r label = longest_again s 60 _ label (refl, refl)
 named_front s (comparison.Below z) r label = longest_again s 60 _ label (refl, refl)
+named_front s _ r label = longest_again s 62 _ label (refl, refl)
 
 bare_goes : (letter : Bool) (s : List ℕ) → goes_on letter s ≡ true → bare s ≡ true
 bare_goes letter [] h = refl

@@ -59,14 +59,12 @@ and_right false b h = cc
 
 -- members by one sign alone have no other
 no_or : {A : Type 0} → (d : A) (ts : Trees A) → has_or (joined d And ts) ≡ false
-no_or d End = refl
-no_or d (With t End) = refl
 no_or d (With t (With u us)) = no_or d (With u us)
+no_or d _ = refl
 
 no_and : {A : Type 0} → (d : A) (ts : Trees A) → has_and (joined d Or ts) ≡ false
-no_and d End = refl
-no_and d (With t End) = refl
 no_and d (With t (With u us)) = no_and d (With u us)
+no_and d _ = refl
 
 two : {A : Type 0} → (or : Bool) (t : Tree A) (ms : Members A) → listed or (t ∷ trees_of ms) ≡ many or (t ∷ trees_of ms)
 two or t (One u) = refl
@@ -108,9 +106,6 @@ level_tree d (Term a) h = refl
 level_tree d (Neg t) h = ap Neg (member_tree d t h)
 level_tree d (All ts) h = member_tree d (All ts) h
 level_tree d (Any ts) h = member_tree d (Any ts) h
-
-or_both : (a b c d : Bool) → a && b ≡ false → c ≡ false → (a && b) || c ≡ false
-or_both a b c d h k = rw (h, k) refl
 
 with_mixed : {A : Type 0} → (d : A) (j : Join) (t : Tree A) (ts : Trees A) → is_mixed (member d t) ≡ false → any_mixed (joined d j ts) ≡ false → any_mixed (joined d j (With t ts)) ≡ false
 with_mixed d j t End e f = e
@@ -160,9 +155,6 @@ members_depth : {A : Type 0} → (d : A) (or : Bool) (ms : Members A) → depth 
 members_depth d or (One u) = listed_depth d or (tree_of u) []
 members_depth d or (Next u j ms) = listed_depth d or (tree_of u) (trees_of ms)
 
-negated_depth : {A : Type 0} → (d : A) (t : Tree A) → depth (member d (Neg t)) ≡ depth (member d t) + 1
-negated_depth d t = refl
-
 mutual
   member_depth : {A : Type 0} → (d : A) (u : Unary A) → depth (member d (tree_of u)) ≤ depth u
   member_depth d (Leaf true a) = omega arith
@@ -177,9 +169,7 @@ mutual
 
 level_within : {A : Type 0} → (d : A) (t : Tree A) → all_depth (level d t) ≤ depth (member d t)
 level_within d (Term a) = omega arith
-level_within d (Neg t) = omega arith
-level_within d (All ts) = omega arith
-level_within d (Any ts) = omega arith
+level_within d _ = omega arith
 
 level_many : {A : Type 0} → (d : A) (or : Bool) (t : Tree A) (ts : List (Tree A)) → all_depth (level d (many or (t ∷ ts))) ≤ greatest d (t ∷ ts)
 level_many d true t ts = joined_depth d Or t ts

@@ -31,24 +31,12 @@ name of_requirement.Has = codes "has"
 name_back : (key : RequirementKey) → requirement_key (name key) ≡ Some key
 unfolding requirement_key name
 name_back of_requirement.Is = refl
-name_back of_requirement.Label = refl
-name_back of_requirement.UploaderIn = refl
-name_back of_requirement.OwnerIn = refl
-name_back of_requirement.Branch = refl
-name_back of_requirement.Path = refl
-name_back of_requirement.File = refl
-name_back of_requirement.Has = refl
+name_back _ = refl
 
 name_lacks : (key : RequirementKey) → lacks 58 (name key) ≡ true
 unfolding name
 name_lacks of_requirement.Is = refl
-name_lacks of_requirement.Label = refl
-name_lacks of_requirement.UploaderIn = refl
-name_lacks of_requirement.OwnerIn = refl
-name_lacks of_requirement.Branch = refl
-name_lacks of_requirement.Path = refl
-name_lacks of_requirement.File = refl
-name_lacks of_requirement.Has = refl
+name_lacks _ = refl
 
 -- a term whose word is a key and a value that give it
 record Spelled (t : RequirementTerm) : Type 0 where
@@ -175,13 +163,7 @@ requirement_again w t e = read_spelled t (spelled_by w t e)
 one_word : (key : RequirementKey) (text : List ℕ) → lacks 34 text ≡ true → IsOneWord (word_of (name key) text)
 unfolding name word_of
 one_word of_requirement.Is text h = (_, _, refl, refl, quoted_runs text h)
-one_word of_requirement.Label text h = (_, _, refl, refl, quoted_runs text h)
-one_word of_requirement.UploaderIn text h = (_, _, refl, refl, quoted_runs text h)
-one_word of_requirement.OwnerIn text h = (_, _, refl, refl, quoted_runs text h)
-one_word of_requirement.Branch text h = (_, _, refl, refl, quoted_runs text h)
-one_word of_requirement.Path text h = (_, _, refl, refl, quoted_runs text h)
-one_word of_requirement.File text h = (_, _, refl, refl, quoted_runs text h)
-one_word of_requirement.Has text h = (_, _, refl, refl, quoted_runs text h)
+one_word _ text h = (_, _, refl, refl, quoted_runs text h)
 
 pub requirement_stands : (w : List ℕ) (t : RequirementTerm) → requirement_reading w ≡ Good t → IsOneWord (requirement_word t)
 requirement_stands w t e = let s = spelled_by w t e in subst IsOneWord (sym s.is) (one_word s.key s.text s.bare)

@@ -47,9 +47,8 @@ unquoted_back text value (inl bare) h = ap unquoted bare ∙ ap (λ o. unquoted_
 unquoted_back text value (inr held) h = ap unquoted held ∙ ap closed (cut_lacking 34 value [] h)
 
 stands_closed : (rest value : List ℕ) (o : Option (List ℕ × List ℕ)) → IsCut 34 rest o → closed o ≡ Some value → 34 ∷ rest ≡ codes "\"" ++ (value ++ codes "\"")
-stands_closed rest value None cut e = absurd (cc)
 stands_closed rest value (Some (inner, [])) cut e = let same : inner ≡ value = cc in ap (λ x. 34 ∷ x) (sym cut ∙ ap (λ x. x ++ codes "\"") same)
-stands_closed rest value (Some (inner, c ∷ cs)) cut e = absurd (cc)
+stands_closed rest value _ cut e = absurd (cc)
 
 stands_by : (text value : List ℕ) (o : Option (List ℕ × List ℕ)) → IsCut 34 text o → unquoted_by o text ≡ Some value → StandsFor text value
 stands_by text value None cut e = inl (let same : text ≡ value = cc in same)

@@ -58,9 +58,8 @@ front_lacks b [] = refl
 front_lacks b (c ∷ s) = front_by (c == b) b c s refl (front_lacks b s)
 
 closed_lacks : (b : ℕ) (s x : List ℕ) (o : Option (List ℕ × List ℕ)) → LacksFront b s o → closed o ≡ Some x → lacks b x ≡ true
-closed_lacks b s x None h e = absurd (cc)
 closed_lacks b s x (Some (inner, [])) h e = let same : inner ≡ x = cc in subst (λ y. lacks b y ≡ true) same h
-closed_lacks b s x (Some (inner, c ∷ cs)) h e = absurd (cc)
+closed_lacks b s x _ h e = absurd (cc)
 
 unquoted_by_lacks : (s x : List ℕ) (o : Option (List ℕ × List ℕ)) → LacksFront 34 s o → unquoted_by o s ≡ Some x → lacks 34 x ≡ true
 unquoted_by_lacks s x None h e = let same : s ≡ x = cc in subst (λ y. lacks 34 y ≡ true) same h
@@ -283,17 +282,13 @@ small_vote x =
 
 pub vote_again : (v : VoteValue) → IsSmallVote v → vote_in (vote_text v) ≡ Some v
 unfolding vote_in
-vote_again value.Max h = refl
-vote_again value.Min h = refl
-vote_again value.Any h = refl
 vote_again (value.Exactly z) h =
     rw (differs 45 77 (codes "AX") (number_text z) refl (in_number z), differs 45 77 (codes "IN") (number_text z) refl (in_number z), differs 45 65 (codes "NY") (number_text z) refl (in_number z), number_again z h) refl
+vote_again _ h = refl
 
 pub bare_vote : (v : VoteValue) → bare (vote_text v) ≡ true
-bare_vote value.Max = refl
-bare_vote value.Min = refl
-bare_vote value.Any = refl
 bare_vote (value.Exactly z) = bare_in (number_text z) (in_number z)
+bare_vote _ = refl
 
 abbrev pub IsSmallComparison : Comparison → Type 0
 IsSmallComparison (comparison.Is asked) = IsSmallVote asked

@@ -10,10 +10,9 @@ is_digit d = nat_le 48 d && nat_le d 57
 
 -- the number of one or two digits
 abbrev pub short : List ℕ → Option ℕ
-short [] = None
 short (d ∷ []) = if nat_le 48 d && nat_le d 57 then Some (d - 48) else None
 short (d ∷ e ∷ []) = if nat_lt 48 d && nat_le d 57 && nat_le 48 e && nat_le e 57 then Some ((d - 48) * 10 + (e - 48)) else None
-short (d ∷ e ∷ f ∷ cs) = None
+short _ = None
 
 pub of_test : {A : Type 0} (b : Bool) (x : Option A) (a : A) → cond b x None ≡ Some a → (b ≡ true) × (x ≡ Some a)
 of_test true x a e = (refl, e)
@@ -117,16 +116,13 @@ small_by true n h = h refl
 small_by false n h = tt
 
 pub short_small : (cs : List ℕ) → IfSome (short cs) (λ n. n ≤ 99)
-short_small [] = tt
 short_small (d ∷ []) = small_by (nat_le 48 d && nat_le d 57) (d - 48) (λ t. grind (arith, nat_tests, t))
 short_small (d ∷ e ∷ []) = small_by (nat_lt 48 d && nat_le d 57 && nat_le 48 e && nat_le e 57) ((d - 48) * 10 + (e - 48)) (λ t. grind (arith, nat_tests, t))
-short_small (d ∷ e ∷ f ∷ cs) = tt
+short_small _ = tt
 
 pub long_none : (cs : List ℕ) → 3 ≤ length cs → digits_in cs ≡ None
-long_none [] h = absurd (omega arith)
-long_none (d ∷ []) h = absurd (omega arith)
-long_none (d ∷ e ∷ []) h = absurd (omega arith)
 long_none (d ∷ e ∷ f ∷ cs) h = digits_short (d ∷ e ∷ f ∷ cs)
+long_none _ h = absurd (omega arith)
 
 pub empty_none : (cs : List ℕ) → length cs < 1 → digits_in cs ≡ None
 empty_none [] h = digits_short []

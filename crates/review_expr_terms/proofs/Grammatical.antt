@@ -99,20 +99,17 @@ more_ends all u _ h = absurd h
 more_blank : {A : Type 0} → (all : List (Tok A) → Read A (Members A)) (u v : Unary A) (rest : List (Tok A)) →
     more_of all u (spelled v ++ rest) ≡ followed u Blank (all (spelled v ++ rest))
 more_blank all u (Leaf true a) rest = refl
-more_blank all u (Leaf false a) rest = refl
 more_blank all u (Group true ms) rest = refl
-more_blank all u (Group false ms) rest = refl
-more_blank all u (Not v) rest = refl
+more_blank all u _ rest = refl
 
 more_next : {A : Type 0} → (all : List (Tok A) → Read A (Members A)) (u : Unary A) (j : Join) (ms : Members A) (rest : List (Tok A)) →
     more_of all u (between j ++ (all_spelled ms ++ rest)) ≡ followed u j (all (all_spelled ms ++ rest))
-more_next all u And ms rest = refl
-more_next all u Or ms rest = refl
 more_next all u Blank (One v) rest = more_blank all u v rest
 more_next all u Blank (Next v j ms) rest =
     ap (more_of all u) (append_assoc (spelled v) (between j ++ all_spelled ms) rest)
     ∙ more_blank all u v ((between j ++ all_spelled ms) ++ rest)
     ∙ ap (λ xs. followed u Blank (all xs)) (sym (append_assoc (spelled v) (between j ++ all_spelled ms) rest))
+more_next all u _ ms rest = refl
 
 read_group : {A : Type 0} → (negated : Bool) (one : List (Tok A) → Read A (Unary A)) (all : List (Tok A) → Read A (Members A)) (ms : Members A) (rest : List (Tok A)) →
     all (all_spelled ms ++ (Close ∷ rest)) ≡ Some (ms, Close ∷ rest) →

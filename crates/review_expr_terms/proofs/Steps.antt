@@ -8,9 +8,8 @@ use Rattle.review_expr_terms.specs.inner.Views.{Fails, capped, negated_part, see
 use Rattle.review_expr_terms.specs.declared.parser.Refusal.TheVariants as refusal
 
 pub listed_many : {A : Type 0} → (or : Bool) (xs : List (Tree A)) → length xs ≢ 1 → many or xs ≡ listed or xs
-listed_many or [] h = refl
 listed_many or (t ∷ []) h = absurd (h refl)
-listed_many or (t ∷ u ∷ ts) h = refl
+listed_many or _ h = refl
 
 capped_more : (n : ℕ) → capped (capped n + 1) ≡ capped (n + 1)
 capped_more n = omega arith

@@ -7,8 +7,7 @@ use Rattle.{review_file_rules.specs.Inherited.put_by, review_file_lines.specs.in
 
 below : (o : Ordering) → is_lt o ≡ true → ordering_reverse o ≡ Greater
 below Less h = refl
-below Equal h = let e : false ≡ true = h in absurd (cc)
-below Greater h = let e : false ≡ true = h in absurd (cc)
+below _ h = let e : false ≡ true = h in absurd (cc)
 
 -- not below and not equal is above
 above : (o : Ordering) → is_lt o ≡ false → is_eq o ≡ false → ordering_reverse o ≡ Less
@@ -17,9 +16,8 @@ above Equal h g = let e : true ≡ false = g in absurd (cc)
 above Greater h g = refl
 
 equal : (o : Ordering) → is_eq o ≡ true → ordering_reverse o ≡ Equal
-equal Less h = let e : false ≡ true = h in absurd (cc)
 equal Equal h = refl
-equal Greater h = let e : false ≡ true = h in absurd (cc)
+equal _ h = let e : false ≡ true = h in absurd (cc)
 
 module _ {X : Type 0} (name : X → List ℕ) where
   turned : (x y : X) → slice_cmp nat_cmp (name x) (name y) ≡ ordering_reverse (slice_cmp nat_cmp (name y) (name x))

@@ -2,8 +2,8 @@
 use Rattle.std.proofs.Common.{◌≡◌, inl, inr, ℕ, ◌≤◌, Bool, true, false, List, [], ◌∷◌, Option, Some, None, arith, MatchBool, length, nat_lt}
 use Rattle.toml.specs.{Data.Members, Data.table, Parse.parse_document}
 use Rattle.review_file_document.specs.Limits.{most_bytes}
-use Rattle.review_words.specs.{Texts.IsPlaced, declared.faults.ExprFault.ExprFault, declared.faults.FileFault.FileFault}
-use Rattle.review_words.specs.declared.faults.FileFault.TheVariants.{Toml, UnknownKey, Missing, BadName, Twice, BadValues, UnknownLabel, Limit, Expr as Faulty}
+use Rattle.review_words.specs.{Texts.IsPlaced, declared.faults.ExprFault.ExprFault}
+use Rattle.review_words.specs.declared.faults.FileFault.{FileFault, TheVariants.Limit, TheVariants.Expr as Faulty}
 use Rattle.review_expr_spelling.specs.Words.{requirement_reading, copy_reading, IsDeep}
 use Rattle.review_expr.proofs.Within.{place_within}
 use Rattle.review_expr.specs.Exprs.{IsCopyOf, IsRequirementOf, NoWord}
@@ -40,11 +40,4 @@ place_of text e h = placed_by (nat_lt most_bytes (length text)) (parse_document 
 
 pub placed : (text : List ℕ) (f : FileFault) → IsFileFault text f → IsPlaced f
 placed text (Faulty e) h = omega (arith, place_of text e h)
-placed text Toml h = tt
-placed text UnknownKey h = tt
-placed text Missing h = tt
-placed text BadName h = tt
-placed text Twice h = tt
-placed text BadValues h = tt
-placed text UnknownLabel h = tt
-placed text Limit h = tt
+placed text _ h = tt

@@ -48,13 +48,12 @@ value_pattern : (k : RequirementKey) (value : List ℕ) (a : RequirementTerm) �
     IsSomeAnd (pattern_of k value) IsDeepPattern → IsSomeAnd (pattern_of k value) IsEnginePattern
 unfolding requirement_value
 value_pattern key.Branch value a good deep = value_by (behind (codes "^") value) BranchMatches _ a good deep
-value_pattern key.Path value a good deep = value_by (behind (codes "^") value) PathMatches _ a good deep
-value_pattern key.File value a good deep = value_by (behind (codes "^") value) PathMatches _ a good deep
 value_pattern key.Is value a good deep = deep
 value_pattern key.Label value a good deep = deep
 value_pattern key.UploaderIn value a good deep = deep
 value_pattern key.OwnerIn value a good deep = deep
 value_pattern key.Has value a good deep = deep
+value_pattern _ value a good deep = value_by (behind (codes "^") value) PathMatches _ a good deep
 
 halves_pattern : (r : Reading (RequirementKey × List ℕ)) (a : RequirementTerm) → (r >>= (λ halves. requirement_value halves.0 halves.1)) ≡ Good a →
     IsSomeAnd (pattern_in r) IsDeepPattern → IsSomeAnd (pattern_in r) IsEnginePattern
@@ -162,15 +161,10 @@ early file f h = sym (ap (λ o. option_map_or is_early o true) h) ∙ one_of_fiv
 
 -- a first fault is the least
 pub least_first : (file : Data) (f : FileFault) → first_fault file ≡ Some f → IsLeast file f
-least_first file Toml h = h
-least_first file UnknownKey h = h
-least_first file Missing h = h
-least_first file BadName h = h
-least_first file Twice h = h
-least_first file BadValues h = h
 least_first file (Faulty e) h = absurd (let none : false ≡ true = early file (Faulty e) h in cc)
 least_first file UnknownLabel h = absurd (let none : false ≡ true = early file UnknownLabel h in cc)
 least_first file Limit h = absurd (let none : false ≡ true = early file Limit h in cc)
+least_first file _ h = h
 
 with_read : (Is : List ℕ → Expr → Type 0) (o : Option (List ℕ)) (e : Option Expr) (rest : List (List ℕ)) → IfThere Is o e → AllRead Is rest → AllRead Is (with_text o rest)
 with_read Is None None rest is all = all
@@ -323,12 +317,7 @@ least_both : (file : Data) (f : FileView Expr) (x : FileFault) → IsFaultless f
 least_both file f (Faulty e) good least = file_both (spelled file) f e good.0.1 least.1
 least_both file f UnknownLabel good least = not_both _ _ (unknown_alike (spelled file) least.0 f least.1.1 good.0.1) least.2 good.1
 least_both file f Limit good least = not_both _ _ refl least.3 good.2
-least_both file f Toml good least = no_first _ _ good.0.0 least
-least_both file f UnknownKey good least = no_first _ _ good.0.0 least
-least_both file f Missing good least = no_first _ _ good.0.0 least
-least_both file f BadName good least = no_first _ _ good.0.0 least
-least_both file f Twice good least = no_first _ _ good.0.0 least
-least_both file f BadValues good least = no_first _ _ good.0.0 least
+least_both file f _ good least = no_first _ _ good.0.0 least
 
 least_of : (text : List ℕ) (ms : Members) (x : FileFault) → nat_lt most_bytes (length text) ≡ false → parse_document text ≡ Some ms → IsFileFault text x → IsLeast (table ms) x
 least_of text ms x short parsed refused =
@@ -402,12 +391,7 @@ verdict : (file : Data) (x : FileFault) → IsLeast file x → Verdict file x
 verdict file (Faulty e) least = Stopped e refl least.0 least.1
 verdict file UnknownLabel least = Unknown least.0 refl least.1 least.2
 verdict file Limit least = Past least.0 refl least.1 least.2
-verdict file Toml least = Early least
-verdict file UnknownKey least = Early least
-verdict file Missing least = Early least
-verdict file BadName least = Early least
-verdict file Twice least = Early least
-verdict file BadValues least = Early least
+verdict file _ least = Early least
 
 module _ (file : Data) where
   abbrev Deep : Type 0

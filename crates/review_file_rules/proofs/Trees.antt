@@ -213,19 +213,14 @@ mutual
 
 -- a term of a copy condition
 copy_alike : (f : VoteFacts) (other : GroupList) (t : CopyTerm) → SameInAll f.groups other (copy_group t) → copy_holds f t ≡ copy_holds (record f { groups = other }) t
-copy_alike f other (copy.Value asked) same = refl
-copy_alike f other (copy.Kind asked) same = refl
 copy_alike f other (copy.ApproverIn group) same = same.0 f.voter
 copy_alike f other (copy.UploaderIn group) same = same.0 f.uploader
-copy_alike f other copy.UnchangedFiles same = refl
+copy_alike f other _ same = refl
 
 -- whether an account is among those whose votes count
 counted_alike : (f : ChangeFacts) (other : GroupList) (v : Voters) → SameInAll f.groups other (voters_group v) → (vote : ℕ × ℤ) → is_voter f v vote.0 ≡ is_voter (record f { groups = other }) v vote.0
-counted_alike f other voters.Everyone same vote = refl
-counted_alike f other voters.NonUploader same vote = refl
-counted_alike f other voters.Owner same vote = refl
-counted_alike f other (voters.Account asked) same vote = refl
 counted_alike f other (voters.Group group) same vote = same.0 vote.0
+counted_alike f other _ same vote = refl
 
 -- as many pass where each passes alike
 as_many : {X : Type 0} (p q : X → Bool) (xs : List X) → ((x : X) → p x ≡ q x) → count_by p xs ≡ count_by q xs
@@ -238,16 +233,10 @@ label_alike f other t same =
 
 -- a term of a submit requirement
 requirement_alike : (f : ChangeFacts) (other : GroupList) (t : RequirementTerm) → SameInAll f.groups other (requirement_group t) → requirement_holds f t ≡ requirement_holds (record f { groups = other }) t
-requirement_alike f other (requirement.Always b) same = refl
 requirement_alike f other (requirement.Label t) same = label_alike f other t same
 requirement_alike f other (requirement.UploaderIn group) same = same.0 f.uploader
 requirement_alike f other (requirement.OwnerIn group) same = same.0 f.owner
-requirement_alike f other (requirement.Branch name) same = refl
-requirement_alike f other (requirement.BranchMatches re) same = refl
-requirement_alike f other (requirement.Path path) same = refl
-requirement_alike f other (requirement.PathMatches re) same = refl
-requirement_alike f other (requirement.File name) same = refl
-requirement_alike f other requirement.Unresolved same = refl
+requirement_alike f other _ same = refl
 
 pub vote_alike : (e : Expr) (f : VoteFacts) (other : GroupList) → SameInAll f.groups other (groups_in e) → holds_for (facts.Vote f) e ≡ holds_for (facts.Vote (record f { groups = other })) e
 vote_alike (expr.Requirement e) f other same = refl

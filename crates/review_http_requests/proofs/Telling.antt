@@ -122,11 +122,10 @@ pub called : (a b : Option (List ℕ)) (bytes slice : List ℕ) (ended : Bool) (
 called a b bytes slice ended d g e c = record { bytes = bytes; ended = ended; gave = g; told = subst (λ (x : List ℕ). CallsFor x ended (Ok d)) e c }
 
 judged : (a b : Option (List ℕ)) (bytes : List ℕ) (ended : Bool) (f : RequestFault) → Gave a b bytes ended → Judges bytes ended (Err f) → WasTold a b (Err f)
-judged a b bytes ended Empty g j = record { bytes = bytes; ended = ended; gave = g; told = j }
-judged a b bytes ended (Http f) g j = record { bytes = bytes; ended = ended; gave = g; told = j }
 judged a b bytes ended Read g j = absurd j
 judged a b bytes ended Reads g j = absurd j
 judged a b bytes ended Memory g j = record { bytes = bytes; ended = ended; gave = g; told = tt }
+judged a b bytes ended _ g j = record { bytes = bytes; ended = ended; gave = g; told = j }
 
 -- so is a fault
 pub faulted : (a b : Option (List ℕ)) (bytes slice : List ℕ) (ended : Bool) (f : RequestFault) → Gave a b bytes ended → slice ≡ bytes → Judges slice ended (Err f) → WasTold a b (Err f)
@@ -191,9 +190,8 @@ told_whole None b r w = tt
 told_whole (Some input) b (Ok d) w = whole input w.bytes b w.ended (Ok d) w.gave w.told
 told_whole (Some input) b (Err Empty) w = none_left input w.bytes b w.ended w.gave w.told.0 w.told.1
 told_whole (Some input) b (Err (Http f)) w = whole input w.bytes b w.ended (Err f) w.gave w.told
-told_whole (Some input) b (Err Read) w = tt
 told_whole (Some input) b (Err Reads) w = as_long input w.bytes b w.ended w.gave w.told.1
-told_whole (Some input) b (Err Memory) w = tt
+told_whole (Some input) b _ w = tt
 
 -- at most one of so many reads gave no byte
 pub read_once : (a b : Option (List ℕ)) (bytes : List ℕ) (ended : Bool) (old new k : ℕ) → Gave a b bytes ended → k ≤ length bytes + 1 → new ≤ old + k → IfSome a (λ input. new ≤ old + length input + 1)
@@ -265,9 +263,8 @@ judged_head bytes h a ended (Ok (Whole d)) s e f = follows bytes h (Ok a) ended 
 judged_head bytes h a ended (Ok (Wants n)) s e f = waits bytes h a n ended f.0 s e f.1 f.2
 judged_head bytes h a ended (Err request.Empty) s e f = absurd f
 judged_head bytes h a ended (Err (request.Http g)) s e f = follows bytes h (Ok a) ended (Err g) s e f
-judged_head bytes h a ended (Err request.Read) s e f = f
-judged_head bytes h a ended (Err request.Reads) s e f = f
 judged_head bytes h a ended (Err request.Memory) s e f = tt
+judged_head bytes h a ended _ s e f = f
 
 pub judged_refused : (bytes : List ℕ) (ended : Bool) (e : Refused) → HeadIs (front bytes) (Err e) → Judges bytes ended (Err (request_fault e))
 judged_refused bytes ended (refused.Http f) h = judged_fault bytes ended f h

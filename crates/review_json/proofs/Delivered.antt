@@ -20,9 +20,9 @@ use Rattle.review_json_routes.specs.Reviews.{message_in, has_refused, said}
 use Rattle.review_json_routes.specs.Roles.{account_named_at, role_in}
 use Rattle.review_json_routes.specs.Texts.{text_of, value_spelled, if_object, body_spelled}
 use Rattle.review_json_routes.specs.{Votes.labels_in, declared.route.ChangeRoute.ChangeRoute}
-use Rattle.review_json_routes.specs.declared.route.ChangeRoute.TheVariants.{Upload, Review, AddReviewer, RemoveReviewer, SetWip, SetReady, Abandon, Restore, AddAttention, RemoveAttention}
+use Rattle.review_json_routes.specs.declared.route.ChangeRoute.TheVariants.{Upload, Review, AddReviewer, AddAttention, RemoveAttention}
 use Rattle.review_json_routes.specs.declared.route.Route.{Route}
-use Rattle.review_json_routes.specs.declared.route.Route.TheVariants.{CreateAccount, PutGroup, PutProject, RecordBase, CreateChange, OnChange, Submit, CloseEpoch, Branch, AskChange}
+use Rattle.review_json_routes.specs.declared.route.Route.TheVariants.{CreateAccount, PutGroup, PutProject, RecordBase, CreateChange, OnChange, CloseEpoch}
 use Rattle.review_json.specs.Laws.{asked_comments, made_comments, delivered_comments, CommentsOfBodiesGoByPlace, CommentsGoByPlace}
 use Rattle.review_json.specs.Line.{body_in, command_in_line, write_in, read_in, delivery_in, delivery_spelled}
 use Rattle.review_json.specs.Routes.{route_named}
@@ -125,9 +125,8 @@ pub read_in_order : (text : List ℕ) → IfSome (read text) IsInOrder
 read_in_order text = then_any IsInOrder of_json json_in_order (option_and_then (λ p. json.if_last p.0 p.1) (json.value max_depth (tokens text)))
 
 found_in_order : (o : Ordering) (e : Data) (rest : Option Data) → IsInOrder e → IfSome rest IsInOrder → IfSome (match_ordering o rest (Some e) rest) IsInOrder
-found_in_order Less e rest p q = q
 found_in_order Equal e rest p q = p
-found_in_order Greater e rest p q = q
+found_in_order _ e rest p q = q
 
 member_in_order : (k : List ℕ) (ms : Members) → MembersInOrder ms → IfSome (get_member k ms) IsInOrder
 member_in_order k no_members h = tt
@@ -284,13 +283,9 @@ in_change_command Upload body h = map_any IsAskedByPlace _ (λ patch. tt) (new_p
 in_change_command (Review patch) body h =
     either_some IsAskedByPlace (has_refused body) None _ tt (map_some (λ r. GoByPlace r.comments) IsAskedByPlace _ (λ what p. p) (said patch body) (in_said patch body h))
 in_change_command AddReviewer body h = next_some IsAskedByPlace _ (λ account. next_some IsAskedByPlace _ (λ role. tt) (role_in body)) (account_named_at (codes "reviewer") body)
-in_change_command (RemoveReviewer account) body h = tt
-in_change_command SetWip body h = tt
-in_change_command SetReady body h = tt
-in_change_command Abandon body h = tt
-in_change_command Restore body h = tt
 in_change_command AddAttention body h = next_some IsAskedByPlace _ (λ account. next_some IsAskedByPlace _ (λ reason. tt) (name_at is_line (codes "reason") body)) (account_named_at (codes "user") body)
 in_change_command (RemoveAttention account) body h = map_any IsAskedByPlace _ (λ reason. tt) (name_at is_line (codes "reason") body)
+in_change_command _ body h = tt
 
 -- the comments of a command go by place
 abbrev IsByPlace : Command → Type 0
@@ -304,10 +299,8 @@ in_command (PutProject project) body h = map_any IsByPlace _ (λ file. tt) (text
 in_command (RecordBase project branch) body h = map_any IsByPlace _ (λ commit. tt) (name_at is_commit (codes "commit") body)
 in_command CreateChange body h = map_any IsByPlace _ (λ change. tt) (new_change body)
 in_command (OnChange change asked) body h = map_some IsAskedByPlace IsByPlace _ (λ what p. p) (change_command_in asked body) (in_change_command asked body h)
-in_command (Submit change) body h = tt
 in_command CloseEpoch body h = map_any IsByPlace _ (λ epoch. tt) (epoch_at (codes "epoch") body)
-in_command (Branch project branch) body h = tt
-in_command (AskChange change query) body h = tt
+in_command _ body h = tt
 
 in_object : (d : Data) → IsInOrder d → IfSome (if_object d) IsInOrder
 in_object d h = map_any IsInOrder (λ _. d) (λ ms. h) (as_object d)

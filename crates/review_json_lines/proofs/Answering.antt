@@ -96,8 +96,7 @@ pub record AreAnswered (lines : List (List ℕ)) (replies : List Reply) (complet
 
 with_asked-append : (a : Asked) (ds es : List Delivery) → with_asked a (ds ++ es) ≡ with_asked a ds ++ es
 with_asked-append Nothing ds es = refl
-with_asked-append Unreadable ds es = refl
-with_asked-append (Asks d) ds es = refl
+with_asked-append _ ds es = refl
 
 deliveries-append : (lines more : List (List ℕ)) → deliveries (lines ++ more) ≡ deliveries lines ++ deliveries more
 deliveries-append [] more = refl

@@ -8,10 +8,9 @@ use Rattle.review_table.specs.Rows.{row_edit_of, after_row_edit}
 use Rattle.review_words.specs.History.{Entry, entry_of, account_count, name_of, name_taken, is_account, is_admin, is_listed, listed_members, file_text, is_project, project_count, bases, base_count, least_open}
 use Rattle.review_words.specs.{Texts.IsPlaced, Texts.IsRefusalOf, declared.command.Command.Command}
 use Rattle.review_words.specs.declared.command.Command.TheVariants.{CreateAccount, PutGroup, PutProject, RecordBase, CreateChange, OnChange, Submit, CloseEpoch}
-use Rattle.review_words.specs.declared.faults.{ExprFault.ExprFault, FileFault.FileFault}
-use Rattle.review_words.specs.declared.faults.FileFault.TheVariants.{Toml, UnknownKey, Missing, BadName, Twice, BadValues, Expr, UnknownLabel, Limit as PastLimit}
+use Rattle.review_words.specs.declared.faults.{ExprFault.ExprFault, FileFault.FileFault, FileFault.TheVariants.Expr}
 use Rattle.review_words.specs.declared.reply.{Answer.TheVariants.Nothing, Refusal.Refusal}
-use Rattle.review_words.specs.declared.reply.Refusal.TheVariants.{UnknownCaller, NotAdmin, NoProject, NoBranch, NoChange, NoPatchSet, NoAccount, NoComment, NotAllowed, Closed, SameState, WorkInProgress, StalePatchSet, NoLabel, ValueOut, VoteRestricted, CommitKnown, UnknownParent, ChainOutdated, ChainAbandoned, ChainWip, ChainTooLong, RequirementUnsatisfied, NotEligible, NameTaken, BadFile, LabelNarrowed, Limit, NoParent, ParentFixed, ParentDepth, EpochAhead}
+use Rattle.review_words.specs.declared.reply.Refusal.TheVariants.{UnknownCaller, NotAdmin, NoProject, NoAccount, SameState, CommitKnown, RequirementUnsatisfied, NameTaken, BadFile, Limit, EpochAhead}
 use Rattle.review_words.specs.declared.reply.Reply.{Reply, TheVariants.Done, TheVariants.Refused}
 use Rattle.review_file_rules.specs.Reading.{named_parent}
 use Rattle.review_machine_rows.proofs.{Asked.all_asked, Joins.placed_more, Joins.place_is_free, Lined.there_is}
@@ -32,49 +31,13 @@ use Rattle.review_machine_rows.specs.declared.rows.Want.TheVariants as want
 -- ==== refusals and faults without numbers and names
 
 pub plain_refusal : (r : Refusal) → ((f : FileFault) → r ≡ BadFile f → ⊥) → ((change : ℕ) (requirement : List ℕ) → r ≡ RequirementUnsatisfied change requirement → ⊥) → IsRefusalOf r
-plain_refusal UnknownCaller file requirement = tt
-plain_refusal NotAdmin file requirement = tt
-plain_refusal NoProject file requirement = tt
-plain_refusal NoBranch file requirement = tt
-plain_refusal NoChange file requirement = tt
-plain_refusal NoPatchSet file requirement = tt
-plain_refusal NoAccount file requirement = tt
-plain_refusal NoComment file requirement = tt
-plain_refusal NotAllowed file requirement = tt
-plain_refusal Closed file requirement = tt
-plain_refusal SameState file requirement = tt
-plain_refusal WorkInProgress file requirement = tt
-plain_refusal StalePatchSet file requirement = tt
-plain_refusal NoLabel file requirement = tt
-plain_refusal ValueOut file requirement = tt
-plain_refusal VoteRestricted file requirement = tt
-plain_refusal CommitKnown file requirement = tt
-plain_refusal UnknownParent file requirement = tt
-plain_refusal ChainOutdated file requirement = tt
-plain_refusal ChainAbandoned file requirement = tt
-plain_refusal ChainWip file requirement = tt
-plain_refusal ChainTooLong file requirement = tt
 plain_refusal (RequirementUnsatisfied change name) file requirement = absurd (requirement change name refl)
-plain_refusal NotEligible file requirement = tt
-plain_refusal NameTaken file requirement = tt
 plain_refusal (BadFile fault) file requirement = absurd (file fault refl)
-plain_refusal LabelNarrowed file requirement = tt
-plain_refusal Limit file requirement = tt
-plain_refusal NoParent file requirement = tt
-plain_refusal ParentFixed file requirement = tt
-plain_refusal ParentDepth file requirement = tt
-plain_refusal EpochAhead file requirement = tt
+plain_refusal _ file requirement = tt
 
 pub plain_fault : (f : FileFault) → ((e : ExprFault) → f ≡ Expr e → ⊥) → IsPlaced f
-plain_fault Toml expr = tt
-plain_fault UnknownKey expr = tt
-plain_fault Missing expr = tt
-plain_fault BadName expr = tt
-plain_fault Twice expr = tt
-plain_fault BadValues expr = tt
 plain_fault (Expr e) expr = absurd (expr e refl)
-plain_fault UnknownLabel expr = tt
-plain_fault PastLimit expr = tt
+plain_fault _ expr = tt
 
 -- ==== what the loaded rows tell of the history, and what a command's reply and delta make of it
 
@@ -169,17 +132,12 @@ empty_changes delta e = record { answers = e.epoch; rows = rows; counts = counts
 pub refused_same : (reading : Reading) (h : List Entry) (caller epoch : ℕ) (id : List ℕ) (command : Command) (refusal : Refusal) (k : Key) →
     fact reading (entry_of caller epoch id command (Refused refusal) ∷ h) k ≡ fact reading h k
 refused_same reading h caller epoch id command refusal (AccountKey number) = refl
-refused_same reading h caller epoch id command refusal (MemberKey group account) = refl
-refused_same reading h caller epoch id command refusal (FileKey project) = refl
-refused_same reading h caller epoch id command refusal (BaseKey project branch place) = refl
-refused_same reading h caller epoch id command refusal (PartKey n part) = refl
-refused_same reading h caller epoch id command refusal (OddKey o) = refl
+refused_same reading h caller epoch id command refusal _ = refl
 
 pub refused_count : (h : List Entry) (caller epoch : ℕ) (id : List ℕ) (command : Command) (refusal : Refusal) (c : Count) →
     counted (entry_of caller epoch id command (Refused refusal) ∷ h) c ≡ counted h c
 refused_count h caller epoch id command refusal Projects = refl
-refused_count h caller epoch id command refusal (BasesOf project) = refl
-refused_count h caller epoch id command refusal ClosedEpochs = refl
+refused_count h caller epoch id command refusal _ = refl
 
 -- a refusal changes nothing
 pub refused_decided : {reading : Reading} (h : List Entry) (caller : ℕ) (command : Command) (delta : Delta) (refusal : Refusal) →

@@ -44,14 +44,7 @@ first_account n = grind (arith, nat_tests)
 named_step : (o : Option Command) (n c : ℕ) (before : Option (List ℕ)) → is_some before ≡ (nat_le 1 n && nat_le n c) →
     is_some (named o n (c + 1) before) ≡ (nat_le 1 n && nat_le n (counted o c))
 named_step (Some (CreateAccount name)) n c before e = some_cond (n == c + 1) name before ∙ (ap (λ b. (n == c + 1) || b) e ∙ one_more n c)
-named_step (Some (PutGroup group members)) n c before e = e
-named_step (Some (PutProject project file)) n c before e = e
-named_step (Some (RecordBase project branch commit)) n c before e = e
-named_step (Some (CloseEpoch epoch)) n c before e = e
-named_step (Some (CreateChange new)) n c before e = e
-named_step (Some (OnChange change command)) n c before e = e
-named_step (Some (Submit change)) n c before e = e
-named_step None n c before e = e
+named_step _ n c before e = e
 
 -- an account has a name
 pub named_account : (h : List Entry) (n : ℕ) → is_some (name_of h n) ≡ is_account h n
@@ -100,14 +93,7 @@ taken_step (Some (CreateAccount given)) n next name before was taken some =
     or_true : (b : Bool) → (b || true) ≡ true
     or_true true = refl
     or_true false = refl
-taken_step (Some (PutGroup group members)) n next name before was taken some = taken some
-taken_step (Some (PutProject project file)) n next name before was taken some = taken some
-taken_step (Some (RecordBase project branch commit)) n next name before was taken some = taken some
-taken_step (Some (CloseEpoch epoch)) n next name before was taken some = taken some
-taken_step (Some (CreateChange new)) n next name before was taken some = taken some
-taken_step (Some (OnChange change command)) n next name before was taken some = taken some
-taken_step (Some (Submit change)) n next name before was taken some = taken some
-taken_step None n next name before was taken some = taken some
+taken_step _ n next name before was taken some = taken some
 
 pub name_is_taken : (h : List Entry) (n : ℕ) (name : List ℕ) → name_of h n ≡ Some name → name_taken h name ≡ true
 name_is_taken [] n name some =
@@ -132,14 +118,7 @@ free_step (Some (CreateAccount given)) h name found taken =
     let r = found (sym (ap (λ b. b || name_taken h name) f) ∙ taken) in
     (r.0, ap (λ b. cond b (Some given) (name_of h r.0)) (next_unnamed h r.0 name r.1) ∙ r.1))
     (cases_Bool (bytes_eq given name))
-free_step (Some (PutGroup group members)) h name found taken = found taken
-free_step (Some (PutProject project file)) h name found taken = found taken
-free_step (Some (RecordBase project branch commit)) h name found taken = found taken
-free_step (Some (CloseEpoch epoch)) h name found taken = found taken
-free_step (Some (CreateChange new)) h name found taken = found taken
-free_step (Some (OnChange change command)) h name found taken = found taken
-free_step (Some (Submit change)) h name found taken = found taken
-free_step None h name found taken = found taken
+free_step _ h name found taken = found taken
 
 pub taken_name_is : (h : List Entry) (name : List ℕ) → name_taken h name ≡ true → (n : ℕ) × (name_of h n ≡ Some name)
 taken_name_is [] name taken = (1, ap Some ((bytes_eq-Decides admin_name name).0 taken))

@@ -177,19 +177,14 @@ put_at f c o false is = refl
 -- the rows of the history with a request on a change that is done
 pub request_turns : (reading : Reading) (h : List Entry) (caller n : ℕ) (request : ChangeCommand) (a : Answer) (c : Change) → change reading h n ≡ Some c → (k : Key) →
     fact reading (entry_of caller 0 [] (OnChange n request) (Done a) ∷ h) k ≡ fact_with reading h n (change_after_request (setting_of reading h c.project) request caller (length h + 1) c) k
-request_turns reading h caller n request a c told (AccountKey u) = refl
-request_turns reading h caller n request a c told (MemberKey g u) = refl
-request_turns reading h caller n request a c told (FileKey q) = refl
-request_turns reading h caller n request a c told (BaseKey q b u) = refl
 request_turns reading h caller n request a c told (PartKey k part) =
     ap (λ o. option_map APart (part_of o part))
     (put_at (λ x. change_after_request (setting_of reading h x.project) request caller (length h + 1) x) c (change reading h k) (n == k) (here reading h n k c told))
-request_turns reading h caller n request a c told (OddKey o) = refl
+request_turns reading h caller n request a c told _ = refl
 
 request_counts : (h : List Entry) (caller n : ℕ) (request : ChangeCommand) (a : Answer) (k : Count) → counted (entry_of caller 0 [] (OnChange n request) (Done a) ∷ h) k ≡ counted h k
 request_counts h caller n request a Projects = refl
-request_counts h caller n request a (BasesOf q) = refl
-request_counts h caller n request a ClosedEpochs = refl
+request_counts h caller n request a _ = refl
 
 -- a request that makes of a change what the history says is decided
 pub request_decided : (reading : Reading) (h : List Entry) (caller n : ℕ) (request : ChangeCommand) (a : Answer) (c : Change) (delta : Delta) → change reading h n ≡ Some c →

@@ -9,7 +9,7 @@ use Rattle.review_table.specs.Rows.{row_in, rows_of}
 use Rattle.review_words.specs.{History.Entry, History.is_account, History.is_admin, Texts.IsCommentNumber}
 use Rattle.review_words.specs.declared.changes.{Given.Given, NewPatch.NewPatch, Review.Review as ReviewOf}
 use Rattle.review_words.specs.declared.command.ChangeCommand.{ChangeCommand}
-use Rattle.review_words.specs.declared.command.ChangeCommand.TheVariants.{Review as ReviewCommand, Upload, Upload as UploadCommand, Review, AddReviewer, RemoveReviewer, SetWip, SetReady, Abandon, Restore, AddAttention, RemoveAttention}
+use Rattle.review_words.specs.declared.command.ChangeCommand.TheVariants.{Review as ReviewCommand, Upload, Upload as UploadCommand, AddReviewer, RemoveReviewer, SetWip, SetReady, Abandon, Restore, AddAttention, RemoveAttention}
 use Rattle.review_words.specs.declared.command.Command.TheVariants.{OnChange}
 use Rattle.review_words.specs.declared.reply.{Answer.TheVariants.Nothing, NotTaken.TheVariants.Damaged, Refusal.Refusal}
 use Rattle.review_words.specs.declared.reply.Refusal.TheVariants.{UnknownCaller, NoPatchSet, Closed, StalePatchSet, NoLabel, ValueOut, VoteRestricted, NotAllowed, CommitKnown, UnknownParent, Limit, NoComment, NoAccount, SameState, NotEligible}
@@ -18,7 +18,7 @@ use Rattle.review_expr_judging.specs.{Holds.copy_holds, Holds.holds, declared.fa
 use Rattle.review_expr.specs.{Exprs.holds_for, declared.expr.Expr.Expr}
 use Rattle.review_file_rules.specs.Named.{SameIn, SameInAll, copy_groups, copying_groups, groups_in}
 use Rattle.review_file_rules.specs.Rights.{grants_of, greatest_of, least_of}
-use Rattle.review_file_rules.specs.Trees.{ExprTree, file_trees, label_trees, OfCopy, OfRequirement, tree_of}
+use Rattle.review_file_rules.specs.Trees.{ExprTree, file_trees, label_trees, OfCopy, tree_of}
 use Rattle.review_file_rules.specs.{View.LabelView, declared.parts.Grant.Grant}
 use Rattle.review_core_rules.specs.Change.{Change, current, is_open, label_in, reviewed, Setting, condition_holds, copying, is_copied, vote_facts, said, after, after_plain, eligible}
 use Rattle.review_core_rules.specs.Sound.{fits, answer_stored}
@@ -209,15 +209,13 @@ groups_alike law f a b p caller c l u v (x ∷ xs) same =
 
 -- whether a tree holds for a vote, where it is that of a copy condition
 abbrev tree_holds : Option ExprTree → VoteFacts → Bool
-tree_holds None f = false
-tree_holds (Some (OfRequirement t)) f = false
 tree_holds (Some (OfCopy t)) f = holds (copy_holds f) t
+tree_holds _ f = false
 
 -- a copy condition holds where its tree does
 by_tree : (o : Option Expr) (f : VoteFacts) → condition_holds o f ≡ tree_holds (option_map tree_of o) f
-by_tree None f = refl
 by_tree (Some (expr.Requirement e)) f = refl
-by_tree (Some (expr.Copy e)) f = refl
+by_tree _ f = refl
 
 -- the facts of a vote, by the tree of its label
 abbrev tree_copies : Setting → NewPatch → ℕ → Change → ℕ → ℤ → LabelView ExprTree → Bool
@@ -331,8 +329,6 @@ named_told reading h caller n request effective rows account names l =
 checks_told : OneFile → (reading : Reading) (h : List Entry) (caller n : ℕ) (request : ChangeCommand) (effective : Option File) (rows : Rows) (c : Change) → change_in (known rows (want.Change n)) ≡ Some c →
     AreEnough reading h caller (OfCommand (OnChange n request)) effective rows → is_plain request ≡ true → lacks_file effective request ≡ false →
     first_refusal (request_checks reading h caller request c) ≡ first_refusal (plain_list effective rows caller request c)
-checks_told one reading h caller n (Upload p) effective rows c found l plain lacks = absurd (cc)
-checks_told one reading h caller n (Review r) effective rows c found l plain lacks = absurd (cc)
 checks_told one reading h caller n (AddReviewer account role) effective rows c found l plain lacks =
     let named = sym (named_told reading h caller n (AddReviewer account role) effective rows account refl l) in
     λ i. first_refusal ((named i, NoAccount) ∷ (not (has_role role (c.role account)), SameState) ∷ [])
@@ -366,6 +362,7 @@ checks_told one reading h caller n (AddAttention account reason) effective rows 
 checks_told one reading h caller n (RemoveAttention account reason) effective rows c found l plain lacks =
     let named = sym (named_told reading h caller n (RemoveAttention account reason) effective rows account refl l) in
     λ i. first_refusal ((named i, NoAccount) ∷ (is_open c.state, Closed) ∷ (is_some (c.attention account), SameState) ∷ [])
+checks_told one reading h caller n _ effective rows c found l plain lacks = absurd (cc)
 
 -- what refuses such a request is what rows tell
 pub plain_told : OneFile → (reading : Reading) (h : List Entry) (caller n : ℕ) (request : ChangeCommand) (effective : Option File) (rows : Rows) (c : Change) → is_account h caller ≡ true →
@@ -377,8 +374,6 @@ plain_told one reading h caller n request effective rows c account found l plain
 
 -- where no check refuses such a request, it fits
 pub plain_fits : (effective : Option File) (rows : Rows) (caller : ℕ) (request : ChangeCommand) (c : Change) → is_plain request ≡ true → first_refusal (plain_list effective rows caller request c) ≡ None → fits request c ≡ true
-plain_fits effective rows caller (Upload p) c plain passes = absurd (cc)
-plain_fits effective rows caller (Review r) c plain passes = absurd (cc)
 plain_fits effective rows caller (AddReviewer account role) c plain passes = refl
 plain_fits effective rows caller (RemoveReviewer account) c plain passes = refl
 plain_fits effective rows caller SetWip c plain passes = refl
@@ -387,6 +382,7 @@ plain_fits effective rows caller Abandon c plain passes = refl
 plain_fits effective rows caller Restore c plain passes = refl
 plain_fits effective rows caller (AddAttention account reason) c plain passes = (all_pass (call_list rows account c) passes).1.1.0
 plain_fits effective rows caller (RemoveAttention account reason) c plain passes = refl
+plain_fits effective rows caller _ c plain passes = absurd (cc)
 
 -- a request that is judged by a file is of a change whose project has one
 pub lacking_undecided : (caller n : ℕ) (request : ChangeCommand) (effective : Option File) (rows : Rows) (c : Change) → change_in (known rows (want.Change n)) ≡ Some c → lacks_file effective request ≡ true →
@@ -396,19 +392,10 @@ lacking_undecided caller n Abandon None rows c found lacks = λ reading h histor
     file_lacking reading h caller n Abandon rows c found refl (asked_by reading h caller n Abandon None rows c found l).0 history l
 lacking_undecided caller n Restore None rows c found lacks = λ reading h history l.
     file_lacking reading h caller n Restore rows c found refl (asked_by reading h caller n Restore None rows c found l).0 history l
-lacking_undecided caller n (Upload p) None rows c found lacks = absurd (cc)
-lacking_undecided caller n (Review r) None rows c found lacks = absurd (cc)
-lacking_undecided caller n (AddReviewer account role) None rows c found lacks = absurd (cc)
-lacking_undecided caller n (RemoveReviewer account) None rows c found lacks = absurd (cc)
-lacking_undecided caller n SetWip None rows c found lacks = absurd (cc)
-lacking_undecided caller n SetReady None rows c found lacks = absurd (cc)
-lacking_undecided caller n (AddAttention account reason) None rows c found lacks = absurd (cc)
-lacking_undecided caller n (RemoveAttention account reason) None rows c found lacks = absurd (cc)
+lacking_undecided caller n _ None rows c found lacks = absurd (cc)
 
 -- such a request copies no votes
 plain_after : (s : Setting) (request : ChangeCommand) (caller number : ℕ) (c : Change) → is_plain request ≡ true → after s request caller number c ≡ after_plain request caller number c
-plain_after s (Upload p) caller number c plain = absurd (cc)
-plain_after s (Review r) caller number c plain = absurd (cc)
 plain_after s (AddReviewer account role) caller number c plain = refl
 plain_after s (RemoveReviewer account) caller number c plain = refl
 plain_after s SetWip caller number c plain = refl
@@ -417,11 +404,10 @@ plain_after s Abandon caller number c plain = refl
 plain_after s Restore caller number c plain = refl
 plain_after s (AddAttention account reason) caller number c plain = refl
 plain_after s (RemoveAttention account reason) caller number c plain = refl
+plain_after s _ caller number c plain = absurd (cc)
 
 -- and is told nothing
 plain_outcome : (reading : Reading) (h : List Entry) (caller n : ℕ) (request : ChangeCommand) → is_plain request ≡ true → IsRequestOutcome reading h caller n request (Done Nothing)
-plain_outcome reading h caller n (Upload p) plain = absurd (cc)
-plain_outcome reading h caller n (Review r) plain = absurd (cc)
 plain_outcome reading h caller n (AddReviewer account role) plain = refl
 plain_outcome reading h caller n (RemoveReviewer account) plain = refl
 plain_outcome reading h caller n SetWip plain = refl
@@ -430,6 +416,7 @@ plain_outcome reading h caller n Abandon plain = refl
 plain_outcome reading h caller n Restore plain = refl
 plain_outcome reading h caller n (AddAttention account reason) plain = refl
 plain_outcome reading h caller n (RemoveAttention account reason) plain = refl
+plain_outcome reading h caller n _ plain = absurd (cc)
 
 -- such a request is decided
 pub plain_decided : (reading : Reading) (h : List Entry) (caller n : ℕ) (request : ChangeCommand) (rows : Rows) (c : Change) (delta : Delta) (reply : Reply) → is_plain request ≡ true →

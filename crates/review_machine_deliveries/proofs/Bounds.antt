@@ -8,10 +8,9 @@ use Rattle.review_file_document.specs.{Document.members_at, Limits.most_parts}
 use Rattle.review_words.specs.History.{Entry, accepted, if_done, account_count, counted, is_account}
 use Rattle.review_words.specs.declared.changes.{Given.Given, NewPatch.NewPatch, Review.Review as ReviewOf}
 use Rattle.review_words.specs.declared.command.{ChangeCommand.ChangeCommand, Command.Command}
-use Rattle.review_words.specs.declared.command.Command.TheVariants.{CreateAccount, PutGroup, PutProject, RecordBase, CloseEpoch, CreateChange, OnChange, Submit}
+use Rattle.review_words.specs.declared.command.Command.TheVariants.{CreateAccount, CreateChange, OnChange}
 use Rattle.review_words.specs.declared.reply.{Answer.Answer, Refusal.TheVariants.UnknownCaller, Reply.Reply}
-use Rattle.review_words.specs.declared.reply.Reply.TheVariants.{Done, Refused, IdentityReused, EpochClosed, NotTaken}
-use Rattle.review_expr.specs.declared.expr.Expr.{Expr}
+use Rattle.{review_words.specs.declared.reply.Reply.TheVariants.Done, review_expr.specs.declared.expr.Expr.Expr}
 use Rattle.review_file_rules.specs.Expressions.{EachTo, IsLabel}
 use Rattle.review_file_rules.specs.Inherited.{inherited_labels, put_by}
 use Rattle.review_file_rules.specs.{Spelled.label_in, Spelled.named, Spelled.spelled, View.FileView, View.LabelView}
@@ -116,15 +115,8 @@ more_accounts n m u grows is =
     and_from (nat_le 1 u) (nat_le u m) p.0 (le-leb u m (omega arith))
 
 accounts_stay : (o : Option Command) (n u : ℕ) → (nat_le 1 u && nat_le u n) ≡ true → (nat_le 1 u && nat_le u (counted o n)) ≡ true
-accounts_stay None n u is = is
 accounts_stay (Some (CreateAccount name)) n u is = more_accounts n (n + 1) u (omega arith) is
-accounts_stay (Some (PutGroup group members)) n u is = is
-accounts_stay (Some (PutProject project text)) n u is = is
-accounts_stay (Some (RecordBase project branch commit)) n u is = is
-accounts_stay (Some (CreateChange new)) n u is = is
-accounts_stay (Some (OnChange m command)) n u is = is
-accounts_stay (Some (Submit m)) n u is = is
-accounts_stay (Some (CloseEpoch epoch)) n u is = is
+accounts_stay _ n u is = is
 
 -- ---- votes
 
@@ -166,14 +158,8 @@ left_vote false v is = is
 voters_after : (h : List Entry) (s : Setting) (caller request : ℕ) (command : ChangeCommand) (c : Change) → is_account h caller ≡ true → HasVoters h c → HasVoters h (after s command caller request c)
 voters_after h s caller request (on.Upload patch) c account has n l u is = uploaded h s patch caller request c has n l u is
 voters_after h s caller request (on.Review review) c account has n l u is = was_reviewed h s caller request review c account has n l u is
-voters_after h s caller request (on.AddReviewer v role) c account has n l u is = has n l u is
 voters_after h s caller request (on.RemoveReviewer v) c account has n l u is = has n l u (left_vote ((current c == n) && (v == u)) (c.vote n l u) is)
-voters_after h s caller request on.SetWip c account has n l u is = has n l u is
-voters_after h s caller request on.SetReady c account has n l u is = has n l u is
-voters_after h s caller request on.Abandon c account has n l u is = has n l u is
-voters_after h s caller request on.Restore c account has n l u is = has n l u is
-voters_after h s caller request (on.AddAttention v reason) c account has n l u is = has n l u is
-voters_after h s caller request (on.RemoveAttention v reason) c account has n l u is = has n l u is
+voters_after h s caller request _ c account has n l u is = has n l u is
 
 -- what becomes of a change that a request names, or that is made
 by_choice : (Is : Change → Type 0) (b : Bool) (o : Option Change) (f : Change → Change) (c : Change) → ((x : Change) → o ≡ Some x → Is x) → ((x : Change) → Is x → Is (f x)) → cond b (option_map f o) o ≡ Some c → Is c
@@ -187,27 +173,19 @@ by_making Is false o new c before begins is = before c is
 
 voters_done : (reading : Reading) (h : List Entry) (caller n : ℕ) (c : Change) (command : Command) (a : Answer) → IsAnswerBy reading h caller command (Done a) →
     ((x : Change) → change reading h n ≡ Some x → HasVoters h x) → change_by reading h caller (Some command) n (change reading h n) ≡ Some c → HasVoters h c
-voters_done reading h caller n c (CreateAccount name) a answer before is = before c is
-voters_done reading h caller n c (PutGroup group members) a answer before is = before c is
-voters_done reading h caller n c (PutProject project text) a answer before is = before c is
-voters_done reading h caller n c (RecordBase project branch commit) a answer before is = before c is
-voters_done reading h caller n c (CloseEpoch epoch) a answer before is = before c is
 voters_done reading h caller n c (CreateChange new) a answer before is =
     by_making (HasVoters h) (change_count h + 1 == n) (change reading h n) (begun new caller (length h + 1)) c before (λ m l u none. absurd (cc)) is
 voters_done reading h caller n c (OnChange m command) a answer before is =
     let account = (all_pass ((is_account h caller, UnknownCaller) ∷ checks reading h caller (OnChange m command)) (done_passes reading h caller (OnChange m command) a answer)).0 in
     by_choice (HasVoters h) (m == n) (change reading h n) (λ x. after (setting_of reading h x.project) command caller (length h + 1) x) c before
     (λ x has. voters_after h (setting_of reading h x.project) caller (length h + 1) command x account has) is
-voters_done reading h caller n c (Submit m) a answer before is = before c is
+voters_done reading h caller n c _ a answer before is = before c is
 
 -- one entry more
 voters_step : (reading : Reading) (h : List Entry) (caller n : ℕ) (c : Change) (command : Command) (reply : Reply) → IsDoneBy reading h caller command reply →
     ((x : Change) → change reading h n ≡ Some x → HasVoters h x) → change_by reading h caller (if_done reply command) n (change reading h n) ≡ Some c → HasVoters h c
 voters_step reading h caller n c command (Done a) answer before is = voters_done reading h caller n c command a answer before is
-voters_step reading h caller n c command (Refused r) answer before is = before c is
-voters_step reading h caller n c command IdentityReused answer before is = before c is
-voters_step reading h caller n c command EpochClosed answer before is = before c is
-voters_step reading h caller n c command (NotTaken cause) answer before is = before c is
+voters_step reading h caller n c command _ answer before is = before c is
 
 -- whose votes a change of a history has
 pub have_voters : (reading : Reading) (h : List Entry) (n : ℕ) (c : Change) → Reads reading h → IsHistory h → change reading h n ≡ Some c → HasVoters h c
@@ -384,21 +362,12 @@ account_made reading h caller (CreateAccount name) a answer before =
     let all = (all_pass ((is_account h caller, UnknownCaller) ∷ checks reading h caller (CreateAccount name)) (done_passes reading h caller (CreateAccount name) a answer)).1 in
     let below : account_count h < 1000000 = ltb-true (account_count h) 1000000 all.1.1.0 in
     omega arith
-account_made reading h caller (PutGroup group members) a answer before = before
-account_made reading h caller (PutProject project text) a answer before = before
-account_made reading h caller (RecordBase project branch commit) a answer before = before
-account_made reading h caller (CloseEpoch epoch) a answer before = before
-account_made reading h caller (CreateChange new) a answer before = before
-account_made reading h caller (OnChange n command) a answer before = before
-account_made reading h caller (Submit n) a answer before = before
+account_made reading h caller _ a answer before = before
 
 account_by : (reading : Reading) (h : List Entry) (caller : ℕ) (command : Command) (reply : Reply) → IsDoneBy reading h caller command reply → account_count h ≤ 1000000 →
     counted (if_done reply command) (account_count h) ≤ 1000000
 account_by reading h caller command (Done a) answer before = account_made reading h caller command a answer before
-account_by reading h caller command (Refused r) answer before = before
-account_by reading h caller command IdentityReused answer before = before
-account_by reading h caller command EpochClosed answer before = before
-account_by reading h caller command (NotTaken cause) answer before = before
+account_by reading h caller command _ answer before = before
 
 -- a history has at most so many accounts
 accounts_bound : (reading : Reading) (h : List Entry) → Reads reading h → IsHistory h → account_count h ≤ 1000000

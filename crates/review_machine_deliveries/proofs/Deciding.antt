@@ -1,13 +1,11 @@
 -- What was decided of a command.
 use Rattle.std.proofs.Common.{◌≡◌, ◌⊎◌, inl, inr, ℕ, List, [], ◌∷◌, Option, Some, None, true, false, cond, refl, sym, ap, ◌∙◌, subst, is_some, ◌≤◌, ◌<◌, ◌+◌, length, arith, Result, Ok, Err, IfOk, IfErr, nat_lt}
 use Rattle.std.specs.{List.AllByRecursion, Option.option_map_or}
-use Rattle.review_words.specs.History.{Entry, is_project, IsFirst, if_done}
-use Rattle.review_words.specs.{Texts.IsStored, declared.command.Command.Command}
-use Rattle.review_words.specs.declared.command.Command.TheVariants.{CreateAccount, PutGroup, PutProject, RecordBase, CreateChange, OnChange, Submit, CloseEpoch}
+use Rattle.review_words.specs.{History.Entry, History.is_project, History.IsFirst, History.if_done, Texts.IsStored}
+use Rattle.review_words.specs.declared.command.Command.{Command, TheVariants.PutProject, TheVariants.CloseEpoch}
 use Rattle.review_words.specs.declared.{command.Delivery.TheVariants.Write, reply.NotTaken.NotTaken as Cause}
 use Rattle.review_words.specs.declared.reply.NotTaken.TheVariants.{Memory, Store, Damaged, Pattern, Full}
-use Rattle.review_words.specs.declared.reply.Reply.{Reply}
-use Rattle.review_words.specs.declared.reply.Reply.TheVariants.{Done, Refused, IdentityReused, EpochClosed, NotTaken}
+use Rattle.review_words.specs.declared.reply.Reply.{Reply, TheVariants.Done, TheVariants.NotTaken}
 use Rattle.review_file_rules.specs.Reading.{named_parent}
 use Rattle.review_machine_rows.proofs.Asked.{all_asked, line_asked, least_epoch_is, requests_are}
 use Rattle.review_machine_rows.proofs.{Lined.line_told, Lined.own_told, Lined.there_is, Readings.reading_of}
@@ -68,13 +66,7 @@ pub reads_pattern : (reading : Reading) (h : List Entry) → IsHistory h → (ca
     PutsPattern command ⊎ SomePattern (texts_above rows command) → ReadsPattern reading h command
 reads_pattern reading h history caller command file rows enough (inl puts) = inl puts
 reads_pattern reading h history caller (PutProject project text) file rows enough (inr some) = inr (put_reads reading h history caller file rows project text enough some)
-reads_pattern reading h history caller (CreateAccount name) file rows enough (inr some) = absurd some
-reads_pattern reading h history caller (PutGroup group members) file rows enough (inr some) = absurd some
-reads_pattern reading h history caller (RecordBase project branch commit) file rows enough (inr some) = absurd some
-reads_pattern reading h history caller (CreateChange new) file rows enough (inr some) = absurd some
-reads_pattern reading h history caller (OnChange n command) file rows enough (inr some) = absurd some
-reads_pattern reading h history caller (Submit n) file rows enough (inr some) = absurd some
-reads_pattern reading h history caller (CloseEpoch epoch) file rows enough (inr some) = absurd some
+reads_pattern reading h history caller _ file rows enough (inr some) = absurd some
 
 -- ==== what was decided of a command, or not, by what the tables tell
 
@@ -84,17 +76,8 @@ rises : (command : Command) (reply : Reply) (o : Option ℕ) (file : Option File
     is_above (new_least (if_done reply command)) (t.count ClosedEpochs) ≡ true
 rises (CloseEpoch least) (Done a) o file rows caller t agree left closes above =
     ap (λ n. nat_lt n least) (sym (least_epoch_is t file rows caller least agree left)) ∙ (ap (λ p. is_above p (number_of (known rows LeastEpoch))) (sym closes) ∙ above)
-rises (CreateAccount name) (Done a) o file rows caller t agree left closes above = refl
-rises (PutGroup group members) (Done a) o file rows caller t agree left closes above = refl
-rises (PutProject project text) (Done a) o file rows caller t agree left closes above = refl
-rises (RecordBase project branch new) (Done a) o file rows caller t agree left closes above = refl
-rises (CreateChange new) (Done a) o file rows caller t agree left closes above = refl
-rises (OnChange change on) (Done a) o file rows caller t agree left closes above = refl
-rises (Submit change) (Done a) o file rows caller t agree left closes above = refl
-rises command (Refused r) o file rows caller t agree left closes above = refl
-rises command IdentityReused o file rows caller t agree left closes above = refl
-rises command EpochClosed o file rows caller t agree left closes above = refl
-rises command (NotTaken cause) o file rows caller t agree left closes above = refl
+rises _ (Done a) o file rows caller t agree left closes above = refl
+rises command _ o file rows caller t agree left closes above = refl
 
 -- what rules decide by rows that are so in the tables
 decided_shown : (caller epoch : ℕ) (command : Command) (tables : Option Tables) (file : Option File) (rows : Rows) (d : Decided) → IsAllAsked caller (OfCommand command) file rows →
@@ -130,14 +113,12 @@ undecided_shown : (caller : ℕ) (command : Command) (tables : Option Tables) (f
     Shows tables (λ t. Agrees t rows) → IsUndecidedBy caller command file rows cause → WasUndecided command tables cause
 undecided_shown caller command tables file rows Memory asked found why = tt
 undecided_shown caller command tables file rows Store asked found why = absurd why
-undecided_shown caller command None file rows Damaged asked found why = absurd found
 undecided_shown caller command (Some t) file rows Damaged asked found why =
     λ h hist v. let r = reading_of h hist in why r.0 h hist (enough_shown r.0 h (Some t) caller (OfCommand command) file rows r.1 v found asked)
-undecided_shown caller command None file rows Pattern asked found why = absurd found
 undecided_shown caller command (Some t) file rows Pattern asked found why =
     λ reading h hist reads v. reads_pattern reading h hist caller command file rows (enough_shown reading h (Some t) caller (OfCommand command) file rows reads v found asked) why
-undecided_shown caller command None file rows Full asked found why = absurd found
 undecided_shown caller command (Some t) file rows Full asked found why = subst (λ n. most_requests ≤ n) (requests_are t file rows caller command found asked.0) why
+undecided_shown caller command None file rows _ asked found why = absurd found
 
 pub was_undecided : (caller : ℕ) (command : Command) (tables : Option Tables) (file : Option File) (rows : Rows) (r : Result Decided Cause) → IsAllAsked caller (OfCommand command) file rows →
     Shows tables (λ t. Agrees t rows) → IfErr r (IsUndecidedBy caller command file rows) → IfErr r (WasUndecided command tables)
@@ -146,20 +127,16 @@ was_undecided caller command tables file rows (Err cause) asked found why = unde
 
 -- nothing is decided where not all is gathered
 pub ungathered_undecided : (command : Command) (tables : Option Tables) (cause : Cause) → IsUngathered (OfCommand command) tables cause → WasUndecided command tables cause
-ungathered_undecided command tables Memory why = tt
-ungathered_undecided command tables Store why = tt
 ungathered_undecided command tables Damaged why = why
 ungathered_undecided command None Pattern why = absurd why
 ungathered_undecided command (Some t) Pattern why = λ reading h hist reads v. inr (why reading h reads v)
 ungathered_undecided command tables Full why = absurd why
+ungathered_undecided command tables _ why = tt
 
 -- where the tables stay, they are left
 left_alike : (cause : Cause) (old new : Option Tables) → new ≡ old → LeavesBy cause old new
-left_alike Memory old new same = same
 left_alike Store old new same = inl same
-left_alike Damaged old new same = same
-left_alike Pattern old new same = same
-left_alike Full old new same = same
+left_alike _ old new same = same
 
 pub leaves_alike : {X : Type 0} (r : Result X Cause) (old new : Option Tables) → new ≡ old → LeavesTables r old new
 leaves_alike (Ok x) old new same = same
@@ -168,11 +145,8 @@ leaves_alike (Err cause) old new same = left_alike cause old new same
 -- rules count no fault
 undecided_counts : (caller : ℕ) (command : Command) (file : Option File) (rows : Rows) (cause : Cause) (before after : ℕ) → IsUndecidedBy caller command file rows cause → after ≡ before →
     CountsReply (NotTaken cause) before after
-undecided_counts caller command file rows Memory before after why same = same
-undecided_counts caller command file rows Pattern before after why same = same
-undecided_counts caller command file rows Damaged before after why same = same
 undecided_counts caller command file rows Store before after why same = absurd why
-undecided_counts caller command file rows Full before after why same = same
+undecided_counts caller command file rows _ before after why same = same
 
 pub counts_none : (caller : ℕ) (command : Command) (file : Option File) (rows : Rows) (r : Result Decided Cause) (before after : ℕ) → IfErr r (IsUndecidedBy caller command file rows) → after ≡ before →
     CountsCause r before after
@@ -183,8 +157,6 @@ counts_none caller command file rows (Err cause) before after why same = undecid
 undecided_lawful : (h : List Entry) (caller epoch : ℕ) (id : List ℕ) (command : Command) (tables : Option Tables) (cause : Cause) (before after : ℕ) → IsHistory h → Views h tables →
     IsFirst h (record { caller = caller; epoch = epoch; id = id }) → WasUndecided command tables cause → CountsReply (NotTaken cause) before after →
     IsLawful h (Write caller epoch id command) cause before after
-undecided_lawful h caller epoch id command tables Memory before after hist v fresh why counted = counted
-undecided_lawful h caller epoch id command tables Store before after hist v fresh why counted = counted
 undecided_lawful h caller epoch id command None Damaged before after hist v fresh why counted = absurd why
 undecided_lawful h caller epoch id command (Some t) Damaged before after hist v fresh why counted = absurd (why h hist v)
 undecided_lawful h caller epoch id command None Pattern before after hist v fresh why counted = absurd why
@@ -196,6 +168,7 @@ undecided_lawful h caller epoch id command (Some t) Full before after hist v fre
     let most = history_length h hist in
     let least : most_requests ≤ t.requests = why in
     (fresh, omega arith, counted)
+undecided_lawful h caller epoch id command tables _ before after hist v fresh why counted = counted
 
 -- a command that was not decided
 pub undecided_served : (h : List Entry) (caller epoch : ℕ) (id : List ℕ) (command : Command) (cause : Cause) (old new : Shown) → IsHistory h → Views h old.tables →
@@ -208,12 +181,9 @@ undecided_served h caller epoch id command cause old new hist v fresh why left c
 pub undecided_keeps : (caller epoch : ℕ) (id : List ℕ) (command : Command) (cause : Cause) (old new : Option Tables) →
     Shows old (λ t. Answers t (record { caller = caller; epoch = epoch; id = id }) None) → WasUndecided command old cause → LeavesBy cause old new →
     KeepsUntaken (Write caller epoch id command) (NotTaken cause) old new
-undecided_keeps caller epoch id command Memory old new none why left = (tt, left)
-undecided_keeps caller epoch id command Store old new none why left = (tt, left)
-undecided_keeps caller epoch id command Damaged old new none why left = (tt, left)
-undecided_keeps caller epoch id command Pattern old new none why left = (tt, left)
 undecided_keeps caller epoch id command Full None new none why left = absurd none
 undecided_keeps caller epoch id command Full (Some t) new none why left = ((none, why), left)
+undecided_keeps caller epoch id command _ old new none why left = (tt, left)
 
 -- the request of a command that was decided has the number after those of the history
 pub next_number : (h : List Entry) (caller epoch : ℕ) (command : Command) (tables : Option Tables) (d : Decided) → IsHistory h → Views h tables → WasDecided caller epoch command tables d →

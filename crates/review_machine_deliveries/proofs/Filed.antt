@@ -12,7 +12,7 @@ use Rattle.review_machine_rows.proofs.{Lined.own_told, Lined.texts_told, Lined.t
 use Rattle.review_machine_rows.specs.Changes.{Reading, change, effective_of, texts_of}
 use Rattle.review_machine_rows.specs.Decisions.{HasPatternIn, IsUnread, SomePattern, judging_project, topic_project}
 use Rattle.review_machine_rows.specs.Files.{File}
-use Rattle.review_machine_rows.specs.Known.{Found, IsFound, known, IsKnown, Agrees, AreAdded, Number, Name, Holder, IsSo, Members, Text, Commits, AChange, Stands, Joins, part_of, change_in, file_in}
+use Rattle.review_machine_rows.specs.Known.{Found, IsFound, known, IsKnown, Agrees, AreAdded, AChange, part_of, change_in, file_in}
 use Rattle.review_machine_rows.specs.{Lines.most_depth, Lines.line_of, Lines.with_above, Rows.Tables, Rows.APart}
 use Rattle.review_machine_rows.specs.Shelf.{Shows, LeavesBy, cause_of, IsDamaged}
 use Rattle.review_machine_rows.specs.Steps.{HasComeTo, Topic, change_wants, file_wants, first_wants, left, line_steps, next, next_of, or_next, parent_of, unknown, unless_none, wants_in, OfCommand, OfQuery, HasFile, asks_file, line_wants, needs_file, own_in, known_parent, parent_or, project_for, project_of, texts_for, texts_in}
@@ -112,17 +112,8 @@ file_known (Some x) f is = refl
 
 -- a change that is found
 change_found : (o : Option Found) (c : Change) → change_in o ≡ Some c → o ≡ Some (AChange (Some c))
-change_found None c is = absurd (cc)
 change_found (Some (AChange found)) c is = ap (λ x. Some (AChange x)) is
-change_found (Some (Number n)) c is = absurd (cc)
-change_found (Some (Name n)) c is = absurd (cc)
-change_found (Some (Holder n)) c is = absurd (cc)
-change_found (Some (IsSo n)) c is = absurd (cc)
-change_found (Some (Members n)) c is = absurd (cc)
-change_found (Some (Text n)) c is = absurd (cc)
-change_found (Some (Commits n)) c is = absurd (cc)
-change_found (Some (Stands s)) c is = absurd (cc)
-change_found (Some (Joins js)) c is = absurd (cc)
+change_found _ c is = absurd (cc)
 
 -- the change that rows know is that of the history
 change_known : (reading : Reading) (h : List Entry) (rows : Rows) (n : ℕ) (c : Change) → Agrees (view reading h) rows → change_in (known rows (want.Change n)) ≡ Some c → change reading h n ≡ Some c
@@ -146,17 +137,14 @@ judged_by_change true reading h rows n project agree is =
 -- a project that is there is that by whose file the command is judged, where rows know it as such
 judged_by : (reading : Reading) (h : List Entry) (rows : Rows) (command : Command) (project : List ℕ) → Agrees (view reading h) rows → is_project h project ≡ true →
     project_of rows (OfCommand command) ≡ Some project → judging_project reading h command ≡ Some project
-judged_by reading h rows (CreateAccount name) project agree there is = absurd (cc)
-judged_by reading h rows (PutGroup group members) project agree there is = absurd (cc)
 judged_by reading h rows (PutProject given text) project agree there is =
     let same : given ≡ project = cc in
     let here : is_project h given ≡ true = ap (is_project h) same ∙ there in
     ap (λ b. cond b (Some given) (named_parent text)) here ∙ is
-judged_by reading h rows (RecordBase given branch commit) project agree there is = absurd (cc)
-judged_by reading h rows (CloseEpoch epoch) project agree there is = absurd (cc)
 judged_by reading h rows (CreateChange new) project agree there is = is
 judged_by reading h rows (OnChange n command) project agree there is = judged_by_change (needs_file command) reading h rows n project agree is
 judged_by reading h rows (Submit n) project agree there is = judged_by_change true reading h rows n project agree is
+judged_by reading h rows _ project agree there is = absurd (cc)
 
 -- and that by whose file a question is answered
 topic_judged : (reading : Reading) (h : List Entry) (rows : Rows) (topic : Topic) (project : List ℕ) → Agrees (view reading h) rows → is_project h project ≡ true →
@@ -244,16 +232,12 @@ change_stays true first rows n project stays is =
     ap (λ k. option_map (λ (c : Change). c.project) (change_in k)) (stays (want.Change n) there) ∙ is
 
 project_stays : (first rows : Rows) (topic : Topic) (project : List ℕ) → StaysKnown first rows → project_of first topic ≡ Some project → project_of rows topic ≡ Some project
-project_stays first rows (OfQuery (asked.Branch given branch)) project stays is = absurd (cc)
 project_stays first rows (OfQuery (asked.OnChange n query)) project stays is = change_stays (asks_file query) first rows n project stays is
-project_stays first rows (OfCommand (CreateAccount name)) project stays is = absurd (cc)
-project_stays first rows (OfCommand (PutGroup group members)) project stays is = absurd (cc)
 project_stays first rows (OfCommand (PutProject given text)) project stays is = is
-project_stays first rows (OfCommand (RecordBase given branch commit)) project stays is = absurd (cc)
-project_stays first rows (OfCommand (CloseEpoch epoch)) project stays is = absurd (cc)
 project_stays first rows (OfCommand (CreateChange new)) project stays is = is
 project_stays first rows (OfCommand (OnChange n command)) project stays is = change_stays (needs_file command) first rows n project stays is
 project_stays first rows (OfCommand (Submit n)) project stays is = change_stays true first rows n project stays is
+project_stays first rows _ project stays is = absurd (cc)
 
 -- fewer steps ask for less
 fewer : (rows : Rows) (n : ℕ) (p : Option (List ℕ)) → AllByRecursion (λ s. unknown rows s ≡ []) (line_steps rows (suc n) p) → AllByRecursion (λ s. unknown rows s ≡ []) (line_steps rows n p)

@@ -7,7 +7,7 @@ use Rattle.review_words.specs.declared.command.{ChangeCommand.ChangeCommand, Com
 use Rattle.review_words.specs.declared.command.Command.TheVariants.{CreateAccount, PutGroup, PutProject, RecordBase, CloseEpoch, CreateChange, OnChange, Submit}
 use Rattle.review_words.specs.declared.command.Delivery.{Delivery, TheVariants.Write, TheVariants.Read}
 use Rattle.review_words.specs.declared.reply.{Answer.TheVariants.Nothing, NotTaken.NotTaken as Cause}
-use Rattle.review_words.specs.declared.reply.NotTaken.TheVariants.{Memory, Store, Damaged, Pattern, Full}
+use Rattle.review_words.specs.declared.reply.NotTaken.TheVariants.{Memory, Store, Pattern, Full}
 use Rattle.review_words.specs.declared.reply.{Refusal.Refusal, Reply.Reply}
 use Rattle.review_words.specs.declared.reply.Reply.TheVariants.{Done, Refused, IdentityReused, EpochClosed, NotTaken}
 use Rattle.{review_core_rules.specs.Change.Change, review_machine_rows.proofs.Asked.requests_are}
@@ -125,16 +125,12 @@ submit_given reading h n (Some c) reply (inl bad) = subst IsDoneOrRefused (sym b
 submit_given reading h n (Some c) reply (inr good) = subst IsDoneOrRefused (sym good.reply_is) (checked_given good.chain good.found)
 
 outcome_given : (reading : Reading) (h : List Entry) (caller : ℕ) (command : Command) (reply : Reply) → IsOutcome reading h caller command reply → IsDoneOrRefused reply
-outcome_given reading h caller (CreateAccount name) reply is = subst IsDoneOrRefused (sym is) tt
-outcome_given reading h caller (PutGroup group members) reply is = subst IsDoneOrRefused (sym is) tt
-outcome_given reading h caller (RecordBase project branch commit) reply is = subst IsDoneOrRefused (sym is) tt
-outcome_given reading h caller (CloseEpoch epoch) reply is = subst IsDoneOrRefused (sym is) tt
 outcome_given reading h caller (PutProject project text) reply (inl f) = subst IsDoneOrRefused (sym f.2) tt
 outcome_given reading h caller (PutProject project text) reply (inr f) =
     subst IsDoneOrRefused (sym f.2) (file_given (first_refusal (file_checks reading h project f.0)))
-outcome_given reading h caller (CreateChange new) reply is = subst IsDoneOrRefused (sym is) tt
 outcome_given reading h caller (OnChange n command) reply is = request_given reading h caller n command reply is
 outcome_given reading h caller (Submit n) reply is = submit_given reading h n (change reading h n) reply is
+outcome_given reading h caller _ reply is = subst IsDoneOrRefused (sym is) tt
 
 pub answer_given_by : (reading : Reading) (h : List Entry) (caller : ℕ) (command : Command) (reply : Reply) → IsAnswerBy reading h caller command reply → IsDoneOrRefused reply
 answer_given_by reading h caller command reply is = at (refused_by reading h caller command) is
@@ -166,11 +162,10 @@ answer_given h caller epoch command reply history is =
 
 -- a reply that is stored is done or refused
 pub stored_given : (reply : Reply) → IsStored reply → IsDoneOrRefused reply
-stored_given (Done a) stored = tt
-stored_given (Refused r) stored = tt
 stored_given IdentityReused stored = absurd stored
 stored_given EpochClosed stored = absurd stored
 stored_given (NotTaken cause) stored = absurd stored
+stored_given _ stored = tt
 
 -- the latest version may follow each history
 pub latest_follows : (h : List Entry) → IsHistory h → may_follow h latest ≡ true
@@ -340,7 +335,6 @@ requests_told h tables caller command file rows history v found asked =
 
 -- a history has all that an answer rests on
 pub rests_on : (h : List Entry) (topic : Topic) → IsHistory h → RestsOn topic h
-rests_on h (OfQuery (asked.Branch project branch)) hist = hist
 rests_on h (OfQuery (asked.OnChange change query)) hist = tt
 rests_on h (OfCommand (CreateAccount name)) hist = tt
 rests_on h (OfCommand (PutGroup group members)) hist = tt
@@ -349,16 +343,13 @@ rests_on h (OfCommand (RecordBase project branch commit)) hist = tt
 rests_on h (OfCommand (CloseEpoch epoch)) hist = tt
 rests_on h (OfCommand (CreateChange new)) hist = tt
 rests_on h (OfCommand (OnChange change command)) hist = tt
-rests_on h (OfCommand (Submit change)) hist = hist
+rests_on h _ hist = hist
 
 -- ==== what a delivery does to any tables whatever
 
 kept : (reply : Reply) (delta : Delta) (t u : Tables) → HasNoEffect reply delta → ((k : Key) → u.row k ≡ after delta k (t.row k)) → ((c : Count) → u.count c ≡ count_after delta t.row c (t.count c)) → KeepsRows reply t u
 kept (Refused r) delta t u none rows counts = (λ k. rows k ∙ none.rows k (t.row k), λ c. counts c ∙ none.counts t.row c (t.count c))
-kept (Done a) delta t u none rows counts = tt
-kept IdentityReused delta t u none rows counts = tt
-kept EpochClosed delta t u none rows counts = tt
-kept (NotTaken cause) delta t u none rows counts = tt
+kept _ delta t u none rows counts = tt
 
 -- what is stored is not given up at once
 own_stays : (i j : Identity) (b : Bool) (x y : Option Stored) → (is_same i j ≡ true → b ≡ false) → cond b None (cond (is_same i j) x y) ≡ cond (is_same i j) x (cond b None y)
@@ -420,11 +411,10 @@ stored_shown i command d row old mid new stays none by c is = inr (both old new 
 
 pub stores_once : (caller epoch : ℕ) (id : List ℕ) (command : Command) (reply : Reply) (old new : Option Tables) →
     IsFoundOrStored (record { caller = caller; epoch = epoch; id = id }) command reply old new → StoresOnce (Write caller epoch id command) reply old new
-stores_once caller epoch id command (Done a) old new x = x
-stores_once caller epoch id command (Refused r) old new x = x
 stores_once caller epoch id command IdentityReused old new x = tt
 stores_once caller epoch id command EpochClosed old new x = tt
 stores_once caller epoch id command (NotTaken c) old new x = tt
+stores_once caller epoch id command _ old new x = x
 
 -- the row that an identity has
 has_stored : (i : Identity) (row : AnswerRow) (IsSo : AnswerRow → Type 0) (tables : Option Tables) → Shows tables (λ t. Answers t i (Some (Answered row))) → IsSo row → HasStored i tables IsSo
@@ -442,11 +432,10 @@ repeated caller epoch id command (Err cause) row old new there told stays = tt
 
 -- a reply that is stored is no clash
 pub decided_keeps : (caller epoch : ℕ) (id : List ℕ) (command : Command) (reply : Reply) (old new : Option Tables) → IsStored reply → KeepsUntaken (Write caller epoch id command) reply old new
-decided_keeps caller epoch id command (Done a) old new s = tt
-decided_keeps caller epoch id command (Refused r) old new s = tt
 decided_keeps caller epoch id command IdentityReused old new s = absurd s
 decided_keeps caller epoch id command EpochClosed old new s = absurd s
 decided_keeps caller epoch id command (NotTaken c) old new s = absurd s
+decided_keeps caller epoch id command _ old new s = tt
 
 pub repeat_keeps : (caller epoch : ℕ) (id : List ℕ) (command : Command) (result : Result Reply Cause) (row : AnswerRow) (old new : Option Tables) →
     Shows old (λ t. Answers t (record { caller = caller; epoch = epoch; id = id }) (Some (Answered row))) → IsToldAgain row (content_text command) result → new ≡ old →
@@ -455,29 +444,25 @@ repeat_keeps caller epoch id command (Ok reply) row old new there (inl told) sta
 repeat_keeps caller epoch id command (Ok reply) row old new there (inr told) stays =
     subst (λ r. KeepsUntaken (Write caller epoch id command) r old new) (sym told.1)
     (has_stored (record { caller = caller; epoch = epoch; id = id }) row (HasOtherContent command) old there told.0, stays)
-repeat_keeps caller epoch id command (Err Memory) row old new there told stays = (tt, stays)
-repeat_keeps caller epoch id command (Err Damaged) row old new there told stays = (tt, stays)
 repeat_keeps caller epoch id command (Err Store) row old new there told stays = absurd told
 repeat_keeps caller epoch id command (Err Pattern) row old new there told stays = absurd told
 repeat_keeps caller epoch id command (Err Full) row old new there told stays = absurd told
+repeat_keeps caller epoch id command _ row old new there told stays = (tt, stays)
 
 -- what a fault of the shelf leaves
 pub fault_keeps : (caller epoch : ℕ) (id : List ℕ) (command : Command) (f : ShelfFault) (old new : Option Tables) → LeavesBy (cause_of f) old new →
     KeepsUntaken (Write caller epoch id command) (NotTaken (cause_of f)) old new
 fault_keeps caller epoch id command fault.Memory old new stays = (tt, stays)
-fault_keeps caller epoch id command fault.Store old new stays = (tt, stays)
-fault_keeps caller epoch id command fault.Damaged old new stays = (tt, stays)
+fault_keeps caller epoch id command _ old new stays = (tt, stays)
 
 -- an answer that is stored says nothing of faults
 pub stored_counts : (reply : Reply) (before after : ℕ) → IsStored reply → after ≡ before → CountsReply reply before after
-stored_counts (Done a) before after s same = same
-stored_counts (Refused r) before after s same = same
 stored_counts IdentityReused before after s same = absurd s
 stored_counts EpochClosed before after s same = absurd s
 stored_counts (NotTaken c) before after s same = absurd s
+stored_counts _ before after s same = same
 
 -- a fault that a call of the shelf counted
 pub fault_counts : (f : ShelfFault) (before after : ℕ) → IsCounted f before after → CountsReply (NotTaken (cause_of f)) before after
 fault_counts fault.Memory before after c = c
-fault_counts fault.Store before after c = c
-fault_counts fault.Damaged before after c = c
+fault_counts _ before after c = c

@@ -87,14 +87,10 @@ one_request reading h caller n command r s a b =
 
 one_outcome : OneStanding → (reading : Reading) (h : List Entry) (caller : ℕ) (command : Command) (r s : Reply) → IsOutcome reading h caller command r → IsOutcome reading h caller command s →
     (r ≡ s) ⊎ (IsFree command × (RefusesBadValue r ⊎ RefusesBadValue s))
-one_outcome one reading h caller (CreateAccount name) r s a b = inl (a ∙ sym b)
-one_outcome one reading h caller (PutGroup group members) r s a b = inl (a ∙ sym b)
-one_outcome one reading h caller (RecordBase project branch commit) r s a b = inl (a ∙ sym b)
-one_outcome one reading h caller (CloseEpoch epoch) r s a b = inl (a ∙ sym b)
 one_outcome one reading h caller (PutProject project text) r s a b = one_put reading h caller project text r s a b
-one_outcome one reading h caller (CreateChange new) r s a b = inl (a ∙ sym b)
 one_outcome one reading h caller (OnChange n command) r s a b = inl (one_request reading h caller n command r s a b)
 one_outcome one reading h caller (Submit n) r s a b = inl (one_submit one reading h n (change reading h n) r s a b)
+one_outcome one reading h caller _ r s a b = inl (a ∙ sym b)
 
 -- one answer, by one reading
 pub one_answer_by : OneStanding → (reading : Reading) (h : List Entry) (caller : ℕ) (command : Command) (r s : Reply) → IsAnswerBy reading h caller command r → IsAnswerBy reading h caller command s →

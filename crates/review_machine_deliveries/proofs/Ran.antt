@@ -4,8 +4,7 @@ use Rattle.std.proofs.Math.Seq.{take-append-add}
 use Rattle.std.proofs.lemmas.{Bool.cases_Bool, Bool.cases_lt, List.get_or_append_left, List.take-append-le}
 use Rattle.review_words.specs.History.{Entry, Identity, stored, is_same, entry_of, is_closed}
 use Rattle.review_words.specs.declared.command.Delivery.{Delivery, TheVariants.Write, TheVariants.Read}
-use Rattle.review_words.specs.declared.reply.Reply.{Reply}
-use Rattle.review_words.specs.declared.reply.Reply.TheVariants.{Done, Refused, IdentityReused, EpochClosed, NotTaken}
+use Rattle.review_words.specs.declared.reply.Reply.{Reply, TheVariants.Done}
 use Rattle.review_machine_rows.{proofs.Readings.open_before, specs.Answer.IsHistory, specs.Rows.Tables}
 use Rattle.review_machine_rows.specs.Shelf.{Shown, Views, StaysOrShuts}
 use Rattle.review_core_standing.proofs.Made.{accounts_counted}
@@ -21,10 +20,7 @@ use Rattle.review_machine_deliveries.specs.Restart.{CountsFollowIn, RunIsSession
 
 with_write-append : (r : Reply) (e : Entry) (es fs : List Entry) → with_write r e (es ++ fs) ≡ with_write r e es ++ fs
 with_write-append (Done a) e es fs = refl
-with_write-append (Refused a) e es fs = refl
-with_write-append IdentityReused e es fs = refl
-with_write-append EpochClosed e es fs = refl
-with_write-append (NotTaken c) e es fs = refl
+with_write-append _ e es fs = refl
 
 pub with_taken-append : (d : Delivery) (r : Reply) (es fs : List Entry) → with_taken d r (es ++ fs) ≡ with_taken d r es ++ fs
 with_taken-append (Write caller epoch id command) r es fs = with_write-append r (entry_of caller epoch id command r) es fs

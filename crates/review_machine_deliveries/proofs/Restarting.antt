@@ -4,8 +4,7 @@ use Rattle.std.proofs.lemmas.Bool.{cases_Bool}
 use Rattle.review_words.specs.History.{Entry, Identity, IsFirst, stored, is_same, entry_of, is_closed}
 use Rattle.review_words.specs.declared.command.{Command.Command, Delivery.Delivery}
 use Rattle.review_words.specs.declared.command.Delivery.TheVariants.{Write, Read}
-use Rattle.review_words.specs.declared.reply.Reply.{Reply}
-use Rattle.review_words.specs.declared.reply.Reply.TheVariants.{Done, Refused, IdentityReused, EpochClosed, NotTaken}
+use Rattle.review_words.specs.declared.reply.Reply.{Reply, TheVariants.EpochClosed, TheVariants.NotTaken}
 use Rattle.review_machine_rows.proofs.Readings.{closed_stays, open_before, reading_of}
 use Rattle.review_machine_rows.specs.Answer.{IsHistory, IsAnswer}
 use Rattle.review_machine_rows.specs.{Decisions.IsDoneOrRefused, Rows.Tables, View.IsView}
@@ -282,11 +281,8 @@ given_at (s ∷ rs) zero r all below = all.0
 given_at (s ∷ rs) (suc i) r all below = given_at rs i r all.1 (omega arith)
 
 given_told : (h : List Entry) (d : Delivery) (r : Reply) (before after : ℕ) → WasTaken r → IsRight h d r before after → IsTold h d r
-given_told h d (Done a) before after given right = right.0
-given_told h d (Refused x) before after given right = right.0
-given_told h d IdentityReused before after given right = right.0
-given_told h d EpochClosed before after given right = right.0
 given_told h d (NotTaken c) before after given right = absurd given
+given_told h d _ before after given right = right.0
 
 each_told : (h : List Entry) (ds : List Delivery) (rs : List Reply) (counts : List (ℕ × ℕ)) → AreRight h ds rs counts → WereTaken rs → EachTold h ds rs
 each_told h ds rs counts right given i d r below =
@@ -359,11 +355,8 @@ quiet_length [] = refl
 quiet_length (d ∷ ds) = let rest = quiet_length ds in omega (arith, rest)
 
 quiet_right : (h : List Entry) (d : Delivery) (r : Reply) → WasTaken r → IsTold h d r → IsRight h d r 0 0
-quiet_right h d (Done a) given told = (told, refl)
-quiet_right h d (Refused x) given told = (told, refl)
-quiet_right h d IdentityReused given told = (told, refl)
-quiet_right h d EpochClosed given told = (told, refl)
 quiet_right h d (NotTaken c) given told = absurd given
+quiet_right h d _ given told = (told, refl)
 
 right_each : (h : List Entry) (ds : List Delivery) (rs : List Reply) → AreTold h ds rs → (i : ℕ) (d : Delivery) (r : Reply) (c : ℕ × ℕ) → i < length ds →
     IsRight (history_after h (take i ds) (take i rs)) (get_or ds i d) (get_or rs i r) (get_or (quiet ds) i c).0 (get_or (quiet ds) i c).1
@@ -411,11 +404,8 @@ pub restart_is_run : RestartIsRun
 restart_is_run h0 h ds1 ds2 rs1 counts hist is right given = runs_as h0 h ds1 ds2 rs1 hist is (told_right h0 ds1 rs1 counts right given)
 
 answer_taken : (r : Reply) → IsDoneOrRefused r → WasTaken r
-answer_taken (Done a) is = tt
-answer_taken (Refused x) is = tt
-answer_taken IdentityReused is = tt
-answer_taken EpochClosed is = tt
 answer_taken (NotTaken c) is = absurd is
+answer_taken _ is = tt
 
 -- the whole effect of a first arrival is that of some answer to it
 effect_told : (g : List Entry) (d : Delivery) (t : Tables) → HasEffect g d t →

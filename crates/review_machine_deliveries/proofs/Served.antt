@@ -2,8 +2,8 @@
 use Rattle.std.proofs.Common.{◌≡◌, ℕ, ◌+◌, ◌<◌, List, [], ◌∷◌, ◌++◌, length, Option, Some, None, Bool, true, false, cond, ◌||◌, refl, sym, ap, ◌∙◌, subst, inl, inr, ⊎_elim, ◌⊎◌, Result, Ok, Err, is_some, IfOk, IfErr, nat_lt, IsErr, IsErrAnd, bytes_eq, MatchOption}
 use Rattle.std.proofs.lemmas.{Bool.cases_Bool, Slice.Eq.bytes_eq-Decides}
 use Rattle.review_words.specs.History.{Entry, Identity, IsFirst, stored, entry_of, is_closed, accepted}
-use Rattle.review_words.specs.{Texts.content_text, Texts.reply_text, Texts.IsStored, declared.command.Command.Command}
-use Rattle.review_words.specs.declared.command.Command.TheVariants.{CreateAccount, PutGroup, PutProject, RecordBase, CloseEpoch, CreateChange, OnChange, Submit}
+use Rattle.review_words.specs.Texts.{content_text, reply_text, IsStored}
+use Rattle.review_words.specs.declared.command.Command.{Command, TheVariants.PutProject}
 use Rattle.review_words.specs.declared.command.Delivery.{Delivery, TheVariants.Write, TheVariants.Read}
 use Rattle.review_words.specs.declared.{command.Query.Query, reply.Answer.Answer, reply.NotTaken.NotTaken as Cause}
 use Rattle.review_words.specs.declared.reply.NotTaken.TheVariants.{Memory, Store, Damaged, Pattern, Full}
@@ -37,9 +37,7 @@ new_history h caller epoch id command (Done a) s new =
 new_history h caller epoch id command (Refused a) s new =
     let e : Entry = entry_of caller epoch id command (Refused a) in
     ap (λ o. hist h (cond (is_some o || false) [] (e ∷ []))) new.0 ∙ ap (λ b. cond b h (e ∷ h)) new.1
-new_history h caller epoch id command IdentityReused s new = absurd s
-new_history h caller epoch id command EpochClosed s new = absurd s
-new_history h caller epoch id command (NotTaken c) s new = absurd s
+new_history h caller epoch id command _ s new = absurd s
 
 pub same_history : (h : List Entry) (caller epoch : ℕ) (id : List ℕ) (command : Command) (reply : Reply) (old : Entry) → stored h (record { caller = caller; epoch = epoch; id = id }) ≡ Some old →
     history_after h (Write caller epoch id command ∷ []) (reply ∷ []) ≡ h
@@ -66,12 +64,9 @@ closed_history h caller epoch id command EpochClosed closed = let e : Entry = en
 closed_history h caller epoch id command (NotTaken c) closed = refl
 
 right_from_told : (h : List Entry) (d : Delivery) (reply : Reply) (before after : ℕ) → IsDoneOrRefused reply ⊎ (reply ≡ IdentityReused) → IsTold h d reply → after ≡ before → IsRight h d reply before after
-right_from_told h d (Done a) before after s told same = (told, same)
-right_from_told h d (Refused a) before after s told same = (told, same)
-right_from_told h d IdentityReused before after s told same = (told, same)
-right_from_told h d EpochClosed before after s told same = (told, same)
 right_from_told h d (NotTaken c) before after s told same =
     ⊎_elim (λ (x : IsDoneOrRefused (NotTaken c)). absurd x) (λ (x : NotTaken c ≡ IdentityReused). absurd (cc)) s
+right_from_told h d _ before after s told same = (told, same)
 
 -- what only reads leaves the history's tables
 pub views_stay : (h : List Entry) (old new : Option Tables) → new ≡ old → Views h old → Views h new
@@ -79,10 +74,9 @@ views_stay h old new e v = subst (Views h) (sym e) v
 
 -- what a fault of the shelf leaves views the history as before
 views_left : (h : List Entry) (f : ShelfFault) (old new : Option Tables) → LeavesBy (cause_of f) old new → Views h old → Views h new
-views_left h fault.Memory old new e v = subst (Views h) (sym e) v
-views_left h fault.Damaged old new e v = subst (Views h) (sym e) v
 views_left h fault.Store old new (inl e) v = subst (Views h) (sym e) v
 views_left h fault.Store old new (inr e) v = subst (Views h) (sym e) tt
+views_left h _ old new e v = subst (Views h) (sym e) v
 
 -- a call that only read, before the rest
 pub after_read : (h : List Entry) (d : Delivery) (reply : Reply) (old mid new : Shown) → mid.faults ≡ old.faults → AddsNoStop old mid → IsServed h d reply mid new → IsServed h d reply old new
@@ -114,10 +108,9 @@ read_served h caller query reply old new hist v given told stays quiet adds = re
 -- a fault of the shelf is a lawful cause
 lawful_fault : (h : List Entry) (d : Delivery) (f : ShelfFault) (tables : Option Tables) (before after : ℕ) → IsHistory h → Views h tables →
     Blames f tables → IsCounted f before after → IsLawful h d (cause_of f) before after
-lawful_fault h d fault.Memory tables before after hist v blame counted = counted
-lawful_fault h d fault.Store tables before after hist v blame counted = counted
 lawful_fault h d fault.Damaged None before after hist v blame counted = absurd blame
 lawful_fault h d fault.Damaged (Some t) before after hist v blame counted = absurd (blame h hist v)
+lawful_fault h d _ tables before after hist v blame counted = counted
 
 -- a call of the shelf that failed
 pub fault_served : (h : List Entry) (d : Delivery) (f : ShelfFault) (old new : Shown) → IsHistory h → Views h old.tables →
@@ -269,11 +262,10 @@ same_command a b =
     (cases_Bool (bytes_eq (content_text a) (content_text b)))
 
 told_of : (h : List Entry) (d : Delivery) (reply : Reply) (before after : ℕ) → IsDoneOrRefused reply → IsRight h d reply before after → IsTold h d reply
-told_of h d (Done a) before after s right = right.0
-told_of h d (Refused r) before after s right = right.0
 told_of h d IdentityReused before after s right = absurd s
 told_of h d EpochClosed before after s right = absurd s
 told_of h d (NotTaken c) before after s right = absurd s
+told_of h d _ before after s right = right.0
 
 -- what is stored under the identity of a command that was told a stored reply is that command, with that reply
 repeat_is : (e : Entry) (command : Command) (reply : Reply) → IsDoneOrRefused reply → IsToldOfStored e command reply → (e.command ≡ command) × (e.reply ≡ reply)
@@ -333,22 +325,18 @@ stopped h d reply old new form history s since = (leaves_since h d reply old new
 -- it is lawful not to answer a question for which not all was gathered
 unread_lawful : (h : List Entry) (caller : ℕ) (query : Query) (tables : Option Tables) (cause : Cause) (before after : ℕ) → IsHistory h → Views h tables →
     IsUngathered (OfQuery query) tables cause → CountsReply (NotTaken cause) before after → IsLawful h (Read caller query) cause before after
-unread_lawful h caller query tables Memory before after hist v u counted = counted
-unread_lawful h caller query tables Store before after hist v u counted = counted
 unread_lawful h caller query None Damaged before after hist v u counted = absurd u
 unread_lawful h caller query (Some t) Damaged before after hist v u counted = absurd (u h hist v)
 unread_lawful h caller query None Pattern before after hist v u counted = absurd u
 unread_lawful h caller query (Some t) Pattern before after hist v u counted = ((λ reading reads. u reading h reads v), counted)
 unread_lawful h caller query tables Full before after hist v u counted = absurd u
+unread_lawful h caller query tables _ before after hist v u counted = counted
 
 -- what is left where not all was gathered views the history as before
 pub views_left_by : (h : List Entry) (cause : Cause) (old new : Option Tables) → LeavesBy cause old new → Views h old → Views h new
-views_left_by h Memory old new e v = subst (Views h) (sym e) v
-views_left_by h Damaged old new e v = subst (Views h) (sym e) v
-views_left_by h Pattern old new e v = subst (Views h) (sym e) v
-views_left_by h Full old new e v = subst (Views h) (sym e) v
 views_left_by h Store old new (inl e) v = subst (Views h) (sym e) v
 views_left_by h Store old new (inr e) v = subst (Views h) (sym e) tt
+views_left_by h _ old new e v = subst (Views h) (sym e) v
 
 -- a question for which not all was gathered
 pub unread_served : (h : List Entry) (caller : ℕ) (query : Query) (cause : Cause) (old new : Shown) → IsHistory h → Views h old.tables →
@@ -363,9 +351,7 @@ unshown_lawful : (h : List Entry) (caller : ℕ) (query : Query) (file : Option 
     ((reading : Reading) → Reads reading h → AreEnough reading h caller (OfQuery query) file rows) → IsUnshown caller query file rows cause → after ≡ before → IsLawful h (Read caller query) cause before after
 unshown_lawful h caller query file rows Memory before after hist l u same = same
 unshown_lawful h caller query file rows Damaged before after hist l u same = let r = reading_of h hist in absurd (u r.0 h hist (l r.0 r.1))
-unshown_lawful h caller query file rows Pattern before after hist l u same = absurd u
-unshown_lawful h caller query file rows Store before after hist l u same = absurd u
-unshown_lawful h caller query file rows Full before after hist l u same = absurd u
+unshown_lawful h caller query file rows _ before after hist l u same = absurd u
 
 -- a question, answered or not
 pub shown_served : (h : List Entry) (caller : ℕ) (query : Query) (r : Result Reply Cause) (file : Option File) (rows : Rows) (old new : Shown) → IsHistory h → Views h old.tables →
@@ -380,37 +366,28 @@ shown_served h caller query (Err e) file rows old new hist v found asked answere
 
 pub shown_counts : (caller : ℕ) (query : Query) (file : Option File) (rows : Rows) (r : Result Reply Cause) (before after : ℕ) → IfOk r IsDoneOrRefused → IfErr r (IsUnshown caller query file rows) → after ≡ before →
     CountsReply (reply_of r) before after
-shown_counts caller query file rows (Ok (Done a)) before after answered cause same = same
-shown_counts caller query file rows (Ok (Refused x)) before after answered cause same = same
 shown_counts caller query file rows (Ok IdentityReused) before after answered cause same = absurd answered
 shown_counts caller query file rows (Ok EpochClosed) before after answered cause same = absurd answered
 shown_counts caller query file rows (Ok (NotTaken c)) before after answered cause same = absurd answered
-shown_counts caller query file rows (Err Memory) before after answered cause same = same
-shown_counts caller query file rows (Err Damaged) before after answered cause same = same
 shown_counts caller query file rows (Err Pattern) before after answered cause same = absurd cause
 shown_counts caller query file rows (Err Store) before after answered cause same = absurd cause
 shown_counts caller query file rows (Err Full) before after answered cause same = absurd cause
+shown_counts caller query file rows _ before after answered cause same = same
 
 pub shown_keeps : (caller : ℕ) (query : Query) (file : Option File) (rows : Rows) (r : Result Reply Cause) (old new : Option Tables) → IfOk r IsDoneOrRefused → IfErr r (IsUnshown caller query file rows) → new ≡ old →
     KeepsUntaken (Read caller query) (reply_of r) old new
-shown_keeps caller query file rows (Ok (Done a)) old new answered cause same = same
-shown_keeps caller query file rows (Ok (Refused x)) old new answered cause same = same
 shown_keeps caller query file rows (Ok IdentityReused) old new answered cause same = absurd answered
 shown_keeps caller query file rows (Ok EpochClosed) old new answered cause same = absurd answered
 shown_keeps caller query file rows (Ok (NotTaken c)) old new answered cause same = absurd answered
 shown_keeps caller query file rows (Err Store) old new answered cause same = absurd cause
-shown_keeps caller query file rows (Err Memory) old new answered cause same = same
-shown_keeps caller query file rows (Err Damaged) old new answered cause same = same
 shown_keeps caller query file rows (Err Pattern) old new answered cause same = absurd cause
 shown_keeps caller query file rows (Err Full) old new answered cause same = absurd cause
+shown_keeps caller query file rows _ old new answered cause same = same
 
 -- a question for which not all was gathered
 pub unread_keeps : (caller : ℕ) (query : Query) (cause : Cause) (old new : Option Tables) → IsUngathered (OfQuery query) old cause → LeavesBy cause old new → KeepsUntaken (Read caller query) (NotTaken cause) old new
-unread_keeps caller query Memory old new why left = left
-unread_keeps caller query Store old new why left = left
-unread_keeps caller query Damaged old new why left = left
-unread_keeps caller query Pattern old new why left = left
 unread_keeps caller query Full old new why left = absurd why
+unread_keeps caller query _ old new why left = left
 
 -- ==== a list of answered entries, however long, has a reading
 
@@ -433,15 +410,8 @@ read_there reading text file is t right =
     (cases_Bool (bytes_eq t text))
 
 right_there : (reading : Reading) (text : List ℕ) (file : File) → IsRead text file → (o : Option Command) → IsReadRight reading o → IsReadRight (with_file reading text file) o
-right_there reading text file is None right = tt
-right_there reading text file is (Some (CreateAccount name)) right = tt
-right_there reading text file is (Some (PutGroup group members)) right = tt
 right_there reading text file is (Some (PutProject project t)) right = read_there reading text file is t right
-right_there reading text file is (Some (RecordBase project branch commit)) right = tt
-right_there reading text file is (Some (CloseEpoch epoch)) right = tt
-right_there reading text file is (Some (CreateChange new)) right = tt
-right_there reading text file is (Some (OnChange n command)) right = tt
-right_there reading text file is (Some (Submit n)) right = tt
+right_there reading text file is _ right = tt
 
 reads_there : (reading : Reading) (text : List ℕ) (file : File) → IsRead text file → (h : List Entry) → Reads reading h → Reads (with_file reading text file) h
 reads_there reading text file is [] reads = tt
@@ -460,20 +430,11 @@ put_file reading h caller project text a answer =
 
 -- one answered entry more
 read_more : (h : List Entry) (caller epoch : ℕ) (id : List ℕ) (command : Command) (reply : Reply) (reading : Reading) → Reads reading h → IsDoneBy reading h caller command reply → HasReading (entry_of caller epoch id command reply ∷ h)
-read_more h caller epoch id command (Refused r) reading reads answer = (reading, (tt, reads))
-read_more h caller epoch id command IdentityReused reading reads answer = (reading, (tt, reads))
-read_more h caller epoch id command EpochClosed reading reads answer = (reading, (tt, reads))
-read_more h caller epoch id command (NotTaken cause) reading reads answer = (reading, (tt, reads))
-read_more h caller epoch id (CreateAccount name) (Done a) reading reads answer = (reading, (tt, reads))
-read_more h caller epoch id (PutGroup group members) (Done a) reading reads answer = (reading, (tt, reads))
 read_more h caller epoch id (PutProject project text) (Done a) reading reads answer =
     let put = put_file reading h caller project text a answer in
     (with_file reading text put.0, (read_here reading text put.0 put.1, reads_there reading text put.0 put.1 h reads))
-read_more h caller epoch id (RecordBase project branch commit) (Done a) reading reads answer = (reading, (tt, reads))
-read_more h caller epoch id (CloseEpoch least) (Done a) reading reads answer = (reading, (tt, reads))
-read_more h caller epoch id (CreateChange new) (Done a) reading reads answer = (reading, (tt, reads))
-read_more h caller epoch id (OnChange n command) (Done a) reading reads answer = (reading, (tt, reads))
-read_more h caller epoch id (Submit n) (Done a) reading reads answer = (reading, (tt, reads))
+read_more h caller epoch id _ (Done a) reading reads answer = (reading, (tt, reads))
+read_more h caller epoch id command _ reading reads answer = (reading, (tt, reads))
 
 -- the list after a delivery that was told what is right
 pub read_on : (h : List Entry) (d : Delivery) (reply : Reply) → HasReading h → IsTold h d reply → HasReading (history_after h (d ∷ []) (reply ∷ []))

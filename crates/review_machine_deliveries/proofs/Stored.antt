@@ -15,7 +15,7 @@ use Rattle.review_words.specs.declared.reply.Reply.{Reply, TheVariants.Done, The
 use Rattle.review_words.specs.declared.shown.ShownRequirement.{ShownRequirement}
 use Rattle.review_chain.{proofs.Walking.chain_ready, specs.Walks.IsReady}
 use Rattle.review_chain.specs.declared.{links.Link.Link, walks.ChainFault.ChainFault}
-use Rattle.review_chain.specs.declared.walks.ChainFault.TheVariants.{Outdated, Abandoned, Wip, TooLong, Broken, Unknown, Memory as FaultMemory}
+use Rattle.review_chain.specs.declared.walks.ChainFault.TheVariants.{Outdated, Abandoned, Wip, TooLong}
 use Rattle.{review_expr_judging.specs.declared.facts.ChangeFacts.ChangeFacts, review_expr.specs.declared.expr.Expr.Expr}
 use Rattle.review_file_rules.{proofs.Placed.placed, specs.View.RequirementView}
 use Rattle.review_core_rules.specs.Change.{Change, Setting, current, said}
@@ -59,14 +59,13 @@ request_stored : (reading : Reading) (h : List Entry) (caller : ℕ) (command : 
 request_stored reading h caller (on.Upload patch) c = (tt, (tt, (tt, (tt, (tt, tt)))))
 request_stored reading h caller (on.Review review) c =
     (tt, both_stored (given_checks (setting_of reading h c.project) caller review c review.labels) _ (given_stored (setting_of reading h c.project) caller review c review.labels) (tt, (tt, tt)))
-request_stored reading h caller (on.AddReviewer account role) c = (tt, (tt, tt))
 request_stored reading h caller (on.RemoveReviewer account) c = (tt, (tt, (tt, (tt, tt))))
 request_stored reading h caller on.SetWip c = (tt, (tt, (tt, tt)))
 request_stored reading h caller on.SetReady c = (tt, (tt, (tt, tt)))
-request_stored reading h caller on.Abandon c = (tt, (tt, tt))
 request_stored reading h caller on.Restore c = (tt, (tt, (tt, tt)))
 request_stored reading h caller (on.AddAttention account reason) c = (tt, (tt, (tt, (tt, tt))))
 request_stored reading h caller (on.RemoveAttention account reason) c = (tt, (tt, (tt, tt)))
+request_stored reading h caller _ c = (tt, (tt, tt))
 
 -- the refusals of what is asked of a change, where there is one
 on_stored : (each : Change → List (Bool × Refusal)) → ((c : Change) → AllStored (each c)) → (o : Option Change) → AllStored (of_change each o)
@@ -74,14 +73,13 @@ on_stored each all None = (tt, tt)
 on_stored each all (Some c) = all c
 
 checks_stored : (reading : Reading) (h : List Entry) (caller : ℕ) (command : Command) → AllStored (checks reading h caller command)
-checks_stored reading h caller (CreateAccount name) = (tt, (tt, (tt, tt)))
-checks_stored reading h caller (PutGroup group members) = (tt, (tt, (tt, tt)))
 checks_stored reading h caller (PutProject project text) = (tt, tt)
 checks_stored reading h caller (RecordBase project branch commit) = (tt, (tt, (tt, (tt, tt))))
 checks_stored reading h caller (CloseEpoch epoch) = (tt, tt)
 checks_stored reading h caller (CreateChange new) = (tt, (tt, (tt, (tt, (tt, (tt, tt))))))
 checks_stored reading h caller (Submit n) = on_stored (submit_checks reading h caller) (λ c. (tt, (tt, (tt, tt)))) (change reading h n)
 checks_stored reading h caller (OnChange n command) = on_stored (request_checks reading h caller command) (request_stored reading h caller command) (change reading h n)
+checks_stored reading h caller _ = (tt, (tt, (tt, tt)))
 
 refused_or_stored : (o : Option Refusal) → ((r : Refusal) → o ≡ Some r → IsStored (Refused r)) → IsStored (refused_or o Nothing)
 refused_or_stored None stored = tt
@@ -119,14 +117,7 @@ told_stored : (reading : Reading) (h : List Entry) (caller n : ℕ) (command : C
     AllByRecursion Passes (of_change (request_checks reading h caller command) (change reading h n)) → IsRequestOutcome reading h caller n command reply → IsStored reply
 told_stored reading h caller n (on.Upload patch) reply history reads all is = uploaded_stored reading h caller n patch (change reading h n) reply history reads refl all is
 told_stored reading h caller n (on.Review review) reply history reads all is = subst IsStored (sym is) (reviewed_stored reading h caller review (change reading h n) all)
-told_stored reading h caller n (on.AddReviewer account role) reply history reads all is = subst IsStored (sym is) tt
-told_stored reading h caller n (on.RemoveReviewer account) reply history reads all is = subst IsStored (sym is) tt
-told_stored reading h caller n on.SetWip reply history reads all is = subst IsStored (sym is) tt
-told_stored reading h caller n on.SetReady reply history reads all is = subst IsStored (sym is) tt
-told_stored reading h caller n on.Abandon reply history reads all is = subst IsStored (sym is) tt
-told_stored reading h caller n on.Restore reply history reads all is = subst IsStored (sym is) tt
-told_stored reading h caller n (on.AddAttention account reason) reply history reads all is = subst IsStored (sym is) tt
-told_stored reading h caller n (on.RemoveAttention account reason) reply history reads all is = subst IsStored (sym is) tt
+told_stored reading h caller n _ reply history reads all is = subst IsStored (sym is) tt
 
 -- ---- what a submit is told
 
@@ -135,9 +126,7 @@ bad_stored Outdated r is = let e : ChainOutdated ≡ r = cc in subst (λ x. IsSt
 bad_stored Abandoned r is = let e : ChainAbandoned ≡ r = cc in subst (λ x. IsStored (Refused x)) e tt
 bad_stored Wip r is = let e : ChainWip ≡ r = cc in subst (λ x. IsStored (Refused x)) e tt
 bad_stored TooLong r is = let e : ChainTooLong ≡ r = cc in subst (λ x. IsStored (Refused x)) e tt
-bad_stored Broken r is = absurd (let f : None ≡ Some r = is in cc)
-bad_stored Unknown r is = absurd (let f : None ≡ Some r = is in cc)
-bad_stored FaultMemory r is = absurd (let f : None ≡ Some r = is in cc)
+bad_stored _ r is = absurd (let f : None ≡ Some r = is in cc)
 
 -- a link is that of a change that is there
 linked_number : (reading : Reading) (h : List Entry) (project branch : List ℕ) (n : ℕ) (o : Option Change) (l : Link) → IsHistory h → Reads reading h → change reading h n ≡ o → link_for project branch o ≡ Some l → IsChangeNumber n
@@ -207,9 +196,6 @@ outcome_stored : (reading : Reading) (h : List Entry) (caller : ℕ) (command : 
     IsOutcome reading h caller command reply → IsStored reply
 outcome_stored reading h caller (CreateAccount name) reply history reads all is =
     let below = ltb-true (account_count h) 1000000 all.1.1.0 in subst IsStored (sym is) (omega arith, omega arith)
-outcome_stored reading h caller (PutGroup group members) reply history reads all is = subst IsStored (sym is) tt
-outcome_stored reading h caller (RecordBase project branch commit) reply history reads all is = subst IsStored (sym is) tt
-outcome_stored reading h caller (CloseEpoch epoch) reply history reads all is = subst IsStored (sym is) tt
 outcome_stored reading h caller (PutProject project text) reply history reads all (inl f) = subst IsStored (sym f.2) (placed text f.0 f.1)
 outcome_stored reading h caller (PutProject project text) reply history reads all (inr f) =
     subst IsStored (sym f.2)
@@ -219,6 +205,7 @@ outcome_stored reading h caller (CreateChange new) reply history reads all is =
     subst IsStored (sym is) (omega arith, omega arith, omega arith, omega arith)
 outcome_stored reading h caller (Submit n) reply history reads all is = submit_stored reading h n (change reading h n) reply history reads refl is
 outcome_stored reading h caller (OnChange n command) reply history reads all is = told_stored reading h caller n command reply history reads all is
+outcome_stored reading h caller _ reply history reads all is = subst IsStored (sym is) tt
 
 answer_stored_by : (reading : Reading) (h : List Entry) (caller : ℕ) (command : Command) (reply : Reply) → IsHistory h → Reads reading h → IsAnswerBy reading h caller command reply → IsStored reply
 answer_stored_by reading h caller command reply history reads is = at (refused_by reading h caller command) refl is

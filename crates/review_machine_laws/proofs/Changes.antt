@@ -6,11 +6,10 @@ use Rattle.review_names.specs.Forms.{is_within, most_comments, most_changes}
 use Rattle.review_words.specs.History.{Entry, accepted, if_done, is_account}
 use Rattle.review_words.specs.declared.changes.{NewChange.NewChange, Review.Review as ReviewOf}
 use Rattle.review_words.specs.declared.command.{ChangeCommand.ChangeCommand, Command.Command}
-use Rattle.review_words.specs.declared.command.Command.TheVariants.{CreateAccount, PutGroup, PutProject, RecordBase, CloseEpoch, CreateChange, OnChange, Submit}
+use Rattle.review_words.specs.declared.command.Command.TheVariants.{CreateChange, OnChange}
 use Rattle.review_words.specs.declared.reply.{Answer.Answer, Refusal.Refusal}
 use Rattle.review_words.specs.declared.reply.Refusal.TheVariants.{UnknownCaller, NoComment, Limit}
-use Rattle.review_words.specs.declared.reply.Reply.{Reply}
-use Rattle.review_words.specs.declared.reply.Reply.TheVariants.{Done, Refused, IdentityReused, EpochClosed, NotTaken}
+use Rattle.review_words.specs.declared.reply.Reply.{Reply, TheVariants.Done, TheVariants.Refused}
 use Rattle.review_core_rules.specs.Change.{Change, joined_at, after, begun, Copying, Setting, after_copying, copying, current, reviewed, said}
 use Rattle.review_core_rules.specs.{Parts.TheHeader, Sound.IsSound, Sound.answer_stored, Sound.fits}
 use Rattle.review_machine_rows.proofs.Readings.{IsDoneBy, done_of}
@@ -77,15 +76,9 @@ asked_stays reading h caller (Some on) n before =
 
 there_step : (reading : Reading) (h : List Entry) (caller : ℕ) (o : Option Command) (n : ℕ) (before : Option Change) → is_some before ≡ is_up_to (change_count h) n →
     is_some (change_by reading h caller o n before) ≡ is_up_to (change_counted o (change_count h)) n
-there_step reading h caller None n before e = e
-there_step reading h caller (Some (CreateAccount name)) n before e = e
-there_step reading h caller (Some (PutGroup group members)) n before e = e
-there_step reading h caller (Some (PutProject project file)) n before e = e
-there_step reading h caller (Some (RecordBase project branch commit)) n before e = e
-there_step reading h caller (Some (CloseEpoch epoch)) n before e = e
 there_step reading h caller (Some (CreateChange new)) n before e = some_made (change_count h + 1 == n) _ before ∙ (ap (λ b. (change_count h + 1 == n) || b) e ∙ one_more n (change_count h))
 there_step reading h caller (Some (OnChange m command)) n before e = asked_stays reading h caller (asked_of (OnChange m command)) n before ∙ e
-there_step reading h caller (Some (Submit m)) n before e = e
+there_step reading h caller _ n before e = e
 
 -- the changes are those up to their count
 pub change_there : (reading : Reading) (h : List Entry) (n : ℕ) → is_some (change reading h n) ≡ is_up_to (change_count h) n
@@ -155,16 +148,10 @@ asked_or false m o f c project branch before is = before c is
 
 made_step : (reading : Reading) (h : List Entry) (caller : ℕ) (o : Option Command) (n : ℕ) (c : Change) → ((x : Change) → change reading h n ≡ Some x → MadeAs (made h n) x) →
     change_by reading h caller o n (change reading h n) ≡ Some c → MadeAs (made_by o (change_count h + 1) n (made h n)) c
-made_step reading h caller None n c before is = before c is
-made_step reading h caller (Some (CreateAccount name)) n c before is = before c is
-made_step reading h caller (Some (PutGroup group members)) n c before is = before c is
-made_step reading h caller (Some (PutProject project file)) n c before is = before c is
-made_step reading h caller (Some (RecordBase project branch commit)) n c before is = before c is
-made_step reading h caller (Some (CloseEpoch epoch)) n c before is = before c is
 made_step reading h caller (Some (CreateChange new)) n c before is = made_or (change_count h + 1 == n) new caller (length h + 1) (made h n) (change reading h n) c before is
 made_step reading h caller (Some (OnChange m command)) n c before is =
     asked_or (m == n) (made h n) (change reading h n) (λ x. after (setting_of reading h x.project) command caller (length h + 1) x) c (λ x. refl) (λ x. refl) before is
-made_step reading h caller (Some (Submit m)) n c before is = before c is
+made_step reading h caller _ n c before is = before c is
 
 -- the change of a number was made, for its branch
 pub made_as : (reading : Reading) (h : List Entry) (n : ℕ) (c : Change) → change reading h n ≡ Some c → MadeAs (made h n) c
@@ -234,14 +221,8 @@ review_fits s caller r c within all =
 pub request_fits : (reading : Reading) (h : List Entry) (caller : ℕ) (command : ChangeCommand) (c : Change) → AllByRecursion Passes (request_checks reading h caller command c) → fits command c ≡ true
 request_fits reading h caller (on.Upload patch) c pass = pass.1.1.1.1.0
 request_fits reading h caller (on.Review review) c pass = review_fits (setting_of reading h c.project) caller review c pass.0 pass.1
-request_fits reading h caller (on.AddReviewer account role) c pass = refl
-request_fits reading h caller (on.RemoveReviewer account) c pass = refl
-request_fits reading h caller on.SetWip c pass = refl
-request_fits reading h caller on.SetReady c pass = refl
-request_fits reading h caller on.Abandon c pass = refl
-request_fits reading h caller on.Restore c pass = refl
 request_fits reading h caller (on.AddAttention account reason) c pass = pass.1.1.0
-request_fits reading h caller (on.RemoveAttention account reason) c pass = refl
+request_fits reading h caller _ c pass = refl
 
 -- what becomes of a change that a request names
 named_sound : (b : Bool) (o : Option Change) (f : Change → Change) (c : Change) → ((x : Change) → o ≡ Some x → IsSound x) → (b ≡ true → (x : Change) → o ≡ Some x → IsSound x → IsSound (f x)) →
@@ -256,11 +237,6 @@ made_sound false o new c before begins is = before c is
 
 done_sound : BeginsSound → StaysSound → (reading : Reading) (h : List Entry) (caller n : ℕ) (c : Change) (command : Command) (a : Answer) → IsAnswerBy reading h caller command (Done a) →
     ((x : Change) → change reading h n ≡ Some x → IsSound x) → change_by reading h caller (Some command) n (change reading h n) ≡ Some c → IsSound c
-done_sound begins stays reading h caller n c (CreateAccount name) a answer before is = before c is
-done_sound begins stays reading h caller n c (PutGroup group members) a answer before is = before c is
-done_sound begins stays reading h caller n c (PutProject project text) a answer before is = before c is
-done_sound begins stays reading h caller n c (RecordBase project branch commit) a answer before is = before c is
-done_sound begins stays reading h caller n c (CloseEpoch epoch) a answer before is = before c is
 done_sound begins stays reading h caller n c (CreateChange new) a answer before is =
     made_sound (change_count h + 1 == n) (change reading h n) (begun new caller (length h + 1)) c before (begins new caller (length h + 1)) is
 done_sound begins stays reading h caller n c (OnChange m command) a answer before is =
@@ -269,7 +245,7 @@ done_sound begins stays reading h caller n c (OnChange m command) a answer befor
     let pass = checks_pass reading h caller (request_checks reading h caller command) (change reading h m) x (ap (change reading h) (eqb-true m n same) ∙ there) (done_passes reading h caller (OnChange m command) a answer) in
     stays (copying (setting_of reading h x.project) command caller x) command caller (length h + 1) x sound (request_fits reading h caller command x pass))
     is
-done_sound begins stays reading h caller n c (Submit m) a answer before is = before c is
+done_sound begins stays reading h caller n c _ a answer before is = before c is
 
 -- a change that joins its branch stays sound: nobody is in its attention set
 joined_sound : (place request : ℕ) (c : Change) → IsSound c → IsSound (joined_at place request c)
@@ -285,10 +261,7 @@ joined_sound place request c s = record {
 step_sound : BeginsSound → StaysSound → (reading : Reading) (h : List Entry) (caller n : ℕ) (c : Change) (command : Command) (reply : Reply) → IsDoneBy reading h caller command reply →
     ((x : Change) → change reading h n ≡ Some x → IsSound x) → change_by reading h caller (if_done reply command) n (change reading h n) ≡ Some c → IsSound c
 step_sound begins stays reading h caller n c command (Done a) answer before is = done_sound begins stays reading h caller n c command a answer before is
-step_sound begins stays reading h caller n c command (Refused r) answer before is = before c is
-step_sound begins stays reading h caller n c command IdentityReused answer before is = before c is
-step_sound begins stays reading h caller n c command EpochClosed answer before is = before c is
-step_sound begins stays reading h caller n c command (NotTaken cause) answer before is = before c is
+step_sound begins stays reading h caller n c command _ answer before is = before c is
 
 pub are_sound : BeginsSound → StaysSound → (reading : Reading) (h : List Entry) (n : ℕ) (c : Change) → IsHistory h → Reads reading h → change reading h n ≡ Some c → IsSound c
 are_sound begins stays reading [] n c history reads is = absurd (cc)
@@ -341,25 +314,16 @@ one_passing reading h test (suc k) e =
 
 count_made : (reading : Reading) (h : List Entry) (caller : ℕ) (command : Command) (a : Answer) → IsAnswerBy reading h caller command (Done a) → change_count h ≤ most_changes →
     change_counted (Some command) (change_count h) ≤ most_changes
-count_made reading h caller (CreateAccount name) a answer before = before
-count_made reading h caller (PutGroup group members) a answer before = before
-count_made reading h caller (PutProject project text) a answer before = before
-count_made reading h caller (RecordBase project branch commit) a answer before = before
-count_made reading h caller (CloseEpoch epoch) a answer before = before
 count_made reading h caller (CreateChange new) a answer before =
     let all = (all_pass ((is_account h caller, UnknownCaller) ∷ checks reading h caller (CreateChange new)) (done_passes reading h caller (CreateChange new) a answer)).1 in
     let below : change_count h < most_changes = ltb-true (change_count h) most_changes all.1.1.1.1.1.0 in
     omega arith
-count_made reading h caller (OnChange n command) a answer before = before
-count_made reading h caller (Submit n) a answer before = before
+count_made reading h caller _ a answer before = before
 
 count_made_by : (reading : Reading) (h : List Entry) (caller : ℕ) (command : Command) (reply : Reply) → IsDoneBy reading h caller command reply → change_count h ≤ most_changes →
     change_counted (if_done reply command) (change_count h) ≤ most_changes
 count_made_by reading h caller command (Done a) answer before = count_made reading h caller command a answer before
-count_made_by reading h caller command (Refused r) answer before = before
-count_made_by reading h caller command IdentityReused answer before = before
-count_made_by reading h caller command EpochClosed answer before = before
-count_made_by reading h caller command (NotTaken cause) answer before = before
+count_made_by reading h caller command _ answer before = before
 
 -- a history has at most so many changes
 pub changes_bound : (reading : Reading) (h : List Entry) → Reads reading h → IsHistory h → change_count h ≤ most_changes

@@ -7,8 +7,7 @@ use Rattle.std.specs.declared.cmp.Ordering.{Ordering, TheVariants.Less, TheVaria
 use Rattle.review_names.specs.Groups.{GroupList, has_account, members_in}
 use Rattle.review_names.specs.Names.{administrators, registered_users}
 use Rattle.review_words.specs.History.{Entry, accepted, is_listed, listed_members, put}
-use Rattle.review_words.specs.declared.command.Command.{Command}
-use Rattle.review_words.specs.declared.command.Command.TheVariants.{CreateAccount, PutGroup, PutProject, RecordBase, CloseEpoch, CreateChange, OnChange, Submit}
+use Rattle.review_words.specs.declared.command.Command.{Command, TheVariants.PutGroup}
 use Rattle.review_machine_rows.specs.Changes.{group_put, groups_of}
 
 abbrev by_name : List ℕ → List ℕ → Ordering
@@ -76,17 +75,10 @@ put_members true members before = refl
 put_members false members before = refl
 
 members_step : (o : Option Command) (groups : GroupList) (name before : List ℕ) → members_in groups name ≡ before → members_in (group_put o groups) name ≡ put o name before
-members_step None groups name before e = e
-members_step (Some (CreateAccount given)) groups name before e = e
 members_step (Some (PutGroup group members)) groups name before e =
     ap (λ o. unwrap_or o []) (put_lookup groups group members name)
     ∙ (put_members (bytes_eq group name) members (lookup (is_at (by_name name)) groups) ∙ ap (λ l. cond (bytes_eq group name) members l) e)
-members_step (Some (PutProject project file)) groups name before e = e
-members_step (Some (RecordBase project branch commit)) groups name before e = e
-members_step (Some (CloseEpoch epoch)) groups name before e = e
-members_step (Some (CreateChange new)) groups name before e = e
-members_step (Some (OnChange n command)) groups name before e = e
-members_step (Some (Submit n)) groups name before e = e
+members_step _ groups name before e = e
 
 first_members : (b : Bool) (members : List ℕ) → unwrap_or (cond b (Some members) None) [] ≡ cond b members []
 first_members true members = refl

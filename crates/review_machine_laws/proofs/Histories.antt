@@ -3,13 +3,11 @@ use Rattle.std.proofs.Common.{◌≡◌, ℕ, List, [], ◌∷◌, Option, Some,
 use Rattle.std.proofs.lemmas.{Bool.Decides.nat_tests, Slice.Eq.bytes_eq-Decides}
 use Rattle.std.specs.{List.AllByRecursion, Option.option_map_or}
 use Rattle.review_words.specs.History.{Entry, is_project, project_count, accepted, file_text, text_put, if_done}
-use Rattle.review_words.specs.declared.command.Command.{Command}
-use Rattle.review_words.specs.declared.command.Command.TheVariants.{PutProject, CreateAccount, PutGroup, RecordBase, CreateChange, OnChange, Submit, CloseEpoch}
+use Rattle.review_words.specs.declared.command.Command.{Command, TheVariants.PutProject}
 use Rattle.review_words.specs.declared.faults.FileFault.TheVariants.{UnknownLabel}
 use Rattle.review_words.specs.declared.reply.{Answer.Answer, Answer.TheVariants.Nothing, Refusal.Refusal}
 use Rattle.review_words.specs.declared.reply.Refusal.TheVariants.{BadFile, LabelNarrowed, Limit, NoParent, ParentDepth, ParentFixed}
-use Rattle.review_words.specs.declared.reply.Reply.{Reply}
-use Rattle.review_words.specs.declared.reply.Reply.TheVariants.{Done, Refused, IdentityReused, EpochClosed, NotTaken}
+use Rattle.review_words.specs.declared.reply.Reply.{Reply, TheVariants.Done, TheVariants.Refused}
 use Rattle.review_expr.specs.declared.expr.Expr.{Expr}
 use Rattle.review_file_rules.proofs.Known.{OrderedLabels, covers_itself}
 use Rattle.review_file_rules.proofs.Trees.{covers_alike, inherit_alike, inherits_alike, OneFile}
@@ -90,15 +88,8 @@ placed_put true text before = refl
 placed_put false text before = refl
 
 own_by : (c : Option Command) (q : List ℕ) (before : Option (List ℕ)) → placed (text_put c q before) ≡ files_put (putting c) (λ z. placed before) q
-own_by None q before = refl
-own_by (Some (CreateAccount name)) q before = refl
-own_by (Some (PutGroup group members)) q before = refl
 own_by (Some (PutProject project text)) q before = placed_put (bytes_eq project q) text before
-own_by (Some (RecordBase project branch commit)) q before = refl
-own_by (Some (CreateChange new)) q before = refl
-own_by (Some (OnChange n command)) q before = refl
-own_by (Some (Submit n)) q before = refl
-own_by (Some (CloseEpoch epoch)) q before = refl
+own_by _ q before = refl
 
 -- what a project has after an entry
 pub own_after : (e : Entry) (h : List Entry) (q : List ℕ) → own_of (e ∷ h) q ≡ files_put (putting (accepted e)) (own_of h) q
@@ -386,19 +377,10 @@ module _ (one : OneFile) (reading : Reading) (h : List Entry) (sound : AreSoundF
 -- a step of a history by what was accepted
 pub step_by : OneFile → (reading : Reading) (h : List Entry) (caller : ℕ) (command : Command) (reply : Reply) → AreSoundFiles reading (own_of h) → IsReadRight reading (if_done reply command) →
     IsDoneBy reading h caller command reply → Steps reading (own_of h) (files_put (putting (if_done reply command)) (own_of h))
-step_by one reading h caller command (Refused r) sound right answer = stays reading (own_of h) sound
-step_by one reading h caller command IdentityReused sound right answer = stays reading (own_of h) sound
-step_by one reading h caller command EpochClosed sound right answer = stays reading (own_of h) sound
-step_by one reading h caller command (NotTaken cause) sound right answer = stays reading (own_of h) sound
-step_by one reading h caller (CreateAccount name) (Done a) sound right answer = stays reading (own_of h) sound
-step_by one reading h caller (PutGroup group members) (Done a) sound right answer = stays reading (own_of h) sound
 step_by one reading h caller (PutProject project text) (Done a) sound right answer =
     let file = acceptable reading h caller project text a answer in put_step one reading h sound project text right file.0 file.1 file.2 (own_of h project) refl
-step_by one reading h caller (RecordBase project branch commit) (Done a) sound right answer = stays reading (own_of h) sound
-step_by one reading h caller (CreateChange new) (Done a) sound right answer = stays reading (own_of h) sound
-step_by one reading h caller (OnChange n request) (Done a) sound right answer = stays reading (own_of h) sound
-step_by one reading h caller (Submit n) (Done a) sound right answer = stays reading (own_of h) sound
-step_by one reading h caller (CloseEpoch epoch) (Done a) sound right answer = stays reading (own_of h) sound
+step_by one reading h caller _ (Done a) sound right answer = stays reading (own_of h) sound
+step_by one reading h caller command _ sound right answer = stays reading (own_of h) sound
 
 -- one entry more
 pub entry_step : OneFile → (reading : Reading) (e : Entry) (h : List Entry) → IsHistory (e ∷ h) → Reads reading (e ∷ h) → AreSoundFiles reading (own_of h) → Steps reading (own_of h) (own_of (e ∷ h))

@@ -6,11 +6,11 @@ use Rattle.std.proofs.lemmas.Map.{Keys.IsDistinct-cons, Steps.length-le_from_dis
 use Rattle.std.specs.{List.AllByRecursion, List.IsDistinct, List.list_any, Option.option_or, Option.option_map_or}
 use Rattle.review_words.specs.History.{Entry, is_account, if_done, accepted, bases, is_base, with_base}
 use Rattle.review_words.specs.declared.command.{ChangeCommand.ChangeCommand, Command.Command}
-use Rattle.review_words.specs.declared.command.Command.TheVariants.{Submit, CreateAccount, PutGroup, PutProject, RecordBase, CloseEpoch, CreateChange, OnChange}
+use Rattle.review_words.specs.declared.command.Command.TheVariants.{Submit, RecordBase, CreateChange, OnChange}
 use Rattle.review_words.specs.declared.reply.Answer.{Answer, TheVariants.Submitted}
-use Rattle.review_words.specs.declared.reply.{Refusal.Refusal, Refusal.TheVariants.UnknownCaller, Reply.Reply}
-use Rattle.review_words.specs.declared.reply.Reply.TheVariants.{Done, Refused, IdentityReused, EpochClosed, NotTaken}
-use Rattle.review_words.specs.declared.shown.State.{State, TheVariants.New, TheVariants.Merged, TheVariants.Abandoned}
+use Rattle.review_words.specs.declared.reply.Refusal.{Refusal, TheVariants.UnknownCaller}
+use Rattle.review_words.specs.declared.reply.Reply.{Reply, TheVariants.Done, TheVariants.Refused}
+use Rattle.review_words.specs.declared.shown.State.{State, TheVariants.New, TheVariants.Merged}
 use Rattle.review_chain.proofs.Walking.{chain_ready, chain_distinct}
 use Rattle.review_chain.specs.{Walks.IsReady, declared.links.Link.Link}
 use Rattle.review_core_rules.specs.Change.{Change, after, begun, is_open, state_by, commit, of_number, parent, patches_by}
@@ -70,21 +70,13 @@ not_placed project branch c free =
 
 open_unmerged : (s : State) → is_open s ≡ true → is_merged s ≡ false
 open_unmerged New e = refl
-open_unmerged Merged e = absurd (cc)
-open_unmerged Abandoned e = absurd (cc)
+open_unmerged _ e = absurd (cc)
 
 pub merged_stays : (reading : Reading) (h : List Entry) (caller : ℕ) (command : ChangeCommand) (c : Change) → AllByRecursion Passes (request_checks reading h caller command c) →
     is_merged (state_by command c.state) ≡ is_merged c.state
-merged_stays reading h caller (on.Upload patch) c pass = refl
-merged_stays reading h caller (on.Review review) c pass = refl
-merged_stays reading h caller (on.AddReviewer account role) c pass = refl
-merged_stays reading h caller (on.RemoveReviewer account) c pass = refl
-merged_stays reading h caller on.SetWip c pass = refl
-merged_stays reading h caller on.SetReady c pass = refl
 merged_stays reading h caller on.Abandon c pass = sym (open_unmerged c.state pass.1.0)
 merged_stays reading h caller on.Restore c pass = sym (not-true (is_merged c.state) pass.1.0)
-merged_stays reading h caller (on.AddAttention account reason) c pass = refl
-merged_stays reading h caller (on.RemoveAttention account reason) c pass = refl
+merged_stays reading h caller _ c pass = refl
 
 named_place : (project branch : List ℕ) (b : Bool) (o : Option Change) (f : Change → Change) → (b ≡ true → (x : Change) → o ≡ Some x → place_of project branch (Some (f x)) ≡ place_of project branch (Some x)) →
     place_of project branch (cond b (option_map f o) o) ≡ place_of project branch o
@@ -110,11 +102,6 @@ none_next reading h n next =
 
 place_stays : (reading : Reading) (h : List Entry) (caller : ℕ) (command : Command) (a : Answer) (project branch : List ℕ) (n : ℕ) → IsAnswerBy reading h caller command (Done a) →
     place_of project branch (change_by reading h caller (Some command) n (change reading h n)) ≡ place_of project branch (change reading h n)
-place_stays reading h caller (CreateAccount name) a project branch n answer = refl
-place_stays reading h caller (PutGroup group members) a project branch n answer = refl
-place_stays reading h caller (PutProject named text) a project branch n answer = refl
-place_stays reading h caller (RecordBase named on commit) a project branch n answer = refl
-place_stays reading h caller (CloseEpoch epoch) a project branch n answer = refl
 place_stays reading h caller (CreateChange new) a project branch n answer =
     made_place project branch (change_count h + 1 == n) (change reading h n) (begun new caller (length h + 1)) refl (none_next reading h n)
 place_stays reading h caller (OnChange m command) a project branch n answer =
@@ -122,7 +109,7 @@ place_stays reading h caller (OnChange m command) a project branch n answer =
     (λ same x there.
     let pass = checks_pass reading h caller (request_checks reading h caller command) (change reading h m) x (ap (change reading h) (eqb-true m n same) ∙ there) (done_passes reading h caller (OnChange m command) a answer) in
     ap (λ b. cond (is_for project branch x && b) (Some x.place) None) (merged_stays reading h caller command x pass))
-place_stays reading h caller (Submit m) a project branch n answer = refl
+place_stays reading h caller _ a project branch n answer = refl
 
 -- ---- a submit gives the next places
 
@@ -203,24 +190,17 @@ step : (reading : Reading) (h : List Entry) (caller : ℕ) (command : Command) (
     place_in (joined h project branch) n ≡ place_of project branch (change reading h n) →
     place_in (joined h project branch ++ joined_by h (if_done reply command) reply project branch) n
     ≡ place_of project branch (joining h (submitted (if_done reply command) reply) n (change_by reading h caller (if_done reply command) n (change reading h n)))
-step reading h caller command (Refused r) project branch n answer before = ap (λ l. place_in l n) (append-nil (joined h project branch)) ∙ before
-step reading h caller command IdentityReused project branch n answer before = ap (λ l. place_in l n) (append-nil (joined h project branch)) ∙ before
-step reading h caller command EpochClosed project branch n answer before = ap (λ l. place_in l n) (append-nil (joined h project branch)) ∙ before
-step reading h caller command (NotTaken cause) project branch n answer before = ap (λ l. place_in l n) (append-nil (joined h project branch)) ∙ before
 step reading h caller (Submit m) (Done a) project branch n answer before =
     let s = submit_accepted reading h caller m a answer in
     let chain : joined_in (Done a) ≡ s.chain = ap (λ x. joined_in (Done x)) s.told in
     ap (λ l. place_in (joined h project branch ++ cond (is_made_for h project branch m) l []) n) chain
     ∙ (submit_places reading h m a s project branch n before ∙ ap (λ l. place_of project branch (joining h l n (change reading h n))) (sym chain))
-step reading h caller (CreateAccount name) (Done a) project branch n answer before = ap (λ l. place_in l n) (append-nil (joined h project branch)) ∙ before
-step reading h caller (PutGroup group members) (Done a) project branch n answer before = ap (λ l. place_in l n) (append-nil (joined h project branch)) ∙ before
-step reading h caller (PutProject named text) (Done a) project branch n answer before = ap (λ l. place_in l n) (append-nil (joined h project branch)) ∙ before
-step reading h caller (RecordBase named on commit) (Done a) project branch n answer before = ap (λ l. place_in l n) (append-nil (joined h project branch)) ∙ before
-step reading h caller (CloseEpoch epoch) (Done a) project branch n answer before = ap (λ l. place_in l n) (append-nil (joined h project branch)) ∙ before
 step reading h caller (CreateChange new) (Done a) project branch n answer before =
     ap (λ l. place_in l n) (append-nil (joined h project branch)) ∙ (before ∙ sym (place_stays reading h caller (CreateChange new) a project branch n answer))
 step reading h caller (OnChange m command) (Done a) project branch n answer before =
     ap (λ l. place_in l n) (append-nil (joined h project branch)) ∙ (before ∙ sym (place_stays reading h caller (OnChange m command) a project branch n answer))
+step reading h caller _ (Done a) project branch n answer before = ap (λ l. place_in l n) (append-nil (joined h project branch)) ∙ before
+step reading h caller command _ project branch n answer before = ap (λ l. place_in l n) (append-nil (joined h project branch)) ∙ before
 
 -- the place of a change among those that joined a branch is the place that it has
 pub placed : (reading : Reading) (h : List Entry) (project branch : List ℕ) (n : ℕ) → IsHistory h → Reads reading h → place_in (joined h project branch) n ≡ place_of project branch (change reading h n)
@@ -231,9 +211,8 @@ placed reading (e ∷ h) project branch n history reads =
 -- ==== which changes joined a branch: those for it that are merged, each once
 
 pub state_merged : (s : State) → is_merged s ≡ true → s ≡ Merged
-state_merged New e = absurd (cc)
 state_merged Merged e = refl
-state_merged Abandoned e = absurd (cc)
+state_merged _ e = absurd (cc)
 
 -- ---- what an entry joins
 
@@ -250,17 +229,6 @@ pub record Gains (reading : Reading) (h : List Entry) (o : Option Command) (proj
 -- a command joins no changes to a branch, or the chain of an accepted submit
 pub gains : (reading : Reading) (h : List Entry) (caller : ℕ) (command : Command) (reply : Reply) (project branch : List ℕ) → IsDoneBy reading h caller command reply →
     (joined_by h (if_done reply command) reply project branch ≡ []) ⊎ Gains reading h (if_done reply command) project branch (joined_by h (if_done reply command) reply project branch)
-gains reading h caller command (Refused r) project branch answer = inl refl
-gains reading h caller command IdentityReused project branch answer = inl refl
-gains reading h caller command EpochClosed project branch answer = inl refl
-gains reading h caller command (NotTaken cause) project branch answer = inl refl
-gains reading h caller (CreateAccount name) (Done a) project branch answer = inl refl
-gains reading h caller (PutGroup group members) (Done a) project branch answer = inl refl
-gains reading h caller (PutProject named text) (Done a) project branch answer = inl refl
-gains reading h caller (RecordBase named on commit) (Done a) project branch answer = inl refl
-gains reading h caller (CloseEpoch epoch) (Done a) project branch answer = inl refl
-gains reading h caller (CreateChange new) (Done a) project branch answer = inl refl
-gains reading h caller (OnChange m command) (Done a) project branch answer = inl refl
 gains reading h caller (Submit m) (Done a) project branch answer = by (is_made_for h project branch m) refl
   where
     by : (b : Bool) → is_made_for h project branch m ≡ b → (cond b (joined_in (Done a)) [] ≡ []) ⊎ Gains reading h (Some (Submit m)) project branch (cond b (joined_in (Done a)) [])
@@ -269,6 +237,8 @@ gains reading h caller (Submit m) (Done a) project branch answer = by (is_made_f
         let s = submit_accepted reading h caller m a answer in
         let to = for_branch project branch s.of (sym (made_for reading h m s.of project branch s.there) ∙ same) in
         inr (record { submit = m; asked = refl; answer = a; accepted = s; joins = ap (λ x. joined_in (Done x)) s.told; for_project = to.0; for_branch = to.1 })
+gains reading h caller _ (Done a) project branch answer = inl refl
+gains reading h caller command _ project branch answer = inl refl
 
 -- ---- each once
 
@@ -390,15 +360,8 @@ one_more_base true x commit xs is = list_any-append (λ base. bytes_eq base x) x
 one_more_base false x commit xs is = is
 
 base_stays : (o : Option Command) (project branch x : List ℕ) (xs : List (List ℕ)) → list_any (λ base. bytes_eq base x) xs ≡ true → list_any (λ base. bytes_eq base x) (with_base o project branch xs) ≡ true
-base_stays None project branch x xs is = is
-base_stays (Some (CreateAccount name)) project branch x xs is = is
-base_stays (Some (PutGroup group members)) project branch x xs is = is
-base_stays (Some (PutProject named text)) project branch x xs is = is
 base_stays (Some (RecordBase named on commit)) project branch x xs is = one_more_base (bytes_eq named project && bytes_eq on branch) x commit xs is
-base_stays (Some (CreateChange new)) project branch x xs is = is
-base_stays (Some (OnChange m command)) project branch x xs is = is
-base_stays (Some (Submit m)) project branch x xs is = is
-base_stays (Some (CloseEpoch least)) project branch x xs is = is
+base_stays _ project branch x xs is = is
 
 -- a base of a branch stays one
 pub base_kept : (e : Entry) (h : List Entry) (project branch x : List ℕ) → is_base h project branch x ≡ true → is_base (e ∷ h) project branch x ≡ true
@@ -420,22 +383,13 @@ joining_patches h (Some place) (Some x) c keeps = let same : x ≡ keeps.of = le
 
 not_open : (s : State) → s ≡ Merged → is_open s ≡ true → ⊥
 not_open New e o = absurd (cc)
-not_open Merged e o = absurd (let f : false ≡ true = o in cc)
-not_open Abandoned e o = absurd (let f : false ≡ true = o in cc)
+not_open _ e o = absurd (let f : false ≡ true = o in cc)
 
 -- no patch set is sent for a merged change
 none_sent : (reading : Reading) (h : List Entry) (caller : ℕ) (command : ChangeCommand) (c : Change) → AllByRecursion Passes (request_checks reading h caller command c) → c.state ≡ Merged →
     patches_by command caller c.patches ≡ c.patches
 none_sent reading h caller (on.Upload patch) c pass merged = absurd (not_open c.state merged pass.1.0)
-none_sent reading h caller (on.Review review) c pass merged = refl
-none_sent reading h caller (on.AddReviewer account role) c pass merged = refl
-none_sent reading h caller (on.RemoveReviewer account) c pass merged = refl
-none_sent reading h caller on.SetWip c pass merged = refl
-none_sent reading h caller on.SetReady c pass merged = refl
-none_sent reading h caller on.Abandon c pass merged = refl
-none_sent reading h caller on.Restore c pass merged = refl
-none_sent reading h caller (on.AddAttention account reason) c pass merged = refl
-none_sent reading h caller (on.RemoveAttention account reason) c pass merged = refl
+none_sent reading h caller _ c pass merged = refl
 
 named_patches : (b : Bool) (o : Option Change) (f : Change → Change) (c : Change) → o ≡ Some c → (b ≡ true → (f c).patches ≡ c.patches) → KeepsPatches c (cond b (option_map f o) o)
 named_patches true o f c there keeps = record { of = f c; there = ap (option_map f) there; patches = keeps refl }
@@ -447,11 +401,6 @@ made_patches false o new c there none = record { of = c; there = there; patches 
 
 done_patches : (reading : Reading) (h : List Entry) (caller n : ℕ) (c : Change) (command : Command) (a : Answer) → IsAnswerBy reading h caller command (Done a) → change reading h n ≡ Some c → c.state ≡ Merged →
     KeepsPatches c (change_by reading h caller (Some command) n (change reading h n))
-done_patches reading h caller n c (CreateAccount name) a answer there merged = record { of = c; there = there; patches = refl }
-done_patches reading h caller n c (PutGroup group members) a answer there merged = record { of = c; there = there; patches = refl }
-done_patches reading h caller n c (PutProject project text) a answer there merged = record { of = c; there = there; patches = refl }
-done_patches reading h caller n c (RecordBase project branch commit) a answer there merged = record { of = c; there = there; patches = refl }
-done_patches reading h caller n c (CloseEpoch epoch) a answer there merged = record { of = c; there = there; patches = refl }
 done_patches reading h caller n c (CreateChange new) a answer there merged =
     made_patches (change_count h + 1 == n) (change reading h n) (begun new caller (length h + 1)) c there (none_next reading h n)
 done_patches reading h caller n c (OnChange m command) a answer there merged =
@@ -459,15 +408,12 @@ done_patches reading h caller n c (OnChange m command) a answer there merged =
     (λ same.
     let pass = checks_pass reading h caller (request_checks reading h caller command) (change reading h m) c (ap (change reading h) (eqb-true m n same) ∙ there) (done_passes reading h caller (OnChange m command) a answer) in
     none_sent reading h caller command c pass merged)
-done_patches reading h caller n c (Submit m) a answer there merged = record { of = c; there = there; patches = refl }
+done_patches reading h caller n c _ a answer there merged = record { of = c; there = there; patches = refl }
 
 step_patches : (reading : Reading) (h : List Entry) (caller n : ℕ) (c : Change) (command : Command) (reply : Reply) → IsDoneBy reading h caller command reply → change reading h n ≡ Some c → c.state ≡ Merged →
     KeepsPatches c (change_by reading h caller (if_done reply command) n (change reading h n))
 step_patches reading h caller n c command (Done a) answer there merged = done_patches reading h caller n c command a answer there merged
-step_patches reading h caller n c command (Refused r) answer there merged = record { of = c; there = there; patches = refl }
-step_patches reading h caller n c command IdentityReused answer there merged = record { of = c; there = there; patches = refl }
-step_patches reading h caller n c command EpochClosed answer there merged = record { of = c; there = there; patches = refl }
-step_patches reading h caller n c command (NotTaken cause) answer there merged = record { of = c; there = there; patches = refl }
+step_patches reading h caller n c command _ answer there merged = record { of = c; there = there; patches = refl }
 
 -- an entry keeps the patch sets of a merged change
 pub merged_keeps : (reading : Reading) (e : Entry) (h : List Entry) (n : ℕ) (c : Change) → IsHistory (e ∷ h) → Reads reading h → change reading h n ≡ Some c → c.state ≡ Merged → KeepsPatches c (change reading (e ∷ h) n)

@@ -7,7 +7,7 @@ use Rattle.review_words.specs.History.{Entry, is_base, accepted}
 use Rattle.review_words.specs.declared.command.Command.TheVariants.{Submit}
 use Rattle.review_words.specs.declared.reply.{Answer.Answer, Answer.TheVariants.Submitted, Reply.TheVariants.Done}
 use Rattle.review_words.specs.declared.shown.{ShownRequirement.ShownRequirement, State.State}
-use Rattle.review_words.specs.declared.shown.State.TheVariants.{New, Merged, Abandoned}
+use Rattle.review_words.specs.declared.shown.State.TheVariants.{New, Merged}
 use Rattle.review_chain.{proofs.Walking.chain_ready, specs.Branches.Branch, specs.Branches.parent_standing}
 use Rattle.review_chain.specs.Walks.{IsReady, Follows, IsChain, IsWalk, first_of}
 use Rattle.review_chain.specs.declared.links.{Link.Link, Standing.Standing}
@@ -85,8 +85,7 @@ pub record IsOpen (reading : Reading) (h : List Entry) (project branch : List �
 
 state_open : (s : State) → is_open s ≡ true → s ≡ New
 state_open New e = refl
-state_open Merged e = absurd (cc)
-state_open Abandoned e = absurd (cc)
+state_open _ e = absurd (cc)
 
 ready_open : (reading : Reading) (h : List Entry) (project branch : List ℕ) (n : ℕ) → IsReady (branch_after reading h project branch) n → IsOpen reading h project branch n
 ready_open reading h project branch n r =

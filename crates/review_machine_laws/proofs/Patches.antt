@@ -5,9 +5,9 @@ use Rattle.std.{proofs.lemmas.Slice.Eq.bytes_eq-Decides, specs.List.AllByRecursi
 use Rattle.review_names.specs.declared.kinds.ChangeKind.TheVariants.{Rework}
 use Rattle.review_words.specs.History.{Entry, accepted, if_done, is_account, bases, is_base, with_base}
 use Rattle.review_words.specs.declared.command.{ChangeCommand.ChangeCommand, Command.Command}
-use Rattle.review_words.specs.declared.command.Command.TheVariants.{CreateAccount, PutGroup, PutProject, RecordBase, CloseEpoch, CreateChange, OnChange, Submit}
-use Rattle.review_words.specs.declared.reply.{Answer.Answer, Refusal.TheVariants.UnknownCaller, Reply.Reply}
-use Rattle.review_words.specs.declared.reply.Reply.TheVariants.{Done, Refused, IdentityReused, EpochClosed, NotTaken}
+use Rattle.review_words.specs.declared.command.Command.TheVariants.{RecordBase, CreateChange, OnChange}
+use Rattle.review_words.specs.declared.reply.{Answer.Answer, Refusal.TheVariants.UnknownCaller}
+use Rattle.review_words.specs.declared.reply.Reply.{Reply, TheVariants.Done}
 use Rattle.review_core_rules.specs.Change.{Change, after, begun, current, of_number, patches_by, joined_at, current_patch}
 use Rattle.review_core_rules.specs.declared.rows.PatchRow.{PatchRow}
 use Rattle.review_machine_rows.proofs.Readings.{IsDoneBy, done_of}
@@ -82,12 +82,6 @@ asked_came reading h caller project branch m n k p x (on.RemoveAttention account
 -- of a command that was done
 done_came : (reading : Reading) (h : List Entry) (caller : ℕ) (project branch : List ℕ) (n k : ℕ) (p : PatchRow) (c : Change) (command : Command) (a : Answer) → IsAnswerBy reading h caller command (Done a) →
     change_by reading h caller (Some command) n (change reading h n) ≡ Some c → is_for project branch c ≡ true → of_number c.patches k ≡ Some p → Came reading h (Some command) project branch n k p
-done_came reading h caller project branch n k p c (CreateAccount name) a answer is for sent = inl (record { of = c; is = is; is_for_it = for; sent = sent })
-done_came reading h caller project branch n k p c (PutGroup group members) a answer is for sent = inl (record { of = c; is = is; is_for_it = for; sent = sent })
-done_came reading h caller project branch n k p c (PutProject named text) a answer is for sent = inl (record { of = c; is = is; is_for_it = for; sent = sent })
-done_came reading h caller project branch n k p c (RecordBase named in_branch commit) a answer is for sent = inl (record { of = c; is = is; is_for_it = for; sent = sent })
-done_came reading h caller project branch n k p c (CloseEpoch epoch) a answer is for sent = inl (record { of = c; is = is; is_for_it = for; sent = sent })
-done_came reading h caller project branch n k p c (Submit m) a answer is for sent = inl (record { of = c; is = is; is_for_it = for; sent = sent })
 done_came reading h caller project branch n k p c (CreateChange new) a answer is for sent = by (change_count h + 1 == n) refl is
   where
     by : (b : Bool) → (change_count h + 1 == n) ≡ b → cond b (Some (begun new caller (length h + 1))) (change reading h n) ≡ Some c → Came reading h (Some (CreateChange new)) project branch n k p
@@ -117,15 +111,13 @@ done_came reading h caller project branch n k p c (OnChange m command) a answer 
         asked_came reading h caller project branch m n k p x command here there
         (checks_pass reading h caller (request_checks reading h caller command) (change reading h m) x (ap (change reading h) here ∙ there) (done_passes reading h caller (OnChange m command) a answer))
         (ap (λ (y : Change). is_for project branch y) left ∙ for) (ap (λ (y : Change). of_number y.patches k) left ∙ sent)
+done_came reading h caller project branch n k p c _ a answer is for sent = inl (record { of = c; is = is; is_for_it = for; sent = sent })
 
 -- of a command with its reply
 step_came : (reading : Reading) (h : List Entry) (caller : ℕ) (project branch : List ℕ) (n k : ℕ) (p : PatchRow) (c : Change) (command : Command) (reply : Reply) → IsDoneBy reading h caller command reply →
     change_by reading h caller (if_done reply command) n (change reading h n) ≡ Some c → is_for project branch c ≡ true → of_number c.patches k ≡ Some p → Came reading h (if_done reply command) project branch n k p
 step_came reading h caller project branch n k p c command (Done a) answer is for sent = done_came reading h caller project branch n k p c command a answer is for sent
-step_came reading h caller project branch n k p c command (Refused r) answer is for sent = inl (record { of = c; is = is; is_for_it = for; sent = sent })
-step_came reading h caller project branch n k p c command IdentityReused answer is for sent = inl (record { of = c; is = is; is_for_it = for; sent = sent })
-step_came reading h caller project branch n k p c command EpochClosed answer is for sent = inl (record { of = c; is = is; is_for_it = for; sent = sent })
-step_came reading h caller project branch n k p c command (NotTaken cause) answer is for sent = inl (record { of = c; is = is; is_for_it = for; sent = sent })
+step_came reading h caller project branch n k p c command _ answer is for sent = inl (record { of = c; is = is; is_for_it = for; sent = sent })
 
 -- a patch set after one entry more was there before, or the entry's command sends it
 pub came : (reading : Reading) (e : Entry) (h : List Entry) (project branch : List ℕ) (n k : ℕ) (p : PatchRow) → IsHistory (e ∷ h) → Reads reading (e ∷ h) →
@@ -188,15 +180,7 @@ sent_patch reading h project branch commit e =
 -- a request on a change keeps the numbers of its patch sets
 pub patches_kept : (command : ChangeCommand) (caller : ℕ) (xs : List PatchRow) (k : ℕ) (p : PatchRow) → of_number xs k ≡ Some p → of_number (patches_by command caller xs) k ≡ Some p
 patches_kept (on.Upload patch) caller xs k p is = kept xs (record { commit = patch.commit; parent = patch.parent; kind = patch.kind; uploader = caller; paths = patch.paths } ∷ []) p k is
-patches_kept (on.Review review) caller xs k p is = is
-patches_kept (on.AddReviewer account role) caller xs k p is = is
-patches_kept (on.RemoveReviewer account) caller xs k p is = is
-patches_kept on.SetWip caller xs k p is = is
-patches_kept on.SetReady caller xs k p is = is
-patches_kept on.Abandon caller xs k p is = is
-patches_kept on.Restore caller xs k p is = is
-patches_kept (on.AddAttention account reason) caller xs k p is = is
-patches_kept (on.RemoveAttention account reason) caller xs k p is = is
+patches_kept _ caller xs k p is = is
 
 past : (c : ℕ) → is_up_to c (c + 1) ≡ false
 past c = grind (arith, nat_tests)
@@ -222,18 +206,12 @@ stays_asked project branch k p false f o same keeps has = has
 -- a patch set stays after a command
 stays_by : (reading : Reading) (h : List Entry) (caller : ℕ) (o : Option Command) (project branch : List ℕ) (n k : ℕ) (p : PatchRow) → HasPatch project branch k p (change reading h n) →
     HasPatch project branch k p (change_by reading h caller o n (change reading h n))
-stays_by reading h caller None project branch n k p has = has
-stays_by reading h caller (Some (CreateAccount name)) project branch n k p has = has
-stays_by reading h caller (Some (PutGroup group members)) project branch n k p has = has
-stays_by reading h caller (Some (PutProject named text)) project branch n k p has = has
-stays_by reading h caller (Some (RecordBase named in_branch commit)) project branch n k p has = has
-stays_by reading h caller (Some (CloseEpoch epoch)) project branch n k p has = has
 stays_by reading h caller (Some (CreateChange new)) project branch n k p has =
     stays_made project branch k p (change_count h + 1 == n) (begun new caller (length h + 1)) (change reading h n) (λ next c is. none_next reading h n c (eqb-true (change_count h + 1) n next) is) has
 stays_by reading h caller (Some (OnChange m command)) project branch n k p has =
     stays_asked project branch k p (m == n) (λ x. after (setting_of reading h x.project) command caller (length h + 1) x) (change reading h n) (λ x. refl)
     (λ x is. patches_kept command caller x.patches k p is) has
-stays_by reading h caller (Some (Submit m)) project branch n k p has = has
+stays_by reading h caller _ project branch n k p has = has
 
 -- and where changes join their branch
 stays_joined : (h : List Entry) (project branch : List ℕ) (k : ℕ) (p : PatchRow) (place : Option ℕ) (o : Option Change) → HasPatch project branch k p o → HasPatch project branch k p (joining_at h place o)
@@ -278,17 +256,10 @@ one_more_base false xs y x = or_false (list_any (λ base. bytes_eq base x) xs)
 
 -- a command drops no base
 with_base_keeps : (o : Option Command) (project branch : List ℕ) (xs : List (List ℕ)) (x : List ℕ) → list_any (λ base. bytes_eq base x) xs ≡ true → list_any (λ base. bytes_eq base x) (with_base o project branch xs) ≡ true
-with_base_keeps None project branch xs x is = is
-with_base_keeps (Some (CreateAccount name)) project branch xs x is = is
-with_base_keeps (Some (PutGroup group members)) project branch xs x is = is
-with_base_keeps (Some (PutProject named text)) project branch xs x is = is
 with_base_keeps (Some (RecordBase named in_branch commit)) project branch xs x is =
     let b = bytes_eq named project && bytes_eq in_branch branch in
     one_more_base b xs commit x ∙ ap (λ c. c || (b && bytes_eq commit x)) is
-with_base_keeps (Some (CreateChange new)) project branch xs x is = is
-with_base_keeps (Some (OnChange m command)) project branch xs x is = is
-with_base_keeps (Some (Submit m)) project branch xs x is = is
-with_base_keeps (Some (CloseEpoch least)) project branch xs x is = is
+with_base_keeps _ project branch xs x is = is
 
 -- ---- what is known stays known
 
@@ -352,13 +323,6 @@ BaseCame reading h o project branch x = (is_base h project branch x ≡ true) �
 -- of a command that was done
 base_done : (reading : Reading) (h : List Entry) (caller : ℕ) (project branch x : List ℕ) (command : Command) (a : Answer) → IsAnswerBy reading h caller command (Done a) →
     list_any (λ base. bytes_eq base x) (with_base (Some command) project branch (bases h project branch)) ≡ true → BaseCame reading h (Some command) project branch x
-base_done reading h caller project branch x (CreateAccount name) a answer is = inl is
-base_done reading h caller project branch x (PutGroup group members) a answer is = inl is
-base_done reading h caller project branch x (PutProject named text) a answer is = inl is
-base_done reading h caller project branch x (CreateChange new) a answer is = inl is
-base_done reading h caller project branch x (OnChange m command) a answer is = inl is
-base_done reading h caller project branch x (Submit m) a answer is = inl is
-base_done reading h caller project branch x (CloseEpoch least) a answer is = inl is
 base_done reading h caller project branch x (RecordBase named in_branch commit) a answer is =
     by (known_parts (is_base h project branch x) ((bytes_eq named project && bytes_eq in_branch branch) && bytes_eq commit x)
     (sym (one_more_base (bytes_eq named project && bytes_eq in_branch branch) (bases h project branch) commit x) ∙ is))
@@ -373,15 +337,13 @@ base_done reading h caller project branch x (RecordBase named in_branch commit) 
         let three : commit ≡ x = (bytes_eq-Decides commit x).0 parts.1 in
         let pass = all_pass ((is_account h caller, UnknownCaller) ∷ checks reading h caller (RecordBase named in_branch commit)) (done_passes reading h caller (RecordBase named in_branch commit) a answer) in
         inr (refl, (λ i. is_known reading h (sym one i) (sym two i) (sym three i)) ∙ from_not (is_known reading h named in_branch commit) pass.1.1.1.0)
+base_done reading h caller project branch x _ a answer is = inl is
 
 -- of a command with its reply
 base_step : (reading : Reading) (h : List Entry) (caller : ℕ) (project branch x : List ℕ) (command : Command) (reply : Reply) → IsDoneBy reading h caller command reply →
     list_any (λ base. bytes_eq base x) (with_base (if_done reply command) project branch (bases h project branch)) ≡ true → BaseCame reading h (if_done reply command) project branch x
 base_step reading h caller project branch x command (Done a) answer is = base_done reading h caller project branch x command a answer is
-base_step reading h caller project branch x command (Refused r) answer is = inl is
-base_step reading h caller project branch x command IdentityReused answer is = inl is
-base_step reading h caller project branch x command EpochClosed answer is = inl is
-base_step reading h caller project branch x command (NotTaken cause) answer is = inl is
+base_step reading h caller project branch x command _ answer is = inl is
 
 based_known : (a b : Bool) → (a || b) ≡ false → a ≡ true → ⊥
 based_known true b none is = absurd (cc)
@@ -448,18 +410,12 @@ asked_first false f c o keeps before is = before c is
 -- so a change after a command has one
 first_by : (reading : Reading) (h : List Entry) (caller n : ℕ) (o : Option Command) (c : Change) → ((x : Change) → change reading h n ≡ Some x → HasFirst x) →
     change_by reading h caller o n (change reading h n) ≡ Some c → HasFirst c
-first_by reading h caller n None c before is = before c is
-first_by reading h caller n (Some (CreateAccount name)) c before is = before c is
-first_by reading h caller n (Some (PutGroup group members)) c before is = before c is
-first_by reading h caller n (Some (PutProject project text)) c before is = before c is
-first_by reading h caller n (Some (RecordBase project branch commit)) c before is = before c is
-first_by reading h caller n (Some (CloseEpoch epoch)) c before is = before c is
 first_by reading h caller n (Some (CreateChange new)) c before is =
     made_first (change_count h + 1 == n) (begun new caller (length h + 1)) c (change reading h n) (_, refl) before is
 first_by reading h caller n (Some (OnChange m command)) c before is =
     asked_first (m == n) (λ x. after (setting_of reading h x.project) command caller (length h + 1) x) c (change reading h n)
     (λ x first. (first.0, patches_kept command caller x.patches 1 first.0 first.1)) before is
-first_by reading h caller n (Some (Submit m)) c before is = before c is
+first_by reading h caller n _ c before is = before c is
 
 -- every change has one
 has_first : (reading : Reading) (h : List Entry) (n : ℕ) (c : Change) → change reading h n ≡ Some c → HasFirst c

@@ -29,9 +29,8 @@ appended xs x y (suc n) is = more (get_appended xs x y n is)
 
 -- a list of one has just that one
 pub only : {X : Type 0} (x y : X) (number : ℕ) → of_number (x ∷ []) number ≡ Some y → (number ≡ 1) × (x ≡ y)
-only x y zero is = absurd (cc)
 only x y (suc zero) is = let same : x ≡ y = cc in (refl, same)
-only x y (suc (suc n)) is = absurd (cc)
+only x y _ is = absurd (cc)
 
 get_kept : {X : Type 0} (xs ys : List X) (y : X) (n : ℕ) → slice_get xs n ≡ Some y → slice_get (xs ++ ys) n ≡ Some y
 get_kept [] ys y n is = absurd (cc)

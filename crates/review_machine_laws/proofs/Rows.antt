@@ -4,10 +4,9 @@ use Rattle.std.proofs.lemmas.{Bool.cases_Bool, Bool.cases_lt, Bool.Decides.Decid
 use Rattle.std.proofs.lemmas.Option.{get_or_from_slice_get, slice_get-get_or, slice_get-map, slice_get_within}
 use Rattle.{std.specs.List.AllByRecursion, std.specs.Option.option_map_or, review_names.specs.Forms.most_patches}
 use Rattle.review_words.specs.{History.Entry, History.accepted, History.if_done, declared.changes.NewChange.NewChange}
-use Rattle.review_words.specs.declared.{changes.Role.Role, command.ChangeCommand.ChangeCommand, command.Command.Command}
-use Rattle.review_words.specs.declared.command.Command.TheVariants.{CreateAccount, PutGroup, PutProject, RecordBase, CloseEpoch, CreateChange, OnChange, Submit}
-use Rattle.review_words.specs.declared.reply.{Answer.Answer, Reply.Reply}
-use Rattle.review_words.specs.declared.reply.Reply.TheVariants.{Done, Refused, IdentityReused, EpochClosed, NotTaken}
+use Rattle.review_words.specs.declared.{changes.Role.Role, command.ChangeCommand.ChangeCommand}
+use Rattle.review_words.specs.declared.command.Command.{Command, TheVariants.CreateChange, TheVariants.OnChange}
+use Rattle.review_words.specs.declared.reply.{Answer.Answer, Reply.Reply, Reply.TheVariants.Done}
 use Rattle.review_words.specs.declared.shown.JoinedChange.{JoinedChange}
 use Rattle.review_core_rules.proofs.Stays.{begins, stays, within_parts}
 use Rattle.review_core_rules.specs.Change.{Change, after, begun, joined_at, commit, current, of_number}
@@ -45,11 +44,6 @@ made_holds P false o new c before begins is = before c is
 
 done_holds : (P : Change → Type 0) (reading : Reading) → Stays P reading → (h : List Entry) (caller n : ℕ) (c : Change) (command : Command) (a : Answer) → IsAnswerBy reading h caller command (Done a) →
     ((x : Change) → change reading h n ≡ Some x → P x) → change_by reading h caller (Some command) n (change reading h n) ≡ Some c → P c
-done_holds P reading s h caller n c (CreateAccount name) a answer before is = before c is
-done_holds P reading s h caller n c (PutGroup group members) a answer before is = before c is
-done_holds P reading s h caller n c (PutProject project text) a answer before is = before c is
-done_holds P reading s h caller n c (RecordBase project branch commit) a answer before is = before c is
-done_holds P reading s h caller n c (CloseEpoch epoch) a answer before is = before c is
 done_holds P reading s h caller n c (CreateChange new) a answer before is =
     made_holds P (change_count h + 1 == n) (change reading h n) (begun new caller (length h + 1)) c before (s.begins new caller (length h + 1)) is
 done_holds P reading s h caller n c (OnChange m command) a answer before is =
@@ -58,15 +52,12 @@ done_holds P reading s h caller n c (OnChange m command) a answer before is =
     let pass = checks_pass reading h caller (request_checks reading h caller command) (change reading h m) x (ap (change reading h) (eqb-true m n same) ∙ there) (done_passes reading h caller (OnChange m command) a answer) in
     s.stays h caller command x pass holds)
     is
-done_holds P reading s h caller n c (Submit m) a answer before is = before c is
+done_holds P reading s h caller n c _ a answer before is = before c is
 
 step_holds : (P : Change → Type 0) (reading : Reading) → Stays P reading → (h : List Entry) (caller n : ℕ) (c : Change) (command : Command) (reply : Reply) → IsDoneBy reading h caller command reply →
     ((x : Change) → change reading h n ≡ Some x → P x) → change_by reading h caller (if_done reply command) n (change reading h n) ≡ Some c → P c
 step_holds P reading s h caller n c command (Done a) answer before is = done_holds P reading s h caller n c command a answer before is
-step_holds P reading s h caller n c command (Refused r) answer before is = before c is
-step_holds P reading s h caller n c command IdentityReused answer before is = before c is
-step_holds P reading s h caller n c command EpochClosed answer before is = before c is
-step_holds P reading s h caller n c command (NotTaken cause) answer before is = before c is
+step_holds P reading s h caller n c command _ answer before is = before c is
 
 -- what stays holds of every change of a history
 pub of_each : (P : Change → Type 0) (reading : Reading) → Stays P reading → (h : List Entry) (n : ℕ) (c : Change) → IsHistory h → Reads reading h → change reading h n ≡ Some c → P c

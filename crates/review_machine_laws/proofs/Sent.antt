@@ -90,14 +90,13 @@ FoundUpTo reading h project branch x last Nowhere = (n k : ℕ) (p : PatchRow) �
 found_next : (reading : Reading) (h : List Entry) (project branch x : List ℕ) (last : ℕ) (o : Option ℕ) (s : Standing) → FoundFor project branch x (change reading h (suc last)) o →
     FoundUpTo reading h project branch x last s → FoundUpTo reading h project branch x (suc last) (sent_or (suc last) o s)
 found_next reading h project branch x last (Some k) s here before = here
-found_next reading h project branch x last None InBranch here before = before
-found_next reading h project branch x last None (PatchSet n k) here before = before
 found_next reading h project branch x last None Nowhere here before =
     λ n k p from to has same.
     ⊎_elim
     (λ (lt : n < suc last). before n k p from (omega arith) has same)
     (λ (ge : suc last ≤ n). let is : n ≡ suc last = omega arith in here k p (subst (λ m. HasPatch project branch k p (change reading h m)) is has) same)
     (cases_lt n (suc last))
+found_next reading h project branch x last None _ here before = before
 
 -- the definition's search over changes finds so
 pub found_up_to : (reading : Reading) (h : List Entry) (project branch x : List ℕ) (last : ℕ) → FoundUpTo reading h project branch x last (sent_up_to reading h project branch x last)

@@ -3,7 +3,7 @@ use Rattle.std.proofs.Common.{◌≡◌, ℕ, zero, suc, ◌<◌, ◌≤◌, Lis
 use Rattle.std.proofs.lemmas.{Bool.cases_Bool, Bool.and_parts, Bool.and_from, Bool.cases_lt, Slice.Eq.bytes_eq-Decides}
 use Rattle.std.specs.{List.list_any, Option.option_map_or}
 use Rattle.review_words.specs.History.{Entry, bases, is_base}
-use Rattle.review_words.specs.declared.shown.State.{State, TheVariants.New, TheVariants.Merged, TheVariants.Abandoned}
+use Rattle.review_words.specs.declared.shown.State.{State, TheVariants.Merged}
 use Rattle.review_chain.{proofs.Parting.Says, proofs.Parting.wanted_says, specs.Branches.IsWhole, specs.Branches.Branch}
 use Rattle.review_chain.specs.Parts.{IsPart, IsWanted, NeedsChange, Want as ChainWant, TheChange, TheCommit}
 use Rattle.review_chain.specs.{Steps.wanted, Walks.IsWalk, Walks.first_of}
@@ -114,9 +114,8 @@ is_current reading h n c p is last = record {
 -- ---- the commits in a branch
 
 merged_is : (s : State) → is_merged s ≡ true → s ≡ Merged
-merged_is New e = absurd (cc)
 merged_is Merged e = refl
-merged_is Abandoned e = absurd (cc)
+merged_is _ e = absurd (cc)
 
 -- a commit stands at a place just where it is in the list
 listed_at : (bs : List (List ℕ)) (x : List ℕ) (n : ℕ) → at_place bs n ≡ Some x → list_any (λ b. bytes_eq b x) bs ≡ true

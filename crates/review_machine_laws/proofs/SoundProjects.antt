@@ -5,10 +5,9 @@ use Rattle.std.specs.{List.list_any, List.AllByRecursion, Option.option_map_or}
 use Rattle.review_words.specs.History.{Entry, accepted, file_text, if_done, is_account, is_project, text_put}
 use Rattle.review_words.specs.declared.changes.{Given.Given, Review.Review as ReviewOf}
 use Rattle.review_words.specs.declared.command.{ChangeCommand.ChangeCommand, Command.Command}
-use Rattle.review_words.specs.declared.command.Command.TheVariants.{CreateAccount, PutGroup, PutProject, RecordBase, CloseEpoch, CreateChange, OnChange, Submit}
+use Rattle.review_words.specs.declared.command.Command.TheVariants.{PutProject, CreateChange, OnChange}
 use Rattle.review_words.specs.declared.reply.{Answer.Answer, Refusal.Refusal, Refusal.TheVariants.UnknownCaller}
-use Rattle.review_words.specs.declared.reply.Reply.{Reply}
-use Rattle.review_words.specs.declared.reply.Reply.TheVariants.{Done, Refused, IdentityReused, EpochClosed, NotTaken}
+use Rattle.review_words.specs.declared.reply.Reply.{Reply, TheVariants.Done}
 use Rattle.review_file_rules.proofs.Known.{OrderedLabels, covers_found, covers_itself, covers_through, label_name, values_through}
 use Rattle.review_file_rules.{proofs.Named.named, proofs.Named.all_true, proofs.Trees.OneFile, specs.Rights.covers}
 use Rattle.review_core_rules.specs.Change.{Change, after, begun, Setting, copying, current, given_or, reviewed, vote_by}
@@ -31,15 +30,8 @@ some_put false text before some = some
 
 -- a project that is there stays there
 pub text_stays : (o : Option Command) (project : List ℕ) (before : Option (List ℕ)) → is_some before ≡ true → is_some (text_put o project before) ≡ true
-text_stays None project before some = some
-text_stays (Some (CreateAccount name)) project before some = some
-text_stays (Some (PutGroup group members)) project before some = some
 text_stays (Some (PutProject given text)) project before some = some_put (bytes_eq given project) text before some
-text_stays (Some (RecordBase in_project branch commit)) project before some = some
-text_stays (Some (CloseEpoch epoch)) project before some = some
-text_stays (Some (CreateChange new)) project before some = some
-text_stays (Some (OnChange n command)) project before some = some
-text_stays (Some (Submit n)) project before some = some
+text_stays _ project before some = some
 
 named_keeps : (P : List ℕ → Type 0) (b : Bool) (o : Option Change) (f : Change → Change) (c : Change) → ((x : Change) → o ≡ Some x → P x.project) → ((x : Change) → (f x).project ≡ x.project) →
     cond b (option_map f o) o ≡ Some c → P c.project
@@ -53,26 +45,18 @@ made P false o new c before here is = before c is
 
 project_by : (reading : Reading) (h : List Entry) (caller n : ℕ) (c : Change) (command : Command) (a : Answer) → IsAnswerBy reading h caller command (Done a) →
     ((x : Change) → change reading h n ≡ Some x → is_project h x.project ≡ true) → change_by reading h caller (Some command) n (change reading h n) ≡ Some c → is_project h c.project ≡ true
-project_by reading h caller n c (CreateAccount name) a answer before is = before c is
-project_by reading h caller n c (PutGroup group members) a answer before is = before c is
-project_by reading h caller n c (PutProject project text) a answer before is = before c is
-project_by reading h caller n c (RecordBase project branch commit) a answer before is = before c is
-project_by reading h caller n c (CloseEpoch epoch) a answer before is = before c is
 project_by reading h caller n c (CreateChange new) a answer before is =
     let pass = all_pass ((is_account h caller, UnknownCaller) ∷ checks reading h caller (CreateChange new)) (done_passes reading h caller (CreateChange new) a answer) in
     made (λ p. is_project h p ≡ true) (change_count h + 1 == n) (change reading h n) (begun new caller (length h + 1)) c before pass.1.0 is
 project_by reading h caller n c (OnChange m command) a answer before is =
     named_keeps (λ p. is_project h p ≡ true) (m == n) (change reading h n) (λ x. after (setting_of reading h x.project) command caller (length h + 1) x) c before (λ x. refl) is
-project_by reading h caller n c (Submit m) a answer before is = before c is
+project_by reading h caller n c _ a answer before is = before c is
 
 -- the project of a change is there, also after what was done
 pub project_stays : (reading : Reading) (h : List Entry) (caller n : ℕ) (c : Change) (command : Command) (reply : Reply) → IsDoneBy reading h caller command reply →
     ((x : Change) → change reading h n ≡ Some x → is_project h x.project ≡ true) → change_by reading h caller (if_done reply command) n (change reading h n) ≡ Some c → is_project h c.project ≡ true
 project_stays reading h caller n c command (Done a) answer before is = project_by reading h caller n c command a answer before is
-project_stays reading h caller n c command (Refused r) answer before is = before c is
-project_stays reading h caller n c command IdentityReused answer before is = before c is
-project_stays reading h caller n c command EpochClosed answer before is = before c is
-project_stays reading h caller n c command (NotTaken cause) answer before is = before c is
+project_stays reading h caller n c command _ answer before is = before c is
 
 pub has_project : (reading : Reading) (h : List Entry) (n : ℕ) (c : Change) → IsHistory h → Reads reading h → change reading h n ≡ Some c → is_project h c.project ≡ true
 has_project reading [] n c history reads is = absurd (cc)
@@ -173,13 +157,7 @@ votes_after reading h caller request (on.Review r) c pass was n l a =
     (was n l a)
 votes_after reading h caller request (on.RemoveReviewer u) c pass was n l a =
     either (file_of reading h c.project) l ((current c == n) && (u == a)) (pos 0) (c.vote n l a) (no_vote (file_of reading h c.project) l) (was n l a)
-votes_after reading h caller request (on.AddReviewer u role) c pass was n l a = was n l a
-votes_after reading h caller request on.SetWip c pass was n l a = was n l a
-votes_after reading h caller request on.SetReady c pass was n l a = was n l a
-votes_after reading h caller request on.Abandon c pass was n l a = was n l a
-votes_after reading h caller request on.Restore c pass was n l a = was n l a
-votes_after reading h caller request (on.AddAttention u reason) c pass was n l a = was n l a
-votes_after reading h caller request (on.RemoveAttention u reason) c pass was n l a = was n l a
+votes_after reading h caller request _ c pass was n l a = was n l a
 
 -- the votes of a change are by the file of its project after a history
 abbrev Stands : Reading → List Entry → Change → Type 0
@@ -198,10 +176,6 @@ made_stands P false o new c before here is = before c is
 -- a command that was done leaves votes on labels
 done_stands : (reading : Reading) (h : List Entry) (caller n : ℕ) (c : Change) (command : Command) (a : Answer) → IsAnswerBy reading h caller command (Done a) →
     ((x : Change) → change reading h n ≡ Some x → Stands reading h x) → change_by reading h caller (Some command) n (change reading h n) ≡ Some c → Stands reading h c
-done_stands reading h caller n c (CreateAccount name) a answer before is = before c is
-done_stands reading h caller n c (PutGroup group members) a answer before is = before c is
-done_stands reading h caller n c (PutProject project text) a answer before is = before c is
-done_stands reading h caller n c (RecordBase project branch commit) a answer before is = before c is
 done_stands reading h caller n c (CreateChange new) a answer before is =
     made_stands (Stands reading h) (change_count h + 1 == n) (change reading h n) (begun new caller (length h + 1)) c before (λ k l u. no_vote (file_of reading h new.project) l) is
 done_stands reading h caller n c (OnChange m command) a answer before is =
@@ -210,16 +184,12 @@ done_stands reading h caller n c (OnChange m command) a answer before is =
     let pass = checks_pass reading h caller (request_checks reading h caller command) (change reading h m) x (ap (change reading h) (eqb-true m n same) ∙ there) (done_passes reading h caller (OnChange m command) a answer) in
     votes_after reading h caller (length h + 1) command x pass stands)
     is
-done_stands reading h caller n c (Submit m) a answer before is = before c is
-done_stands reading h caller n c (CloseEpoch epoch) a answer before is = before c is
+done_stands reading h caller n c _ a answer before is = before c is
 
 step_stands : (reading : Reading) (h : List Entry) (caller n : ℕ) (c : Change) (command : Command) (reply : Reply) → IsDoneBy reading h caller command reply →
     ((x : Change) → change reading h n ≡ Some x → Stands reading h x) → change_by reading h caller (if_done reply command) n (change reading h n) ≡ Some c → Stands reading h c
 step_stands reading h caller n c command (Done a) answer before is = done_stands reading h caller n c command a answer before is
-step_stands reading h caller n c command (Refused r) answer before is = before c is
-step_stands reading h caller n c command IdentityReused answer before is = before c is
-step_stands reading h caller n c command EpochClosed answer before is = before c is
-step_stands reading h caller n c command (NotTaken cause) answer before is = before c is
+step_stands reading h caller n c command _ answer before is = before c is
 
 -- Each vote of a history is on a label of its project's effective file, with a value of it.
 pub votes_stand : OneFile → (reading : Reading) (h : List Entry) → IsHistory h → Reads reading h → (n : ℕ) (c : Change) → change reading h n ≡ Some c → Stands reading h c

@@ -6,7 +6,7 @@ use Rattle.review_words.specs.History.{Entry, is_account, is_admin, is_project, 
 use Rattle.review_words.specs.declared.command.Command.TheVariants.{PutProject}
 use Rattle.review_words.specs.declared.faults.FileFault.{FileFault, TheVariants.UnknownLabel}
 use Rattle.review_words.specs.declared.reply.{Answer.TheVariants.Nothing, NotTaken.NotTaken as Cause}
-use Rattle.review_words.specs.declared.reply.NotTaken.TheVariants.{Memory, Store, Damaged, Pattern, Full}
+use Rattle.review_words.specs.declared.reply.NotTaken.TheVariants.{Memory, Damaged, Pattern}
 use Rattle.review_words.specs.declared.reply.Refusal.{Refusal}
 use Rattle.review_words.specs.declared.reply.Refusal.TheVariants.{BadFile, LabelNarrowed, Limit, NoParent, ParentDepth, ParentFixed}
 use Rattle.review_words.specs.declared.reply.Reply.{Reply, TheVariants.Refused}
@@ -300,13 +300,12 @@ undecided : OneEffective → (caller : ℕ) (project text : List ℕ) (effective
     (cause : Cause) → IsUnread (texts_in rows p) cause → IsUndecided caller (PutProject project text) effective rows cause
 undecided one caller project text effective rows p spelled kept Memory is = tt
 undecided one caller project text effective rows p spelled kept Pattern is = inr (subst (λ q. SomePattern (texts_in rows q)) (sym (parent_same (own_in rows project) p (named_parent text) kept spelled)) is)
-undecided one caller project text effective rows p spelled kept Store is = absurd is
-undecided one caller project text effective rows p spelled kept Full is = absurd is
 undecided one caller project text effective rows p spelled kept Damaged is = λ reading h history l. by reading h l (texts_in rows p) refl is
   where
     by : (reading : Reading) (h : List Entry) → AreEnough reading h caller (OfCommand (PutProject project text)) effective rows → (texts : List (List ℕ)) → texts_in rows p ≡ texts → IsUnread texts Damaged → ⊥
     by reading h l [] same none = none
     by reading h l (t ∷ ts) same none = let read_so = parent_reads one reading h caller project text effective rows l p spelled kept t ts same in none read_so.0 read_so.1
+undecided one caller project text effective rows p spelled kept _ is = absurd is
 
 pub undecided_by : OneEffective → (caller : ℕ) (project text : List ℕ) (effective : Option File) (rows : Rows) (own : File) (result : Result (Delta × Reply) Cause) → IsRead text own →
     IfErr result (λ cause. (cause ≡ Memory) ⊎ ((keeps_parent (own_in rows project) own.parent ≡ true) × IsUnread (texts_in rows own.parent) cause)) → IfErr result (IsUndecided caller (PutProject project text) effective rows)
@@ -318,9 +317,7 @@ undecided_by one caller project text effective rows own (Err e) right x =
 unreadable : (caller : ℕ) (project text : List ℕ) (effective : Option File) (rows : Rows) (fault : ReadFault) (cause : Cause) → IsReadFault text fault → IsReadCause fault cause → IsUndecided caller (PutProject project text) effective rows cause
 unreadable caller project text effective rows fault Memory refused is = tt
 unreadable caller project text effective rows fault Pattern refused is = inl (subst (IsReadFault text) is refused)
-unreadable caller project text effective rows fault Store refused is = absurd is
-unreadable caller project text effective rows fault Damaged refused is = absurd is
-unreadable caller project text effective rows fault Full refused is = absurd is
+unreadable caller project text effective rows fault _ refused is = absurd is
 
 pub unreadable_by : (caller : ℕ) (project text : List ℕ) (effective : Option File) (rows : Rows) (fault : ReadFault) (result : Result (Delta × Reply) Cause) →
     IsReadFault text fault → IfErr result (IsReadCause fault) → IfErr result (IsUndecided caller (PutProject project text) effective rows)

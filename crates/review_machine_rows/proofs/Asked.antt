@@ -125,19 +125,13 @@ submit_known rows caller n none = (each_known rows (first_wants caller (OfComman
 
 -- once the change is known, what it asks stays
 same_wants : (rows more both : Rows) (caller : ℕ) (topic : Topic) → AreAdded rows more both → unknown rows (first_wants caller topic) ≡ [] → change_wants both topic ≡ change_wants rows topic
-same_wants rows more both caller (OfQuery (asked.Branch project branch)) added none = refl
 same_wants rows more both caller (OfQuery (asked.OnChange change query)) added none =
     ap (λ k. wants_by (question_wants query) (change_in k)) (known_stays rows more both (want.Change change) added (each_known rows (first_wants caller (OfQuery (asked.OnChange change query))) none).1.0)
-same_wants rows more both caller (OfCommand (CreateAccount name)) added none = refl
-same_wants rows more both caller (OfCommand (PutGroup group members)) added none = refl
-same_wants rows more both caller (OfCommand (PutProject project text)) added none = refl
-same_wants rows more both caller (OfCommand (RecordBase project branch commit)) added none = refl
-same_wants rows more both caller (OfCommand (CloseEpoch epoch)) added none = refl
-same_wants rows more both caller (OfCommand (CreateChange new)) added none = refl
 same_wants rows more both caller (OfCommand (Submit change)) added none =
     ap (λ k. wants_by submit_wants (change_in k)) (known_stays rows more both (want.Change change) added (submit_known rows caller change none))
 same_wants rows more both caller (OfCommand (OnChange change command)) added none =
     ap (λ k. wants_by (request_wants command) (change_in k)) (known_stays rows more both (want.Change change) added (each_known rows (first_wants caller (OfCommand (OnChange change command))) none).1.1.1.0)
+same_wants rows more both caller _ added none = refl
 
 -- steps of which each is the same in both where those before it were made
 abbrev pub AreSteps : Rows → List (List Want) → List (List Want) → Type 0
@@ -281,14 +275,6 @@ chain_lowers rows more both n c w ws added all is = rw is (by_next (unknown both
 -- what is asked last is asked for a submit
 last_lowers : (rows more both : Rows) (topic : Topic) (w : Want) (ws : List Want) → AreAdded rows more both → AllByRecursion (IsKnown more) (w ∷ ws) →
     ((n : ℕ) → topic ≡ OfCommand (Submit n) → IsKnown rows (want.Change n)) → last_wants rows topic ≡ w ∷ ws → left_if (last_wants both topic) (last_of both topic) < left_if (last_wants rows topic) (last_of rows topic)
-last_lowers rows more both (OfQuery query) w ws added all there is = absurd (let f : [] ≡ w ∷ ws = is in cc)
-last_lowers rows more both (OfCommand (CreateAccount name)) w ws added all there is = absurd (let f : [] ≡ w ∷ ws = is in cc)
-last_lowers rows more both (OfCommand (PutGroup group members)) w ws added all there is = absurd (let f : [] ≡ w ∷ ws = is in cc)
-last_lowers rows more both (OfCommand (PutProject project text)) w ws added all there is = absurd (let f : [] ≡ w ∷ ws = is in cc)
-last_lowers rows more both (OfCommand (RecordBase project branch commit)) w ws added all there is = absurd (let f : [] ≡ w ∷ ws = is in cc)
-last_lowers rows more both (OfCommand (CloseEpoch epoch)) w ws added all there is = absurd (let f : [] ≡ w ∷ ws = is in cc)
-last_lowers rows more both (OfCommand (CreateChange new)) w ws added all there is = absurd (let f : [] ≡ w ∷ ws = is in cc)
-last_lowers rows more both (OfCommand (OnChange change command)) w ws added all there is = absurd (let f : [] ≡ w ∷ ws = is in cc)
 last_lowers rows more both (OfCommand (Submit n)) w ws added all there is =
     rw (ap change_in (known_stays rows more both (want.Change n) added (there n refl))) (by_change (change_in (known rows (want.Change n))) is)
   where
@@ -296,6 +282,7 @@ last_lowers rows more both (OfCommand (Submit n)) w ws added all there is =
         left_if (unknown both (wants_by (chain_wants both n) o)) (chain_left both n o) < left_if (unknown rows (wants_by (chain_wants rows n) o)) (chain_left rows n o)
     by_change None f = absurd (let g : [] ≡ w ∷ ws = f in cc)
     by_change (Some c) f = chain_lowers rows more both n c w ws added all f
+last_lowers rows more both _ w ws added all there is = absurd (let f : [] ≡ w ∷ ws = is in cc)
 
 -- where nothing is left of the steps, no step is left, in what is known later too
 none_stays : (rows more both : Rows) → AreAdded rows more both → (xs ys : List (List Want)) → AreSteps rows xs ys → next_of rows xs ≡ [] → (left_of rows xs ≡ 0) × (left_of both ys ≡ 0)
@@ -377,22 +364,18 @@ given_asked rows (g ∷ gs) project all some = all.0
 
 -- a request that is judged by the project's file asks for it
 judged_asked : (rows : Rows) (command : ChangeCommand) (c : Change) → AllByRecursion (IsKnown rows) (request_wants command c) → needs_file command ≡ true → IsKnown rows (want.File c.project)
-judged_asked rows (on.Upload patch) c all is = all.0
 judged_asked rows (on.Review review) c all is = given_asked rows review.labels c.project all is
-judged_asked rows on.Abandon c all is = all.0
-judged_asked rows on.Restore c all is = all.0
 judged_asked rows (on.AddReviewer account role) c all is = absurd (let none : false ≡ true = is in cc)
 judged_asked rows (on.RemoveReviewer account) c all is = absurd (let none : false ≡ true = is in cc)
 judged_asked rows on.SetWip c all is = absurd (let none : false ≡ true = is in cc)
 judged_asked rows on.SetReady c all is = absurd (let none : false ≡ true = is in cc)
 judged_asked rows (on.AddAttention account reason) c all is = absurd (let none : false ≡ true = is in cc)
 judged_asked rows (on.RemoveAttention account reason) c all is = absurd (let none : false ≡ true = is in cc)
+judged_asked rows _ c all is = all.0
 
 answered_asked : (rows : Rows) (query : ChangeQuery) (c : Change) → AllByRecursion (IsKnown rows) (question_wants query c) → asks_file query ≡ true → IsKnown rows (want.File c.project)
 answered_asked rows shown.Requirements c all is = all.0
-answered_asked rows shown.Change c all is = absurd (let none : false ≡ true = is in cc)
-answered_asked rows shown.Threads c all is = absurd (let none : false ≡ true = is in cc)
-answered_asked rows shown.Attention c all is = absurd (let none : false ≡ true = is in cc)
+answered_asked rows _ c all is = absurd (let none : false ≡ true = is in cc)
 
 -- what is asked by a change that is found
 by_found : (rows : Rows) (each : Change → List Want) (o : Option Change) (c : Change) → o ≡ Some c → AllByRecursion (IsKnown rows) (wants_by each o) → AllByRecursion (IsKnown rows) (each c)
@@ -401,18 +384,13 @@ by_found rows each o c is all = subst (λ x. AllByRecursion (IsKnown rows) (want
 -- the first parent that is asked for stays, once all is known that is asked before
 parents_stay : (rows more both : Rows) (caller : ℕ) (topic : Topic) → AreAdded rows more both → unknown rows (first_wants caller topic) ≡ [] → unknown rows (change_wants rows topic) ≡ [] →
     parent_of both topic ≡ parent_of rows topic
-parents_stay rows more both caller (OfQuery (asked.Branch project branch)) added first then = refl
 parents_stay rows more both caller (OfQuery (asked.OnChange n query)) added first then =
     let found = change_in (known rows (want.Change n)) in
     ap (λ k. option_and_then (known_parent both) (project_for (asks_file query) (change_in k))) (known_stays rows more both (want.Change n) added (each_known rows (first_wants caller (OfQuery (asked.OnChange n query))) first).1.0)
     ∙ judged_stays rows more both (asks_file query) found added
     (λ c is judged. answered_asked rows query c (by_found rows (question_wants query) found c is (each_known rows (change_wants rows (OfQuery (asked.OnChange n query))) then)) judged)
-parents_stay rows more both caller (OfCommand (CreateAccount name)) added first then = refl
-parents_stay rows more both caller (OfCommand (PutGroup group members)) added first then = refl
 parents_stay rows more both caller (OfCommand (PutProject project text)) added first then =
     ap (parent_or (named_parent text)) (own_stays rows more both project added (each_known rows (first_wants caller (OfCommand (PutProject project text))) first).1.1.1.0)
-parents_stay rows more both caller (OfCommand (RecordBase project branch commit)) added first then = refl
-parents_stay rows more both caller (OfCommand (CloseEpoch epoch)) added first then = refl
 parents_stay rows more both caller (OfCommand (CreateChange new)) added first then =
     parent_stays rows more both new.project added (each_known rows (first_wants caller (OfCommand (CreateChange new))) first).1.1.1.1.1.0
 parents_stay rows more both caller (OfCommand (OnChange n command)) added first then =
@@ -425,6 +403,7 @@ parents_stay rows more both caller (OfCommand (Submit n)) added first then =
     ap (λ k. option_and_then (known_parent both) (project_for true (change_in k))) (known_stays rows more both (want.Change n) added (submit_known rows caller n first))
     ∙ judged_stays rows more both true found added
     (λ c is judged. (by_found rows submit_wants found c is (each_known rows (change_wants rows (OfCommand (Submit n))) then)).0)
+parents_stay rows more both caller _ added first then = refl
 
 -- a step asks the same where more is known, once those before it were made
 steps_stay : (file : Option File) (rows more both : Rows) (caller : ℕ) (topic : Topic) → AreAdded rows more both → AreSteps rows (steps file rows caller topic) (steps file both caller topic)

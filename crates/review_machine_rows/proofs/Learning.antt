@@ -1,13 +1,11 @@
 -- Rows that learn what a look-up finds.
 use denote.Enum.Declared.{values_one}
-use Rattle.std.proofs.Common.{◌≡◌, ◌⊎◌, ℕ, List, [], ◌∷◌, Option, Some, None, Bool, true, false, cond, refl, sym, ap, ◌∙◌, inl, inr, ⊎_elim}
-use Rattle.std.proofs.lemmas.Bool.{cases_Bool}
-use Rattle.std.proofs.lemmas.Cmp.{then_total, on_total, nat_cmp_total, nat_list_cmp_total, tied_itself}
+use Rattle.std.proofs.Common.{◌≡◌, ◌⊎◌, ℕ, List, Option, Some, None, true, false, cond, refl, sym, ap, ◌∙◌, inl, inr, ⊎_elim}
+use Rattle.std.proofs.lemmas.{Bool.cases_Bool, Cmp.then_total, Cmp.on_total, Cmp.nat_list_cmp_total, Cmp.tied_itself}
 use Rattle.std.proofs.lemmas.Map.Lookups.{CmpEqualImpliesEq, exact_unsigned, exact_bytes}
-use Rattle.std.proofs.lemmas.Map.Views.{tells_apart}
-use Rattle.std.specs.{BTreeMap.is_at, Cmp.IsTotalOrder, Cmp.Lexicographic.slice_cmp}
-use Rattle.std.specs.{Ordering.nat_cmp, Ordering.ordering_then, Ordering.is_eq, Prelude.option_map}
-use Rattle.std.specs.declared.cmp.Ordering.{Ordering, TheVariants.Less, TheVariants.Equal, TheVariants.Greater}
+use Rattle.std.{proofs.lemmas.Map.Views.tells_apart, specs.BTreeMap.is_at, specs.Cmp.IsTotalOrder}
+use Rattle.std.specs.{Cmp.Lexicographic.slice_cmp, Ordering.nat_cmp, Ordering.ordering_then, Ordering.is_eq}
+use Rattle.std.specs.{Prelude.option_map, declared.cmp.Ordering.Ordering, declared.cmp.Ordering.TheVariants.Equal}
 use Rattle.review_table.proofs.Places.{both_equal, exact_by_parts, by_exact}
 use Rattle.review_table.specs.Rows.{row_in, rows_of}
 use Rattle.review_machine_rows.specs.Known.{Found, Members, known, known_by, group_of, held, meaning, want_cmp, Learns}

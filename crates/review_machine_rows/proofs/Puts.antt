@@ -4,7 +4,7 @@ use Rattle.std.proofs.lemmas.Cmp.{then_total, on_total, nat_cmp_total, nat_list_
 use Rattle.std.proofs.lemmas.Map.Lookups.{CmpEqualImpliesEq, exact_unsigned, exact_bytes}
 use Rattle.std.{proofs.lemmas.Map.Text.is_eq-slice_cmp, specs.BTreeMap.is_at}
 use Rattle.std.specs.{Cmp.unsigned_tied, Cmp.IsTotalOrder, Cmp.Lexicographic.slice_cmp, Ordering.ordering_then}
-use Rattle.std.specs.declared.cmp.Ordering.{Ordering, TheVariants.Less, TheVariants.Equal, TheVariants.Greater}
+use Rattle.std.specs.declared.cmp.Ordering.{Ordering, TheVariants.Less, TheVariants.Equal}
 use Rattle.review_machine_rows.specs.Rows.{Key, FileKey, BaseKey, Row, FileRow, BaseRow, Projects, BasesOf, place_cmp, after, after_put, count_after, count_put}
 use Rattle.review_machine_rows.specs.declared.rows.{Delta.Delta, PlaceKey.PlaceKey}
 
@@ -12,13 +12,11 @@ use Rattle.review_machine_rows.specs.declared.rows.{Delta.Delta, PlaceKey.PlaceK
 
 pub both_equal : (a b : Ordering) → ordering_then a b ≡ Equal → (a ≡ Equal) × (b ≡ Equal)
 both_equal Equal b e = (refl, e)
-both_equal Less b e = absurd (cc)
-both_equal Greater b e = absurd (cc)
+both_equal _ b e = absurd (cc)
 
 pub is_eq-then : (a b : Ordering) → is_eq (ordering_then a b) ≡ (is_eq a && is_eq b)
 is_eq-then Less b = refl
-is_eq-then Equal b = refl
-is_eq-then Greater b = refl
+is_eq-then _ b = refl
 
 -- a place, asked by its parts
 pub at_place_of : (k : PlaceKey) (p b : List ℕ) (n : ℕ) → is_at (place_cmp k) (record { project = p; branch = b; place = n }) ≡ (bytes_eq k.project p && (bytes_eq k.branch b && (k.place == n)))

@@ -2,15 +2,13 @@
 use Rattle.std.proofs.Common.{◌≡◌, ℕ, List, [], ◌∷◌, Option, Some, None, Bool, true, false, refl, arith, MatchOption, nat_le, nat_lt, ◌⊎◌, inl, inr, ◌∙◌, cond, sym, ap, subst, ⊎_elim, MatchBool, ◌&&◌, bytes_eq}
 use Rattle.std.proofs.lemmas.{Bool.cases_Bool, Bool.Decides.nat_tests, Slice.Eq.bytes_eq-Decides}
 use Rattle.review_words.specs.History.{Entry, is_closed, least_open, raised, accepted, if_done, Asking, asking_of, file_text, text_put}
-use Rattle.review_words.specs.declared.{changes.NewPatch.NewPatch, command.ChangeCommand.ChangeCommand}
-use Rattle.review_words.specs.declared.command.ChangeCommand.TheVariants.{Upload, Review, AddReviewer, RemoveReviewer, SetWip, SetReady, Abandon, Restore, AddAttention, RemoveAttention}
-use Rattle.review_words.specs.declared.command.Command.{Command}
-use Rattle.review_words.specs.declared.command.Command.TheVariants.{CreateAccount, PutGroup, PutProject, RecordBase, CreateChange, OnChange, Submit, CloseEpoch}
+use Rattle.review_words.specs.declared.changes.NewPatch.{NewPatch}
+use Rattle.review_words.specs.declared.command.ChangeCommand.{ChangeCommand, TheVariants.Upload}
+use Rattle.review_words.specs.declared.command.Command.{Command, TheVariants.PutProject, TheVariants.CloseEpoch}
 use Rattle.review_words.specs.declared.faults.FileFault.TheVariants.{UnknownKey}
 use Rattle.review_words.specs.declared.reply.{Answer.Answer, Answer.TheVariants.Nothing, Refusal.Refusal}
 use Rattle.review_words.specs.declared.reply.Refusal.TheVariants.{EpochAhead, SameState, BadFile}
-use Rattle.review_words.specs.declared.reply.Reply.{Reply}
-use Rattle.review_words.specs.declared.reply.Reply.TheVariants.{Done, Refused, IdentityReused, EpochClosed, NotTaken}
+use Rattle.review_words.specs.declared.reply.Reply.{Reply, TheVariants.Done, TheVariants.Refused}
 use Rattle.review_file_rules.specs.Inherited.{no_file}
 use Rattle.review_machine_rows.specs.Answer.{IsAnswerBy, IsAnswerAt, epoch_checks, first_refusal, refused_by, refused_or, IsRequestOutcome, done_on, IsAnswer, IsAnswerIn, IsAnswerWithoutParents, IsHistory, IsFaultAnswer, IsFileAnswer, puts_parent}
 use Rattle.review_machine_rows.specs.Changes.{Reading, change, Reads, IsReadRight}
@@ -29,18 +27,9 @@ closing_done None (Some r) a is = absurd (cc)
 closing_done (Some r) p a is = is
 
 pub done_by : (reading : Reading) (h : List Entry) (caller epoch : ℕ) (command : Command) (reply : Reply) → IsAnswerAt reading h caller epoch command reply → IsDoneBy reading h caller command reply
-done_by reading h caller epoch command (Refused r) is = tt
-done_by reading h caller epoch command IdentityReused is = tt
-done_by reading h caller epoch command EpochClosed is = tt
-done_by reading h caller epoch command (NotTaken cause) is = tt
-done_by reading h caller epoch (CreateAccount name) (Done a) is = is
-done_by reading h caller epoch (PutGroup group members) (Done a) is = is
-done_by reading h caller epoch (PutProject project file) (Done a) is = is
-done_by reading h caller epoch (RecordBase project branch commit) (Done a) is = is
-done_by reading h caller epoch (CreateChange new) (Done a) is = is
-done_by reading h caller epoch (OnChange n command) (Done a) is = is
-done_by reading h caller epoch (Submit n) (Done a) is = is
 done_by reading h caller epoch (CloseEpoch least) (Done a) is = closing_done (refused_by reading h caller (CloseEpoch least)) (first_refusal (epoch_checks h epoch least)) a is
+done_by reading h caller epoch _ (Done a) is = is
+done_by reading h caller epoch command _ is = tt
 
 -- the checks of an accepted CloseEpoch
 passed : (b c : Bool) (a : Answer) (o : Option Refusal) →
@@ -57,15 +46,8 @@ closes_below reading h caller epoch least a is = passed (nat_le least epoch) (na
 
 -- an epoch that is closed stays so
 raised_more : (o : Option Command) (n epoch : ℕ) → nat_lt epoch n ≡ true → nat_lt epoch (raised o n) ≡ true
-raised_more None n epoch closed = closed
-raised_more (Some (CreateAccount name)) n epoch closed = closed
-raised_more (Some (PutGroup group members)) n epoch closed = closed
-raised_more (Some (PutProject project file)) n epoch closed = closed
-raised_more (Some (RecordBase project branch commit)) n epoch closed = closed
-raised_more (Some (CreateChange new)) n epoch closed = closed
-raised_more (Some (OnChange c command)) n epoch closed = closed
-raised_more (Some (Submit c)) n epoch closed = closed
 raised_more (Some (CloseEpoch least)) n epoch closed = grind (arith, nat_tests, closed)
+raised_more _ n epoch closed = closed
 
 pub closed_stays : (e : Entry) (h : List Entry) (epoch : ℕ) → is_closed h epoch ≡ true → is_closed (e ∷ h) epoch ≡ true
 closed_stays e h epoch closed = raised_more (accepted e) (least_open h) epoch closed
@@ -81,18 +63,9 @@ open_before e h epoch opened = at (is_closed h epoch) refl
 -- a request leaves its own epoch open
 pub own_open : (reading : Reading) (h : List Entry) (caller epoch : ℕ) (command : Command) (reply : Reply) → IsAnswerAt reading h caller epoch command reply → is_closed h epoch ≡ false →
     nat_lt epoch (raised (if_done reply command) (least_open h)) ≡ false
-own_open reading h caller epoch command (Refused r) is opened = opened
-own_open reading h caller epoch command IdentityReused is opened = opened
-own_open reading h caller epoch command EpochClosed is opened = opened
-own_open reading h caller epoch command (NotTaken cause) is opened = opened
-own_open reading h caller epoch (CreateAccount name) (Done a) is opened = opened
-own_open reading h caller epoch (PutGroup group members) (Done a) is opened = opened
-own_open reading h caller epoch (PutProject project file) (Done a) is opened = opened
-own_open reading h caller epoch (RecordBase project branch commit) (Done a) is opened = opened
-own_open reading h caller epoch (CreateChange new) (Done a) is opened = opened
-own_open reading h caller epoch (OnChange n command) (Done a) is opened = opened
-own_open reading h caller epoch (Submit n) (Done a) is opened = opened
 own_open reading h caller epoch (CloseEpoch least) (Done a) is opened = let p = closes_below reading h caller epoch least a is in grind (arith, nat_tests, p.0, p.1)
+own_open reading h caller epoch _ (Done a) is opened = opened
+own_open reading h caller epoch command _ is opened = opened
 
 -- ==== what a request on a change is told that no check refuses
 
@@ -103,15 +76,7 @@ IsToldDone command = (reading : Reading) (h : List Entry) (caller n : ℕ) (repl
 -- a request sends a patch set, or is told that it is done
 pub sent_or_done : (command : ChangeCommand) → ((patch : NewPatch) × (command ≡ Upload patch)) ⊎ IsToldDone command
 sent_or_done (Upload patch) = inl (patch, refl)
-sent_or_done (Review review) = inr (λ reading h caller n reply is. is)
-sent_or_done (AddReviewer account role) = inr (λ reading h caller n reply is. is)
-sent_or_done (RemoveReviewer account) = inr (λ reading h caller n reply is. is)
-sent_or_done SetWip = inr (λ reading h caller n reply is. is)
-sent_or_done SetReady = inr (λ reading h caller n reply is. is)
-sent_or_done Abandon = inr (λ reading h caller n reply is. is)
-sent_or_done Restore = inr (λ reading h caller n reply is. is)
-sent_or_done (AddAttention account reason) = inr (λ reading h caller n reply is. is)
-sent_or_done (RemoveAttention account reason) = inr (λ reading h caller n reply is. is)
+sent_or_done _ = inr (λ reading h caller n reply is. is)
 
 -- ==== what is read of the texts that a history puts
 
@@ -128,15 +93,8 @@ read_with reading text file is t either =
     (cases_Bool (bytes_eq t text))
 
 right_with : (reading : Reading) (text : List ℕ) (file : File) → IsRead text file → (c : Option Command) → IsReadRight reading c → IsReadRight (reading_with reading text file) c
-right_with reading text file is None right = tt
-right_with reading text file is (Some (CreateAccount name)) right = tt
-right_with reading text file is (Some (PutGroup group members)) right = tt
 right_with reading text file is (Some (PutProject project t)) right = read_with reading text file is t (inr right)
-right_with reading text file is (Some (RecordBase project branch commit)) right = tt
-right_with reading text file is (Some (CloseEpoch epoch)) right = tt
-right_with reading text file is (Some (CreateChange new)) right = tt
-right_with reading text file is (Some (OnChange n command)) right = tt
-right_with reading text file is (Some (Submit n)) right = tt
+right_with reading text file is _ right = tt
 
 reads_with : (reading : Reading) (text : List ℕ) (file : File) → IsRead text file → (h : List Entry) → Reads reading h → Reads (reading_with reading text file) h
 reads_with reading text file is [] reads = tt
@@ -165,10 +123,7 @@ done_whenever false h caller epoch command a answer reading reads = done_by read
 
 done_in : (h : List Entry) (asking : Asking) (command : Command) (reply : Reply) → IsAnswerIn h asking command reply → (reading : Reading) → Reads reading h → IsDoneBy reading h asking.caller command reply
 done_in h asking command (Done a) answer reading reads = done_whenever (nat_lt asking.version 2 && puts_parent command) h asking.caller asking.epoch command a answer reading reads
-done_in h asking command (Refused r) answer reading reads = tt
-done_in h asking command IdentityReused answer reading reads = tt
-done_in h asking command EpochClosed answer reading reads = tt
-done_in h asking command (NotTaken cause) answer reading reads = tt
+done_in h asking command _ answer reading reads = tt
 
 pub done_of : (e : Entry) (h : List Entry) → IsHistory (e ∷ h) → (reading : Reading) → Reads reading h → IsDoneBy reading h e.identity.caller e.command e.reply
 done_of e h history reading reads = done_in h (asking_of e) e.command e.reply history.1 reading reads
@@ -176,20 +131,11 @@ done_of e h history reading reads = done_in h (asking_of e) e.command e.reply hi
 -- the reading of one entry more
 reading_of_one : (h : List Entry) (reading : Reading) → Reads reading h → (caller : ℕ) (command : Command) (reply : Reply) → IsDoneBy reading h caller command reply →
     (more : Reading) × IsReadRight more (if_done reply command) × Reads more h
-reading_of_one h reading reads caller command (Refused r) answer = (reading, tt, reads)
-reading_of_one h reading reads caller command IdentityReused answer = (reading, tt, reads)
-reading_of_one h reading reads caller command EpochClosed answer = (reading, tt, reads)
-reading_of_one h reading reads caller command (NotTaken cause) answer = (reading, tt, reads)
-reading_of_one h reading reads caller (CreateAccount name) (Done a) answer = (reading, tt, reads)
-reading_of_one h reading reads caller (PutGroup group members) (Done a) answer = (reading, tt, reads)
 reading_of_one h reading reads caller (PutProject project text) (Done a) answer =
     let put = put_file reading h caller project text a answer in
     (reading_with reading text put.0, read_with reading text put.0 put.1 text (inl ((bytes_eq-Decides text text).1 refl)), reads_with reading text put.0 put.1 h reads)
-reading_of_one h reading reads caller (RecordBase project branch commit) (Done a) answer = (reading, tt, reads)
-reading_of_one h reading reads caller (CloseEpoch epoch) (Done a) answer = (reading, tt, reads)
-reading_of_one h reading reads caller (CreateChange new) (Done a) answer = (reading, tt, reads)
-reading_of_one h reading reads caller (OnChange n request) (Done a) answer = (reading, tt, reads)
-reading_of_one h reading reads caller (Submit n) (Done a) answer = (reading, tt, reads)
+reading_of_one h reading reads caller _ (Done a) answer = (reading, tt, reads)
+reading_of_one h reading reads caller command _ answer = (reading, tt, reads)
 
 -- each history has a reading
 pub reading_of : (h : List Entry) → IsHistory h → (reading : Reading) × Reads reading h
@@ -206,19 +152,12 @@ put_before false given text before is = inr is
 
 read_by : (reading : Reading) (o : Option Command) (project text : List ℕ) (before : Option (List ℕ)) → IsReadRight reading o → (before ≡ Some text → IsRead text (reading text)) →
     text_put o project before ≡ Some text → IsRead text (reading text)
-read_by reading None project text before right later is = later is
-read_by reading (Some (CreateAccount name)) project text before right later is = later is
-read_by reading (Some (PutGroup group members)) project text before right later is = later is
 read_by reading (Some (PutProject given put)) project text before right later is =
     ⊎_elim
     (λ (here : (bytes_eq given project ≡ true) × (put ≡ text)). subst (λ t. IsRead t (reading t)) here.1 right)
     (λ (there : before ≡ Some text). later there)
     (put_before (bytes_eq given project) put text before is)
-read_by reading (Some (RecordBase in_project branch commit)) project text before right later is = later is
-read_by reading (Some (CloseEpoch epoch)) project text before right later is = later is
-read_by reading (Some (CreateChange new)) project text before right later is = later is
-read_by reading (Some (OnChange n command)) project text before right later is = later is
-read_by reading (Some (Submit n)) project text before right later is = later is
+read_by reading _ project text before right later is = later is
 
 -- the text of a project's file is read right
 pub read_of : (reading : Reading) (h : List Entry) (project text : List ℕ) → Reads reading h → file_text h project ≡ Some text → IsRead text (reading text)

@@ -6,7 +6,7 @@ use Rattle.review_table.specs.Rows.{NamesOnce, after_row_edit, row_edit_of}
 use Rattle.review_words.specs.History.{Entry, entry_of, base_count, project_count, least_open, is_account}
 use Rattle.review_words.specs.declared.command.Command.TheVariants.{Submit}
 use Rattle.review_words.specs.declared.reply.{Answer.TheVariants.Submitted, NotTaken.NotTaken as Cause}
-use Rattle.review_words.specs.declared.reply.NotTaken.TheVariants.{Memory, Store, Damaged, Pattern, Full}
+use Rattle.review_words.specs.declared.reply.NotTaken.TheVariants.{Memory, Damaged, Pattern}
 use Rattle.review_words.specs.declared.reply.Refusal.{Refusal}
 use Rattle.review_words.specs.declared.reply.Refusal.TheVariants.{UnknownCaller, NoChange, NotAllowed, Closed, WorkInProgress, RequirementUnsatisfied}
 use Rattle.review_words.specs.declared.reply.Reply.{Reply, TheVariants.Refused, TheVariants.Done}
@@ -17,7 +17,7 @@ use Rattle.review_chain.specs.Branches.{Branch, IsWhole}
 use Rattle.review_chain.specs.{Parts.IsPart, Parts.IsWanted, Parts.Want as ChainWant, Places.places_from}
 use Rattle.review_chain.specs.{Steps.IsFault, Steps.Wants, Steps.wanted, Walks.IsChain, Walks.IsReady}
 use Rattle.review_chain.specs.declared.{links.Link.Link, walks.ChainFault.ChainFault}
-use Rattle.review_chain.specs.declared.walks.ChainFault.TheVariants.{Outdated, Abandoned, Wip, TooLong, Broken, Unknown, Memory as OutOfMemory}
+use Rattle.review_chain.specs.declared.walks.ChainFault.TheVariants.{Outdated, Abandoned, Wip, TooLong, Broken}
 use Rattle.review_file_rules.specs.Trees.{file_trees}
 use Rattle.review_core_rules.specs.Change.{Change, joined_at, Setting, is_open}
 use Rattle.review_core_rules.specs.Facts.{AreStanding, IsFirstUnsatisfied, unsatisfied_in}
@@ -135,9 +135,7 @@ bad_link b n Outdated refusal reply is named told = record { walk = is.0; fault 
 bad_link b n Abandoned refusal reply is named told = record { walk = is.0; fault = Abandoned; bad = is.1; refusal = refusal; named = named; reply_is = told }
 bad_link b n Wip refusal reply is named told = record { walk = is.0; fault = Wip; bad = is.1; refusal = refusal; named = named; reply_is = told }
 bad_link b n TooLong refusal reply is named told = record { walk = is.0; fault = TooLong; bad = is.1; refusal = refusal; named = named; reply_is = told }
-bad_link b n Broken refusal reply is named told = absurd (cc)
-bad_link b n Unknown refusal reply is named told = absurd (cc)
-bad_link b n OutOfMemory refusal reply is named told = absurd (cc)
+bad_link b n _ refusal reply is named told = absurd (cc)
 
 -- ==== what a submit of a chain makes of the rows
 
@@ -400,9 +398,7 @@ wanted_left law reading h caller n effective rows c w history found opened ready
 pub unchained_undecided : ChangesAreSound → BranchesAreWhole → RowsKnowBranches → WantedIsUnmade → (caller n : ℕ) (effective : Option File) (rows : Rows) (c : Change) → change_at rows n ≡ Some c → is_open c.state ≡ true → c.wip ≡ false →
     (e : Cause) → IsUnchained rows n c e → IsUndecided caller (Submit n) effective rows e
 unchained_undecided sound whole part unmade caller n effective rows c found opened ready Memory is = tt
-unchained_undecided sound whole part unmade caller n effective rows c found opened ready Store is = is
 unchained_undecided sound whole part unmade caller n effective rows c found opened ready Pattern is = absurd is
-unchained_undecided sound whole part unmade caller n effective rows c found opened ready Full is = is
 unchained_undecided sound whole part unmade caller n effective rows c found opened ready Damaged is = λ reading h history l. by reading h history l is
   where
     unlinked : (reading : Reading) (h : List Entry) → IsHistory h → AreEnough reading h caller (OfCommand (Submit n)) effective rows → IsUnlinked rows n c → ⊥
@@ -410,6 +406,7 @@ unchained_undecided sound whole part unmade caller n effective rows c found open
         whole_sound (branch_after reading h c.project c.branch) walk n Broken (whole reading h c.project c.branch history l.reads)
         (bad_kept (links_in rows c.project c.branch) (branch_after reading h c.project c.branch) walk n Broken (part reading h rows c.project c.branch history l.reads l.agree) bad) refl
     unlinked reading h history l (inr (walk, w, is)) = wanted_left unmade reading h caller n effective rows c w history found opened ready l (wanted_is (links_in rows c.project c.branch) walk n w is)
+unchained_undecided sound whole part unmade caller n effective rows c found opened ready _ is = is
 
     by : (reading : Reading) (h : List Entry) → IsHistory h → AreEnough reading h caller (OfCommand (Submit n)) effective rows → HasUnsound rows ⊎ IsUnlinked rows n c → ⊥
     by reading h history l (inl (k, x, there, unsound)) = unsound (sound reading h k x history l.reads (change_known reading h rows k x l.agree there))

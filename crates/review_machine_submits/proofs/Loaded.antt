@@ -7,8 +7,7 @@ use Rattle.review_names.specs.{Forms.is_within, Forms.most_patches, Groups.Group
 use Rattle.review_table.specs.Rows.{row_in, rows_of}
 use Rattle.review_words.specs.History.{Entry, is_project, is_account, is_branch, bases}
 use Rattle.review_words.specs.declared.changes.Role.{Role, TheVariants.Reviewer, TheVariants.Cc}
-use Rattle.review_words.specs.declared.command.ChangeQuery.{ChangeQuery}
-use Rattle.review_words.specs.declared.command.ChangeQuery.TheVariants.{Change as TheChange, Requirements, Threads, Attention}
+use Rattle.review_words.specs.declared.command.ChangeQuery.{ChangeQuery, TheVariants.Requirements}
 use Rattle.review_words.specs.declared.{command.Query.TheVariants.OnChange, reply.Answer.Answer}
 use Rattle.review_words.specs.declared.reply.NotTaken.{NotTaken as Cause, TheVariants.Damaged, TheVariants.Memory}
 use Rattle.review_words.specs.declared.reply.Refusal.{Refusal}
@@ -108,13 +107,8 @@ lacks_file : (caller n : ℕ) (query : ChangeQuery) (effective : Option File) (r
 lacks_file caller n Requirements None rows c found lacks reading h history l =
     some_texts h c.project (has_project reading h n c history l.reads (sym (change_told reading h caller n Requirements None rows l) ∙ found))
     (no_text (texts_of h c.project) (has_file reading h caller n None rows c found l))
-lacks_file caller n Requirements (Some f) rows c found lacks reading h history l = lacks
-lacks_file caller n TheChange None rows c found lacks reading h history l = lacks
-lacks_file caller n TheChange (Some f) rows c found lacks reading h history l = lacks
-lacks_file caller n Threads None rows c found lacks reading h history l = lacks
-lacks_file caller n Threads (Some f) rows c found lacks reading h history l = lacks
-lacks_file caller n Attention None rows c found lacks reading h history l = lacks
-lacks_file caller n Attention (Some f) rows c found lacks reading h history l = lacks
+lacks_file caller n _ (Some f) rows c found lacks reading h history l = lacks
+lacks_file caller n _ None rows c found lacks reading h history l = lacks
 
 pub missing_unshown : (caller n : ℕ) (query : ChangeQuery) (effective : Option File) (rows : Rows) (c : Change) (e : Cause) → change_in (known rows (want.Change n)) ≡ Some c →
     (e ≡ Memory) ⊎ ((e ≡ Damaged) × LacksFile effective query) → IsUnshown caller (asked.OnChange n query) effective rows e
@@ -396,12 +390,10 @@ told_there reading h caller n query c told account there is =
 told_of : OneFile → GroupsSuffice → (reading : Reading) (h : List Entry) (caller n : ℕ) (query : ChangeQuery) (effective : Option File) (rows : Rows) (c : Change) (told : Answer) → change_in (known rows (want.Change n)) ≡ Some c →
     AreEnough reading h caller (OfQuery (OnChange n query)) effective rows → IsToldBy effective rows.groups n query c told → IsToldOf (setting_of reading h c.project) n query c told
 told_of one law reading h caller n query None rows c told found l is = is (setting_of reading h c.project)
-told_of one law reading h caller n TheChange (Some f) rows c told found l is = is
-told_of one law reading h caller n Threads (Some f) rows c told found l is = is
-told_of one law reading h caller n Attention (Some f) rows c told found l is = is
 told_of one law reading h caller n Requirements (Some f) rows c told found l is =
     let trees = same_trees one reading h c.project f l.reads (has_file reading h caller n (Some f) rows c found l) in
     (is.0, standing_told law reading h rows f c is.0 l.agree trees (file_asked (Some f) rows caller (OfQuery (OnChange n Requirements)) l.nothing_left) is.1, is.2)
+told_of one law reading h caller n _ (Some f) rows c told found l is = is
 
 -- the answer that is told of the change that was loaded
 pub answered : OneFile → GroupsSuffice → (reading : Reading) (h : List Entry) (caller n : ℕ) (query : ChangeQuery) (effective : Option File) (rows : Rows) (c : Change) (told : Answer) → is_account h caller ≡ true →

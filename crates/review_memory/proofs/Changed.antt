@@ -4,7 +4,7 @@ use Rattle.review_words.specs.declared.shown.JoinedChange.{JoinedChange}
 use Rattle.review_chain.specs.declared.links.Standing.TheVariants.{PatchSet, Nowhere}
 use Rattle.review_core_rules.specs.{Parts.Part, Parts.TheHeader, Parts.PatchOf, declared.rows.PatchRow.PatchRow}
 use Rattle.review_machine_rows.{proofs.Readings.reading_of, specs.Changes.change}
-use Rattle.review_machine_rows.specs.Known.{IsAtPlace, IsCurrent, IsInBranch, IsLast, IsLastJoined, IsMergedWith, IsSender, IsSentBy, StandsAs, HaveJoined, IsJoinedAt, header_key}
+use Rattle.review_machine_rows.specs.Known.{IsAtPlace, IsCurrent, IsInBranch, IsLastJoined, IsMergedWith, IsSender, IsSentBy, StandsAs, HaveJoined, IsJoinedAt}
 use Rattle.review_machine_rows.specs.{Rows.Key, Rows.PartKey, Rows.Row, Rows.BaseRow, Shelf.IsDamaged}
 use Rattle.review_machine_rows.specs.declared.rows.{Base.Base, BranchKey.BranchKey as Branch}
 use Rattle.review_machine_change_rows.specs.{Tables.fault_of, declared.loading.ChangeFault.ChangeFault}
@@ -29,10 +29,6 @@ sender_as f g base n same s = record {
 pub sent_here : (d : Desk) (base : Base) (o : Option ℕ) → IsSentBy (kept_row d.changes) base o → IsSentBy (row_of d) base o
 sent_here d base (Some n) sent = sender_as (kept_row d.changes) (row_of d) base n (λ m part. refl) sent
 sent_here d base None none = λ n s. none n (sender_as (row_of d) (kept_row d.changes) base n (λ m part. refl) s)
-
--- and so is the greatest number of a change
-pub last_here : (d : Desk) (n : ℕ) → IsLast header_key (kept_row d.changes) n → IsLast header_key (row_of d) n
-last_here d n last = record { above = last.above; there = last.there }
 
 -- a change whose rows are those of none is that of no history
 pub change_unread : (d : Desk) (n : ℕ) (f : ChangeFault) → IsChangeUnread d.changes n f → IsUnread (tables_of d) (fault_of f)

@@ -1,5 +1,5 @@
 -- Desks of histories: that of no request, and what is on no desk.
-use Rattle.std.proofs.Common.{◌≡◌, ℕ, ◌+◌, ◌<◌, ◌⊎◌, inl, inr, Bool, true, false, cond, List, [], ◌∷◌, ◌++◌, length, get_or, take, drop, Option, Some, None, ap, sym, ◌∙◌, subst, refl, ⊎_elim, take-append-drop, Contains, nat_cmp, is_eq, ◌&&◌, ◌==◌, arith, option_map, nat_lt, bytes_eq, Result, Ok, Err, IfErr, IsErr, IsErrAnd, ◌≤◌}
+use Rattle.std.proofs.Common.{◌≡◌, ℕ, ◌+◌, ◌<◌, ◌⊎◌, inl, inr, Bool, true, false, cond, List, [], ◌∷◌, ◌++◌, length, get_or, take, Option, Some, None, ap, sym, ◌∙◌, subst, refl, ⊎_elim, Contains, nat_cmp, is_eq, ◌&&◌, ◌==◌, arith, option_map, nat_lt, bytes_eq, Result, Ok, Err, IfErr, IsErr, IsErrAnd, ◌≤◌}
 use Rattle.std.proofs.lemmas.{Bool.cases_Bool, Cmp.tied_itself, Cmp.nat_eq_equiv, List.take_more}
 use Rattle.std.proofs.lemmas.List.Elements.{Contains-append_left, Contains-push}
 use Rattle.std.proofs.lemmas.{Map.Lookups.exact_unsigned, Map.Views.tells_apart, Option.same_Some}
@@ -9,7 +9,7 @@ use Rattle.review_table.specs.Rows.{row_in}
 use Rattle.review_words.specs.History.{bases as bases_in, Entry}
 use Rattle.review_machine_rows.proofs.{Looked.based_from, Readings.reading_of}
 use Rattle.review_machine_rows.specs.{Answer.IsHistory, Answer.most_requests, Changes.Reading, Known.at_place}
-use Rattle.review_machine_rows.specs.Rows.{Key, AccountKey, MemberKey, FileKey, BaseKey, PartKey, OddKey, AccountRow, MemberRow, Count, Projects, BasesOf, ClosedEpochs, Stored, member_cmp, member_row, Tables}
+use Rattle.review_machine_rows.specs.Rows.{Key, AccountKey, MemberKey, BaseKey, AccountRow, MemberRow, Count, Projects, BasesOf, ClosedEpochs, Stored, member_cmp, member_row, Tables}
 use Rattle.review_machine_rows.specs.{Shelf.IsDamaged, View.IsView, View.fact, View.counted}
 use Rattle.review_machine_rows.specs.declared.rows.{BranchKey.BranchKey, MemberKey.MemberKey as Member}
 use Rattle.review_machine_rows.specs.declared.shelf.ShelfFault.{ShelfFault}
@@ -68,11 +68,6 @@ put_only first old new keys i key below is with only q there =
     (only q (sym (ap (λ b. cond b (Some tt) (row_in name_cmp old q)) other) ∙ (sym (with q) ∙ there))))
     (cases_Bool (is_at (name_cmp key) q)))
 
--- the first ones of a list are among all
-pub adds_all : (old new : List (NameKey × Unit {0})) (keys : List NameKey) (i : ℕ) → AddsNames old (take i keys) new → AddsNames old keys new
-adds_all old new keys i only q there =
-    ⊎_elim (λ had. inl had) (λ put. inr (subst (λ ks. Contains ks q) (take-append-drop i keys) (Contains-append_left (take i keys) (drop i keys) q put))) (only q there)
-
 -- ==== the desk of no request
 
 if_there : {X : Type 0} (b : Bool) (x y : X) → cond b (Some x) None ≡ Some y → (b ≡ true) × (x ≡ y)
@@ -114,10 +109,7 @@ first_row reading accounts members account member (AccountKey n) = ap (option_ma
 first_row reading accounts members account member (MemberKey group number) =
     ap member_row (member (record { group = group; account = number }) ∙ ap (λ b. cond b (Some tt) None) (at_member first_member (record { group = group; account = number })))
     ∙ member_fact (bytes_eq administrators group) (1 == number) (λ m. m == number) refl
-first_row reading accounts members account member (FileKey project) = refl
-first_row reading accounts members account member (BaseKey project branch place) = refl
-first_row reading accounts members account member (PartKey n part) = refl
-first_row reading accounts members account member (OddKey o) = refl
+first_row reading accounts members account member _ = refl
 
 pub first_view : (accounts : List (ℕ × List ℕ)) (members : List (Member × Unit {0})) (d : Desk) → HasAccount accounts → HasMember members → d ≡ first_desk accounts members → IsView [] (tables_of d)
 first_view accounts members d account member is = subst (λ d. IsView [] (tables_of d)) (sym is) (λ reading _. record {

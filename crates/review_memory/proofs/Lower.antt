@@ -6,7 +6,7 @@ use Rattle.std.specs.{BTreeMap.is_at, Cmp.Lexicographic.slice_cmp, declared.cmp.
 use Rattle.review_table.specs.Rows.{HasNoEmptyPlace, row_in, rows_of, after_row_edit, row_edit_of, changed, is_named, place_at, HasEmptyOnly}
 use Rattle.review_table.specs.declared.table.RowEdit.{RowEdit}
 use Rattle.review_words.specs.History.{Identity, is_same}
-use Rattle.review_machine_rows.specs.Rows.{Key, AccountKey, MemberKey, FileKey, BaseKey, PartKey, OddKey, Row, Count, Projects, BasesOf, ClosedEpochs, Stored, Answered, after, count_after, is_below, kept_row}
+use Rattle.review_machine_rows.specs.Rows.{Key, AccountKey, Row, Count, Projects, BasesOf, ClosedEpochs, Stored, Answered, after, count_after, is_below, kept_row}
 use Rattle.review_machine_rows.specs.Shelf.{IsCommitted}
 use Rattle.review_machine_rows.specs.declared.rows.{Delta.Delta, Kept.Kept, Put.Put, StoredFile.StoredFile}
 use Rattle.review_memory_rows.proofs.Based.{none_spare}
@@ -68,19 +68,11 @@ given_up (Some least) rows kept i x mid is =
 -- the rows and counts beside what is stored of requests
 rows_beside : (t : MemoryTables) (answers : List (AnswerKey × Option StoredAnswer)) (least : ℕ) (k : Key) → row_of (desk_of (with_answers t answers least)) k ≡ row_of (desk_of t) k
 rows_beside t answers least (AccountKey number) = refl
-rows_beside t answers least (MemberKey group account) = refl
-rows_beside t answers least (FileKey project) = refl
-rows_beside t answers least (BaseKey project branch place) = refl
-rows_beside t answers least (PartKey n part) = refl
-rows_beside t answers least (OddKey o) = refl
+rows_beside t answers least _ = refl
 
 after_beside : (delta : Delta) (k : Key) (was : Option Row) → after (beside_epoch delta) k was ≡ after delta k was
 after_beside delta (AccountKey number) was = refl
-after_beside delta (MemberKey group account) was = refl
-after_beside delta (FileKey project) was = refl
-after_beside delta (BaseKey project branch place) was = refl
-after_beside delta (PartKey n part) was = refl
-after_beside delta (OddKey o) was = refl
+after_beside delta _ was = refl
 
 -- a delta is applied, once it is so but for its epoch and what is lower is given up
 pub all_committed : (delta : Delta) (kept : Kept) (keys : List AnswerKey) (old mid new : MemoryTables) → keys ≡ lower_of delta.least_epoch (rows_of old.answers) (key_of (kept_row kept).identity) →

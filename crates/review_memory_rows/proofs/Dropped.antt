@@ -1,13 +1,13 @@
 -- Keys of answers: their order, and which of them are dropped.
-use Rattle.std.proofs.Common.{◌≡◌, ℕ, Bool, true, false, ◌&&◌, ◌==◌, refl, sym, ◌∙◌, is_eq, nat_cmp, bytes_eq, Option, Some, None, Bor, option_map, option_copied, is_some, cond, List, ◌∷◌, subst, [], ap, ◌+◌, ◌<◌, ◌||◌, ◌++◌, length, get_or, take, map, ⊎_elim, arith, append_assoc, append-nil, flat_map, nat_lt}
+use Rattle.std.proofs.Common.{◌≡◌, ℕ, Bool, true, false, ◌&&◌, ◌==◌, refl, sym, ◌∙◌, is_eq, nat_cmp, bytes_eq, Option, Some, None, Bor, option_map, option_copied, is_some, cond, List, ◌∷◌, subst, [], ap, ◌+◌, ◌<◌, ◌||◌, ◌++◌, length, get_or, take, map, ⊎_elim, append_assoc, append-nil, flat_map, nat_lt}
 use Rattle.std.proofs.lemmas.Bool.{cases_Bool}
 use Rattle.std.proofs.lemmas.Cmp.{then_total, on_total, nat_cmp_total, nat_list_cmp_total, tied_itself}
 use Rattle.std.proofs.lemmas.List.{map-append, take_more, Folds.list_any-append}
 use Rattle.std.proofs.lemmas.Map.Lookups.{CmpEqualImpliesEq, exact_unsigned, exact_bytes}
 use Rattle.std.proofs.lemmas.Map.{Text.is_eq-slice_cmp, Views.tells_apart}
 use Rattle.std.specs.{BTreeMap.is_at, Cmp.IsTotalOrder, Cmp.unsigned_ties, Cmp.Lexicographic.slice_cmp}
-use Rattle.std.specs.{Map.Iter.deref_pair, Ordering.ordering_then, declared.cmp.Ordering.Ordering}
-use Rattle.std.specs.declared.cmp.Ordering.TheVariants.{Less, Equal, Greater}
+use Rattle.std.specs.{Map.Iter.deref_pair, Ordering.ordering_then}
+use Rattle.std.specs.declared.cmp.Ordering.{Ordering, TheVariants.Less, TheVariants.Equal}
 use Rattle.review_table.specs.Rows.{row_in, is_named, place_at, HasEmptyOnly, HasNoEmptyPlace}
 use Rattle.review_table.specs.declared.table.RowEdit.{RowEdit}
 use Rattle.review_memory_rows.specs.Answers.{answer_cmp, is_among, if_lower, lower}
@@ -17,8 +17,7 @@ use Rattle.review_memory_rows.specs.declared.answer_keys.{AnswerKey.AnswerKey, S
 
 equal_parts : (a b : Ordering) → ordering_then a b ≡ Equal → (a ≡ Equal) × (b ≡ Equal)
 equal_parts Equal b e = (refl, e)
-equal_parts Less b e = absurd (cc)
-equal_parts Greater b e = absurd (cc)
+equal_parts _ b e = absurd (cc)
 
 pub exact_answer : CmpEqualImpliesEq answer_cmp
 exact_answer x y e =
@@ -34,17 +33,15 @@ answer_total = then_total (on_total (λ (k : AnswerKey). k.epoch) nat_cmp_total)
 
 pub is_eq-then : (a b : Ordering) → is_eq (ordering_then a b) ≡ (is_eq a && is_eq b)
 is_eq-then Less b = refl
-is_eq-then Equal b = refl
-is_eq-then Greater b = refl
+is_eq-then _ b = refl
 
 pub at_account : (a b : ℕ) → is_at (nat_cmp a) b ≡ (a == b)
 at_account a b = sym (unsigned_ties a b)
 
 and_other : (a b c : Bool) → (a && (b && c)) ≡ (b && (a && c))
-and_other true true c = refl
 and_other true false c = refl
-and_other false true c = refl
 and_other false false c = refl
+and_other _ true c = refl
 
 pub at_answer : (a b : AnswerKey) → is_at (answer_cmp a) b ≡ ((a.caller == b.caller) && ((a.epoch == b.epoch) && bytes_eq a.id b.id))
 at_answer a b =
@@ -118,10 +115,9 @@ among_more keys i k q below is =
 
 -- one row more is dropped
 pub drop_more : {X : Type 0} (a b : Bool) (old mid new : Option X) → mid ≡ cond a None old → new ≡ cond b None mid → new ≡ cond (a || b) None old
-drop_more true true old mid new m n = n
 drop_more true false old mid new m n = n ∙ m
-drop_more false true old mid new m n = n
 drop_more false false old mid new m n = n ∙ m
+drop_more _ true old mid new m n = n
 
 answer_itself : (k : AnswerKey) → is_at (answer_cmp k) k ≡ true
 answer_itself k = ap is_eq (tied_itself answer_total k)

@@ -29,8 +29,7 @@ use Rattle.review_memory_rows.specs.declared.places.PlaceKey.{PlaceKey}
 
 both_equal : (a b : Ordering) → ordering_then a b ≡ Equal → (a ≡ Equal) × (b ≡ Equal)
 both_equal Equal b e = (refl, e)
-both_equal Less b e = absurd (cc)
-both_equal Greater b e = absurd (cc)
+both_equal _ b e = absurd (cc)
 
 pub exact_place : CmpEqualImpliesEq place_cmp
 exact_place x y e =
@@ -116,9 +115,8 @@ pub place_between : (b : Branch) (place n : ℕ) → IsPlaceKey (key_at b place 
 place_between b place n fits = between_parts branch_total b place n 1 1 4294967295 1000000000 fits.0 fits.1 fits.2 fits.3
 
 same_first : (o a c : Ordering) → (is_le (ordering_then o a) && not (is_lt (ordering_then o c))) ≡ true → o ≡ Equal
-same_first Less a c is = absurd (let f : false ≡ true = is in cc)
 same_first Equal a c is = refl
-same_first Greater a c is = absurd (let f : false ≡ true = is in cc)
+same_first _ a c is = absurd (let f : false ≡ true = is in cc)
 
 pub own_branch : (b : Branch) (k : PlaceKey) → range_contains place_cmp (Included (from_place b)) (Included (to_place b)) k ≡ true → k.branch ≡ b
 own_branch b k is =
@@ -338,9 +336,8 @@ module _ (row : Key → Option Row) (key : Branch) where
 
 low_place : (o a c : Ordering) (place : ℕ) → (is_le (ordering_then o (ordering_then (nat_cmp 1 place) a)) && not (is_lt (ordering_then o c))) ≡ true → 0 < place
 low_place Less a c zero is = absurd (let f : false ≡ true = is in cc)
-low_place Equal a c zero is = absurd (let f : false ≡ true = is in cc)
-low_place Greater a c zero is = absurd (let f : false ≡ true = is in cc)
 low_place o a c (suc n) is = omega arith
+low_place _ a c zero is = absurd (let f : false ≡ true = is in cc)
 
 passing : {K : Type 0} (test : K → Bool) (P : K → Type 0) → ((k : K) → test k ≡ true → P k) → (ks : List K) → AllByRecursion P (filter test ks)
 passing test P f [] = tt

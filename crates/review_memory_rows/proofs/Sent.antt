@@ -109,8 +109,7 @@ all_put {K} cs all puts is = subst (All (λ (c : RowEdit K (Unit {0})). IsSome c
 
 both_equal : (a b : Ordering) → ordering_then a b ≡ Equal → (a ≡ Equal) × (b ≡ Equal)
 both_equal Equal b e = (refl, e)
-both_equal Less b e = absurd (cc)
-both_equal Greater b e = absurd (cc)
+both_equal _ b e = absurd (cc)
 
 pub exact_sent : CmpEqualImpliesEq sent_cmp
 exact_sent x y e =

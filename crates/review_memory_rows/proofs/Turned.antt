@@ -176,11 +176,7 @@ turned_by header e old new t (AttentionOf u) = ap (option_map AnAttentionEntry) 
 
 before_is : (t : ChangeTables) (part : Part) → part_before (Some (AHeader t.header)) (of_tables t) part ≡ part_in t part
 before_is t TheHeader = refl
-before_is t (PatchOf n) = refl
-before_is t (VoteOf n l a) = refl
-before_is t (RoleOf u) = refl
-before_is t (CommentOf n) = refl
-before_is t (AttentionOf u) = refl
+before_is t _ = refl
 
 pub turned : (e : ChangeEdit) (old new : ChangeTables) → Turns e (of_tables old) new → AreEdited (part_in old) e new
 turned e old new t part = turned_by (Some (AHeader old.header)) e (of_tables old) new t part ∙ ap (after_row_edit (part_change e part)) (before_is old part)

@@ -59,12 +59,11 @@ digits_back [] a h = refl
 digits_back (d ∷ ds) a h = after_shown (d ∷ ds) a 0 h
 
 digits_begin_well : (n : ℕ) (ds : List ℕ) → ds ≡ digits_of 10 n → begins_well (shown_digits ds) ≡ true
-digits_begin_well n [] e = refl
-digits_begin_well n (d ∷ []) e = refl
 digits_begin_well zero (d ∷ x ∷ ds) e = absurd (cc)
 digits_begin_well (suc n) (d ∷ x ∷ ds) e =
     let high : 0 < d = subst (λ l. 0 < get_or l 0 0) (sym e) (first_digits_of 10 (suc n) (omega arith) (omega arith)) in
     grind (arith, nat_tests, high)
+digits_begin_well n _ e = refl
 
 pub number_back : (n : ℕ) → n < 18446744073709551616 → number_of (numeral n) ≡ Some n
 unfolding numeral number_of

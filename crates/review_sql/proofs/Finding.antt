@@ -1,5 +1,5 @@
 -- Look-ups one after the other.
-use Rattle.std.proofs.Common.{Some, ap, ◌≡◌, ◌∙◌, inl, inr, ℕ, ◌+◌, ◌<◌, Bool, true, false, List, take, get_or, length, None, Result, Ok, Err, refl, sym, subst, OnOk}
+use Rattle.std.proofs.Common.{Some, ap, ◌≡◌, ◌∙◌, inl, inr, ℕ, ◌+◌, ◌<◌, Bool, true, false, List, take, get_or, length, Result, Ok, Err, refl, sym, subst, OnOk}
 use Rattle.std.{proofs.lemmas.Option.same_Some, specs.declared.alloc.AllocError.AllocError}
 use Rattle.sqlite.specs.{Held.Held, Held.state, State.State, declared.error.Error.Error}
 use Rattle.sqlite_trees.specs.{Tree.Trees, declared.store.Store.Ghosts}
@@ -63,10 +63,6 @@ module _ {S X Y : Type 0} (g : Ghosts S) (F : Trees → Unit {0} → Type 0) (G 
   one_failed false now e f have (inr asked) =
       subst (λ is. LooksIf g is H a c (Err f)) (sym asked.0) (failed G H (state g a) (state g c) e f (subst (λ (h : Held S). Looks G (state g h) (state g c) (Err e)) have.0 asked.1))
 
--- nothing was looked up yet
-pub have_none : {S : Type 0} (g : Ghosts S) (rows : Rows) (counts : Counts) (a : Held S) → ((w : Want) → known rows w ≡ None) → LooksIf g false (Have rows counts counts) a a (Ok tt)
-have_none g rows counts a nothing = (refl, λ db bounded. (λ w found is. absurd (let e = sym (nothing w) ∙ is in cc), bounded))
-
 module _ (w : Want) (old new : Rows) (before mid more : Counts) (db : Trees) (have : Have old before mid db tt) where
   -- what is known then, where the look-up learnt
   pub have_more : LearnsBounded w old new mid more db ended.Learnt → Have new before more db tt
@@ -85,11 +81,6 @@ module _ {S X D : Type 0} (g : Ghosts S) (F : Trees → X → Type 0) (G : Trees
 
   pub seen_shut : (x : X) (e f : Error) → LooksIf g false F a b (Ok x) → Looks G (state g b) (state g c) (Err e) → Looks F (state g a) (state g c) (Err f)
   seen_shut x e f have desk = failed G F (state g a) (state g c) e f (subst (λ (h : Held S). Looks G (state g h) (state g c) (Err e)) have.0 desk)
-
--- an error came of a statement
-pub asked_failed : {S X Y : Type 0} (g : Ghosts S) (is : Bool) (F : Trees → X → Type 0) (G : Trees → Y → Type 0) (a b : Held S) (e f : Error) → LooksIf g is F a b (Err e) → Looks G (state g a) (state g b) (Err f)
-asked_failed g true F G a b e f it = failed F G (state g a) (state g b) e f it
-asked_failed g false F G a b e f it = absurd it
 
 -- all were made
 pub all_seen : {S : Type 0} (g : Ghosts S) (is : Bool) (rows : Rows) (before more : Counts) (a b : Held S) → LooksIf g is (Have rows before more) a b (Ok tt) → LooksIf g is (WereSeen rows before more) a b (Ok ended.Learnt)

@@ -1,5 +1,5 @@
 -- What look-ups found, by how the last one ended.
-use Rattle.std.proofs.Common.{◌≡◌, List, Ok, Err, refl, sym, subst}
+use Rattle.std.proofs.Common.{◌≡◌, List, Ok, refl, sym, subst}
 use Rattle.std.specs.Prelude.{Result, IfOk}
 use Rattle.{sqlite.specs.State.State, sqlite.specs.declared.error.Error.Error, review_sql_tables.specs.Ran.Serves}
 use Rattle.review_machine_rows.specs.{Known.AreAsked, declared.rows.Rows.Rows, declared.rows.Want.Want}
@@ -10,18 +10,14 @@ use Rattle.review_sql.specs.declared.loading.Ended.TheVariants as ended
 
 on_loaded : (rows : Rows) (known more : Counts) (old new : State) (r : Result Ended Error) → Serves (WereSeen rows known more) old new r → Serves (AreLoadedBounded known more) old new (loaded_by rows r)
 on_loaded rows known more old new (Ok ended.Learnt) it = record { found = it.found; undone = it.undone; survives = it.survives }
-on_loaded rows known more old new (Ok ended.NoMemory) it = record { found = it.found; undone = it.undone; survives = it.survives }
-on_loaded rows known more old new (Ok ended.Damaged) it = record { found = it.found; undone = it.undone; survives = it.survives }
-on_loaded rows known more old new (Err e) it = record { found = it.found; undone = it.undone; survives = it.survives }
+on_loaded rows known more old new _ it = record { found = it.found; undone = it.undone; survives = it.survives }
 
 pub served_loaded : (rows : Rows) (known more : Counts) (old new : State) (r : Result Ended Error) (l : Result Loaded Error) → l ≡ loaded_by rows r → Serves (WereSeen rows known more) old new r → Serves (AreLoadedBounded known more) old new l
 served_loaded rows known more old new r l is it = subst (Serves (AreLoadedBounded known more) old new) (sym is) (on_loaded rows known more old new r it)
 
 on_asked : (wants : List Want) (rows : Rows) (r : Result Ended Error) → IfOk r (λ e. e ≡ ended.Learnt → AreAsked wants rows) → IfOk (loaded_by rows r) (WereAsked wants)
 on_asked wants rows (Ok ended.Learnt) asked = asked refl
-on_asked wants rows (Ok ended.NoMemory) asked = tt
-on_asked wants rows (Ok ended.Damaged) asked = tt
-on_asked wants rows (Err e) asked = tt
+on_asked wants rows _ asked = tt
 
 pub asked_loaded : (wants : List Want) (rows : Rows) (r : Result Ended Error) (l : Result Loaded Error) → l ≡ loaded_by rows r → IfOk r (λ e. e ≡ ended.Learnt → AreAsked wants rows) →
     IfOk l (WereAsked wants)

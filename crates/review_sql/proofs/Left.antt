@@ -8,8 +8,8 @@ use Rattle.review_machine_rows.{proofs.Readings.reading_of, specs.Answer.IsHisto
 use Rattle.review_sql_lookups.specs.Tables.{tables_at}
 use Rattle.review_sql.proofs.{Again.cause_left, Again.unfit_left, Shown.ready_ours}
 use Rattle.review_sql.specs.{Left.MakesOurs, Left.StopLeavesDesk, Migrated.IsUnfit, Opened.IsRefused}
-use Rattle.review_sql.specs.{Shelf.AreLeftOfOurs, Shelf.AreOurs, Shelf.no_tables, declared.faults.DeskFault.DeskFault}
-use Rattle.review_sql.specs.declared.faults.DeskFault.TheVariants.{NotADesk, WrongVersion, Store, NotEmpty, NotOurs, Memory}
+use Rattle.review_sql.specs.Shelf.{AreLeftOfOurs, AreOurs, no_tables}
+use Rattle.review_sql.specs.declared.faults.DeskFault.{DeskFault, TheVariants.Store, TheVariants.Memory}
 
 -- a database of trees of a desk of ours is a desk
 ready_again : (db : Database) → IsDatabase db → AreOurs db.trees → IsReady db
@@ -19,12 +19,9 @@ ready_again db sound ours =
 
 -- one of the two, where it can't be neither
 either : (fault : DeskFault) → (((fault ≢ Memory) × (fault ≢ Store)) → ⊥) → (fault ≡ Memory) ⊎ (fault ≡ Store)
-either NotADesk not = absurd (not ((λ e. cc), (λ e. cc)))
-either WrongVersion not = absurd (not ((λ e. cc), (λ e. cc)))
 either Store not = inr refl
-either NotEmpty not = absurd (not ((λ e. cc), (λ e. cc)))
-either NotOurs not = absurd (not ((λ e. cc), (λ e. cc)))
 either Memory not = inl refl
+either _ not = absurd (not ((λ e. cc), (λ e. cc)))
 
 module _ (old new : State) (fault : DeskFault) (live : IsLive old) (stays : IsTrue new.is_open → IsTrue old.is_open × (new.now ≡ old.now)) (is_open : IsTrue new.is_open) (left : AreLeftOfOurs old.now.trees) where
   sound : IsDatabase old.now

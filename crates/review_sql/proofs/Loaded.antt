@@ -14,13 +14,11 @@ use Rattle.review_sql_lookups.specs.declared.sights.Loaded.TheVariants as loaded
 
 pub was_asked : (wants : List Want) (found : Loaded) → WereAsked wants found → IfOk (answer_of found) (AreAsked wants)
 was_asked wants (loaded.Rows rows) asked = asked
-was_asked wants loaded.NoMemory asked = tt
-was_asked wants loaded.Damaged asked = tt
+was_asked wants _ asked = tt
 
 pub keeps_loaded : (found : Loaded) (old new : Option Tables) → new ≡ old → KeepsTables (answer_of found) old new
 keeps_loaded (loaded.Rows rows) old new same = same
-keeps_loaded loaded.NoMemory old new same = same
-keeps_loaded loaded.Damaged old new same = same
+keeps_loaded _ old new same = same
 
 module _ {S : Type 0} (g : Ghosts S) (old new : Held S) (is_ours : Bool) (numbers : Numbers) (holds : Holds g old is_ours numbers) (known more : Counts) (knows : KnowsCounts g old is_ours known)
     (found : Loaded) (it : Serves (AreLoadedBounded known more) (state g old) (state g new) (Ok found)) where

@@ -1,7 +1,7 @@
 -- A look at tables that is taken back.
-use Rattle.std.proofs.Common.{◌≡◌, ◌≢◌, ◌∙◌, ◌⊎◌, inl, inr, ℕ, List, Some, None, Bool, false, Ok, Err, Result, IfOk, IfErr, IsTrue, refl, sym, subst, arith, Option, IfSome}
-use Rattle.std.specs.{Bool.Decides, List.AllByRecursion}
-use Rattle.sqlite.{proofs.StateLemmas.survives_then, specs.Effect.Database, specs.Effect.IsDatabase}
+use Rattle.std.proofs.Common.{◌≡◌, ◌∙◌, ◌⊎◌, inl, inr, ℕ, List, Some, None, Bool, Ok, Err, Result, IfOk, IfErr, IsTrue, refl, sym, subst, arith, Option, IfSome}
+use Rattle.{std.specs.Bool.Decides, sqlite.proofs.StateLemmas.survives_then}
+use Rattle.sqlite.specs.Effect.{Database, IsDatabase}
 use Rattle.sqlite.specs.State.{State, HasCleanDisk, Survives, IsRolledBack}
 use Rattle.{sqlite.specs.declared.error.Error.Error, sqlite_trees.specs.Tree.Trees, sqlite_value.specs.Order.Row}
 use Rattle.review_sql_tables.proofs.{ByTree.at_tree, Sequences.begun, Sequences.taken_back, Sequences.survives_from}
@@ -9,10 +9,9 @@ use Rattle.review_sql_tables.specs.{Content.AreApart, Desk.desk_schema, Ran.Look
 use Rattle.review_sql_tables.specs.declared.versions.TablesVersion.{TablesVersion, TheVariants.Third}
 use Rattle.{review_sql_writes.specs.declared.numbers.Numbers.Numbers, review_sql.proofs.Saying.desk_of_ours}
 use Rattle.review_sql.specs.Opened.{AreAllApart, Peeks, IsLacking, IsSeen, IsRefused}
-use Rattle.review_sql.specs.Said.{IsSaid, IsDeskThere, IsNoDesk, IsNone, IsOtherVersion, IsThere, LacksLeast, SaysLeast, SaysOther, least_shown, ShowsEpochs}
-use Rattle.review_sql.specs.{Shelf.AreAllRead, declared.faults.DeskFault.DeskFault}
-use Rattle.review_sql.specs.declared.faults.DeskFault.TheVariants.{NotADesk, WrongVersion, NotEmpty, NotOurs}
-use Rattle.review_sql.specs.declared.seen.{Said.Said, Seen.Seen}
+use Rattle.review_sql.specs.Said.{IsSaid, IsDeskThere, IsNone, IsThere, LacksLeast, SaysLeast, least_shown, ShowsEpochs}
+use Rattle.review_sql.specs.Shelf.{AreAllRead}
+use Rattle.review_sql.specs.declared.{faults.DeskFault.DeskFault, faults.DeskFault.TheVariants.NotADesk, seen.Said.Said}
 
 pub peeked : {X : Type 0} (Found : Trees → X → Type 0) (s0 s2 s3 : State) (settled : IsTrue s0.is_open → s0.now ≡ s0.committed) (open_clean : IsTrue s3.is_open → HasCleanDisk s3) (r : Result X Error)
     → Looks Found (begun s0) s2 r → (HasCleanDisk s3 → IsRolledBack s2 s3) → Survives s2 s3 (λ _. ⊥) → Peeks Found s0 s3 r
@@ -38,32 +37,11 @@ seen_ours s numbers is_apart has sound there apart = record {
   there = there;
 }
 
--- and of tables of another form
-pub seen_others : (s : State) (seen : Seen) → seen.is_ours ≡ false → (s.now.schema ≡ desk_schema → ⊥) → IsDeskThere s.now seen.numbers → IsSeen s seen
-seen_others s seen not other there = record {
-  ready = λ yes. absurd (let e = sym not ∙ yes in cc);
-  ours = λ same all. absurd (other same);
-  there = there;
-}
-
 -- ---- why tables are refused
-
--- want of memory or a fault of the store says nothing of them
-pub refused_plainly : (s : State) (fault : DeskFault) → (fault ≢ NotADesk) × (fault ≢ WrongVersion) × (fault ≢ NotEmpty) × (fault ≢ NotOurs) → IsRefused s fault
-refused_plainly s fault plain = record { no_desk = λ is. absurd (plain.0 is); other_version = λ is. absurd (plain.1 is); not_ours = λ is. absurd (plain.3 is); not_empty = plain.2 }
-
-pub refused_none : (s : State) → IsNoDesk s.now → IsRefused s NotADesk
-refused_none s none = record { no_desk = λ is. none; other_version = λ is. absurd (cc); not_ours = λ is. absurd (cc); not_empty = λ is. cc }
-
-pub refused_other : (s : State) → IsOtherVersion s.now → IsRefused s WrongVersion
-refused_other s other = record { no_desk = λ is. absurd (cc); other_version = λ is. other; not_ours = λ is. absurd (cc); not_empty = λ is. cc }
 
 -- tables that lack something of a desk
 pub lacking : (s : State) (version : TablesVersion) → IsNone version s.now → IsLacking version s NotADesk
 lacking s version none = record { no_desk = λ is. none; no_other = ((λ is. cc), (λ is. cc), (λ is. cc)) }
-
-pub refused_lacking : (s : State) (fault : DeskFault) → IsLacking Third s fault → IsRefused s fault
-refused_lacking s fault it = record { no_desk = it.no_desk; other_version = λ is. absurd (it.no_other.0 is); not_ours = λ is. absurd (it.no_other.2 is); not_empty = it.no_other.1 }
 
 -- the same, of tables that are as they were
 pub refused_third : {X : Type 0} (s t : State) (r : Result X DeskFault) → t.now ≡ s.now → IfErr r (IsLacking Third t) → IfErr r (IsRefused s)
@@ -78,10 +56,6 @@ refused_third s t (Err fault) same it = record {
 -- nothing is said of a version
 pub none_said : (s : State) (said : Said) (version : TablesVersion) → IsSaid s.now said → said.version ≡ None → IsNone version s.now
 none_said s said version it none = inr (it.rows, it.shown, inl (sym it.version_is ∙ none))
-
--- what is said is of a version that is none of these
-pub other_said : (s : State) (said : Said) (versions : List TablesVersion) (number : ℕ) → IsSaid s.now said → said.version ≡ Some number → AllByRecursion (λ v. number ≢ version_number v) versions → SaysOther versions s.now
-other_said s said versions number it is others = (it.rows, it.shown, (number, sym it.version_is ∙ is, others))
 
 module _ (s : State) (said : Said) (version : TablesVersion) (it : IsSaid s.now said) (is : said.version ≡ Some (version_number version)) where
   -- nothing is said of requests

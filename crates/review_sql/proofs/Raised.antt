@@ -9,9 +9,8 @@ use Rattle.{sqlite_trees.specs.declared.store.Store.Ghosts, review_words.specs.H
 use Rattle.review_sql_tables.proofs.{Migrated.apart_after, Sequences.Next, Sequences.follow, Sequences.settled_as}
 use Rattle.review_sql_tables.specs.{Desk.desk_schema, Migrated.Migrates}
 use Rattle.review_sql_tables.specs.Ran.{Inside, Looks, OnDesk, Transacts, Within}
-use Rattle.review_sql_tables.specs.Versions.{schema_at, version_of}
-use Rattle.review_sql_tables.specs.declared.{texts.TheConstants.FIND_ANSWER, versions.EarlierVersion.EarlierVersion}
-use Rattle.review_sql_tables.specs.declared.versions.TablesVersion.{TablesVersion, TheVariants.Third}
+use Rattle.review_sql_tables.specs.{Versions.schema_at, Versions.version_of, declared.texts.TheConstants.FIND_ANSWER}
+use Rattle.review_sql_tables.specs.declared.versions.{EarlierVersion.EarlierVersion, TablesVersion.TheVariants.Third}
 use Rattle.{review_sql_tables.specs.inner.Words.Then, review_machine_rows.specs.View.IsView}
 use Rattle.review_sql_lookups.specs.{EarlierTables.tables_in, Tables.tables_at}
 use Rattle.review_sql_writes.specs.{declared.numbers.Numbers.Numbers, inner.Changes.SetsDesk, inner.Changes.SetsLeast}
@@ -20,10 +19,9 @@ use Rattle.review_sql.proofs.Saying.{earlier_of_ours, first_least, not_ok}
 use Rattle.review_sql.proofs.{Shown.of_ours, Shown.ready_ours, Staying.stays_then}
 use Rattle.review_sql.proofs.Upgraded.{Looked, upgrades, upgrades_others}
 use Rattle.review_sql.specs.Migrated.{IsBrought, IsNotMigrated, IsOpenedAsIs, IsRaised, IsUnfit, IsUpgraded, IsViewIn, LeavesUpgraded, Upgrades, if_whole}
-use Rattle.review_sql.specs.Opened.{AreAllApart, AreApartIn, IsLacking, IsSeen}
-use Rattle.review_sql.specs.{Said.IsThere, Shelf.AreOurs, Shelf.Holds, Shelf.Stays, declared.faults.DeskFault.DeskFault}
-use Rattle.review_sql.specs.declared.faults.DeskFault.TheVariants.{NotADesk, WrongVersion, NotEmpty, NotOurs}
-use Rattle.review_sql.specs.declared.seen.Seen.{Seen}
+use Rattle.review_sql.specs.{Opened.AreAllApart, Opened.AreApartIn, Said.IsThere}
+use Rattle.review_sql.specs.Shelf.{AreOurs, Holds, Stays}
+use Rattle.review_sql.specs.declared.faults.DeskFault.{DeskFault, TheVariants.NotADesk, TheVariants.WrongVersion}
 use Rattle.review_sql_tables.specs.declared.versions.EarlierVersion.TheVariants as earlier
 
 -- what was looked at, as a step that changes nothing
@@ -150,22 +148,6 @@ unmigrated_then is_ours fault s0 s1 s2 stays it = unmigrated is_ours fault s0 s2
       view = subst (λ (d : Database). IsTrue is_ours → (entries : List Entry) → IsViewIn h.version entries (tables_in h.version d.trees) → IsView entries (tables_at db)) was.1 h.view;
     }) stays.survives it.survives)
     (λ is. stays_then s0 s1 s2 stays (it.no_earlier is))
-
--- want of memory or a fault of the store says nothing of tables
-pub unfit_plainly : (db : Database) (fault : DeskFault) → (fault ≢ NotADesk) × (fault ≢ WrongVersion) × (fault ≢ NotEmpty) × (fault ≢ NotOurs) → IsUnfit db fault
-unfit_plainly db fault plain = record { no_desk = λ is. absurd (plain.0 is); other_version = λ is. absurd (plain.1 is); not_ours = λ is. absurd (plain.3 is); not_empty = plain.2 }
-
--- they lack something of a desk
-pub unfit_lacking : (s : State) (version : TablesVersion) (fault : DeskFault) → IsLacking version s fault → IsUnfit s.now fault
-unfit_lacking s version fault it = record { no_desk = λ is. (version, it.no_desk is); other_version = λ is. absurd (it.no_other.0 is); not_ours = λ is. absurd (it.no_other.2 is); not_empty = it.no_other.1 }
-
--- they are of another form, or two rows have one rowid
-pub unfit_others : (db : Database) (version : TablesVersion) (numbers : Numbers) → IsThere version db numbers → (db.schema ≡ schema_at version → AreApartIn version db.trees → ⊥) → IsUnfit db NotOurs
-unfit_others db version numbers there other = record { no_desk = λ is. absurd (cc); other_version = λ is. absurd (cc); not_ours = λ is. (version, (numbers, there), other); not_empty = λ is. cc }
-
--- tables of version 3 that are not ours
-pub unfit_seen : (s : State) (seen : Seen) → seen.is_ours ≡ false → IsSeen s seen → IsUnfit s.now NotOurs
-unfit_seen s seen not it = unfit_others s.now Third seen.numbers it.there (λ has all. let e = sym not ∙ it.ours has all in cc)
 
 -- ---- after the table `desk` was asked
 

@@ -30,8 +30,7 @@ use Rattle.review_sql_tables.specs.declared.versions.EarlierVersion.TheVariants 
 find_is : (version : TablesVersion) → command_of (understood (schema_at version) FIND_DESK.now) ≡ Select (record { lets = []; body = over_table 25 [] (col 1 1 ∷ col 1 2 ∷ []) [] }) (codes "version" ∷ codes "requests" ∷ [])
 unfolding understood everything
 find_is First = refl
-find_is Second = refl
-find_is Third = refl
+find_is _ = refl
 
 find_epochs_is : command_of (understood desk_schema FIND_EPOCHS.now) ≡ Select (record { lets = []; body = over_table 31 [] (col 1 1 ∷ []) [] }) (codes "least" ∷ [])
 unfolding understood everything

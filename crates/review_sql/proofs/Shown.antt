@@ -1,5 +1,5 @@
 -- What a connection shows as a shelf.
-use Rattle.std.proofs.Common.{◌≡◌, ◌≢◌, ◌∙◌, ◌⊎◌, inl, inr, ℕ, ◌+◌, List, [], ◌∷◌, Bool, Option, Some, None, true, false, Ok, Err, Result, OnOk, IsTrue, refl, sym, ap, subst, arith, cond}
+use Rattle.std.proofs.Common.{◌≡◌, ◌≢◌, ◌∙◌, ◌⊎◌, inl, inr, List, [], ◌∷◌, Bool, Option, Some, None, true, false, Ok, Err, Result, OnOk, IsTrue, refl, sym, ap, subst, arith, cond}
 use Rattle.std.proofs.lemmas.Bool.{cases_Bool}
 use Rattle.sqlite.specs.{Effect.Database, Held.Held, Held.state, State.HasCleanDisk, declared.error.Error.Error}
 use Rattle.sqlite_trees.specs.{Tree.Trees, declared.store.Store.Ghosts}
@@ -176,6 +176,5 @@ module _ {S : Type 0} (g : Ghosts S) (old new : Held S) (undone : IsTrue (state 
   leaves Damaged sound memory = absurd (sound refl)
 
 pub blames : (f : ShelfFault) (old : Option Tables) → f ≢ Damaged → Blames f old
-blames Memory old sound = tt
-blames Store old sound = tt
 blames Damaged old sound = absurd (sound refl)
+blames _ old sound = tt

@@ -1,5 +1,5 @@
 -- What the tables of a change tell.
-use Rattle.std.proofs.Common.{◌≡◌, ◌∙◌, ◌⊎◌, ℕ, ℤ, List, [], ◌∷◌, Bool, true, Option, Some, None, option_map, pos, refl, sym, ap, subst, inl, inr}
+use Rattle.std.proofs.Common.{◌≡◌, ◌∙◌, ℕ, ℤ, List, [], ◌∷◌, Bool, true, Option, Some, None, option_map, pos, refl, sym, ap, subst, inl, inr}
 use Rattle.std.proofs.lemmas.{Bool.cases_Bool, Bool.and_parts, Option.same_Some}
 use Rattle.{std.specs.Option.IsSome, std.specs.Ordering.nat_cmp, sqlite_trees.specs.Tree.Trees}
 use Rattle.sqlite_value.specs.{Order.column, declared.value.Value.TheVariants.Int}
@@ -204,5 +204,4 @@ whole_after db found n looked great is sees = (found, great, rw is (sees.0, sees
 
 pub fresh : (db : Trees) (s : Sight) → NothingStays db → IsFresh db s
 fresh db (Found found) stays = stays
-fresh db NoMemory stays = tt
-fresh db Damaged stays = tt
+fresh db _ stays = tt

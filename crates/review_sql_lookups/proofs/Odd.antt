@@ -72,9 +72,6 @@ pub and_false : (a b : Bool) → b ≡ false → (a && b) ≡ false
 and_false true b is = is
 and_false false b is = refl
 
-pub false_and : (a b : Bool) → a ≡ false → (a && b) ≡ false
-false_and a b is = rw is refl
-
 -- which of two things is missing
 pub both_missing : {X Y : Type 0} (a : Option X) (b : Option Y) → both a b ≡ None → (a ≡ None) ⊎ ((x : X) × (a ≡ Some x) × (b ≡ None))
 both_missing None b is = inl refl

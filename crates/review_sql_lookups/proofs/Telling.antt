@@ -5,8 +5,8 @@ use Rattle.std.proofs.lemmas.{Cmp.nat_list_eq_equiv, Option.same_Some}
 use Rattle.std.specs.{Ordering.nat_cmp, Ordering.int_cmp, Ordering.is_eq, Str.bytes_eq, Str.is_utf8}
 use Rattle.sqlite_keyed.proofs.ListLemmas.{all_weaker, filter_none}
 use Rattle.{sqlite_rules.specs.Lists.Has, sqlite_trees.specs.Tree.Trees, sqlite_value.proofs.OrderLemmas.value_cmp-Int}
-use Rattle.sqlite_value.specs.{Order.Row as Raw, Order.column, Order.value_cmp, declared.value.Value.Value}
-use Rattle.sqlite_value.specs.declared.value.Value.TheVariants.{Null, Int, Real, Text, Blob}
+use Rattle.sqlite_value.specs.Order.{Row as Raw, column, value_cmp}
+use Rattle.sqlite_value.specs.declared.value.Value.{Value, TheVariants.Int, TheVariants.Text}
 use Rattle.{review_names.specs.Forms.is_commit, review_names.specs.Names.is_word, review_table.specs.Rows.row_in}
 use Rattle.review_words.specs.History.{Entry, is_listed, bases as history_bases}
 use Rattle.review_sql_tables.proofs.{Keys.int_is, Keys.itself, Meaning.all_pass}
@@ -76,11 +76,6 @@ has_in p (y ∷ xs) x has = elim (cases_Bool (p y)) [
     by_first passes later (inl same) = (inl same, subst (λ z. p z ≡ true) (sym same) passes)
     by_first passes later (inr more) = let it = later more in (inr it.0, it.1)
 
-pub only_none : {X : Type 0} (read : Raw → Option X) (rows : List Raw) → None ≡ only read rows → rows ≡ []
-only_none read [] is = refl
-only_none read (r ∷ []) is = absurd (cc)
-only_none read (r ∷ s ∷ rows) is = absurd (cc)
-
 -- a row that a key has
 pub stored_row : {X : Type 0} (read : Raw → Option X) (rows : List Raw) (x : X) → only read rows ≡ Some (Some x) → (r : Raw) × Has rows r × (read r ≡ Some x)
 stored_row read [] x is = absurd (cc)
@@ -103,11 +98,8 @@ told_from kind apart (Some None) row some is = absurd (some (sym (same_Some _ _ 
 told_from kind apart (Some (Some x)) row some is = (x, same_Some _ _ is, refl)
 
 text_is : (v : Value) (t : List ℕ) → text_in v ≡ Some t → v ≡ Text t
-text_is Null t is = absurd (cc)
-text_is (Int n) t is = absurd (cc)
-text_is (Real x) t is = absurd (cc)
 text_is (Text s) t is = elim (cases_Bool (is_utf8 s)) [ inl good ↦ ap Text (same_Some _ _ (let e = rw good at is in e)) | inr bad ↦ absurd (let e = rw bad at is in cc) ]
-text_is (Blob b) t is = absurd (cc)
+text_is _ t is = absurd (cc)
 
 at_text : (v : Value) (t : List ℕ) → text_in v ≡ Some t → is_eq (value_cmp v (Text t)) ≡ true
 at_text v t is = subst (λ w. is_eq (value_cmp w (Text t)) ≡ true) (sym (text_is v t is)) (itself (Text t))
@@ -241,11 +233,10 @@ last_place db key (Some (Some m)) n great is =
 -- ---- places in order
 
 at_number : {X : Type 0} (xs : List X) (n : ℕ) → at_place xs n ≡ of_number xs n
-at_number [] zero = refl
 at_number [] (suc n) = refl
-at_number (x ∷ xs) zero = refl
 at_number (x ∷ xs) (suc zero) = refl
 at_number (x ∷ xs) (suc (suc n)) = at_number xs (suc n)
+at_number _ zero = refl
 
 pub ordered : (places : List (ℕ × List ℕ)) (commits : List (List ℕ)) → AreInOrder places commits → IsOrdered places (Some commits)
 ordered places commits order n = order n ∙ sym (at_number commits n)

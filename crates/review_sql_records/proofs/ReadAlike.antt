@@ -1,5 +1,5 @@
 -- Rows that moved to the table of a later version read there as they did.
-use Rattle.std.proofs.Common.{◌≡◌, ◌≢◌, ◌∙◌, ◌&&◌, ◌||◌, ℕ, pos, negsuc, suc, Bool, true, false, not, List, [], ◌∷◌, Option, Some, None, option_map, map, filter, length, get_or, refl, sym, ap, subst, subst₂, inl, inr}
+use Rattle.std.proofs.Common.{◌≡◌, ◌≢◌, ◌∙◌, ◌&&◌, ◌||◌, ℕ, pos, suc, Bool, true, false, not, List, [], ◌∷◌, Option, Some, None, option_map, map, filter, length, get_or, refl, sym, ap, subst, subst₂, inl, inr}
 use Rattle.std.proofs.lemmas.{Bool.and_from, Bool.and_parts, Bool.cases_Bool, Bool.or_parts, List.length-map}
 use Rattle.std.proofs.lemmas.{List.Sorted.length_permutation, List.Sorted.list_any-IsPermutation, Option.same_Some}
 use Rattle.std.specs.List.{AllByRecursion, list_any, Sorted.IsPermutation}
@@ -7,8 +7,8 @@ use Rattle.sqlite.proofs.Callers.{one_permutation}
 use Rattle.sqlite_keyed.proofs.ListLemmas.{IsPermutation-filter, filter-map, filter_same}
 use Rattle.sqlite_rules.specs.Cast.{as_text, cast}
 use Rattle.sqlite_schema.specs.declared.schema.Kind.TheVariants.{Integer}
-use Rattle.sqlite_value.specs.{Order.Row as Raw, Order.column, declared.value.Value.Value}
-use Rattle.sqlite_value.specs.declared.value.Value.TheVariants.{Null, Int, Real, Text, Blob}
+use Rattle.sqlite_value.specs.Order.{Row as Raw, column}
+use Rattle.sqlite_value.specs.declared.value.Value.{Value, TheVariants.Int, TheVariants.Text}
 use Rattle.review_sql_tables.proofs.{Keys.itself, Keys.same_int, Meaning.cast_int}
 use Rattle.review_sql_tables.specs.{Columns.number_in, Columns.text_in, Content.has_key, Content.is_value}
 use Rattle.review_sql_tables.specs.Moved.{AreMoved, columns_of, with_first_epoch, without_parent}
@@ -24,29 +24,19 @@ behind [] at = refl
 behind (v ∷ r) at = refl
 
 text_stays : (v : Value) → is_text v ≡ true → as_text v ≡ v
-text_stays Null is = absurd (cc)
-text_stays (Int n) is = absurd (cc)
-text_stays (Real x) is = absurd (cc)
 text_stays (Text t) is = refl
-text_stays (Blob b) is = absurd (cc)
+text_stays _ is = absurd (cc)
 
 reads_text : (v : Value) (t : List ℕ) → text_in v ≡ Some t → as_text v ≡ v
-reads_text Null t is = absurd (cc)
-reads_text (Int n) t is = absurd (cc)
-reads_text (Real x) t is = absurd (cc)
 reads_text (Text s) t is = refl
-reads_text (Blob b) t is = absurd (cc)
+reads_text _ t is = absurd (cc)
 
 reads_number : (v : Value) (n : ℕ) → number_in v ≡ Some n → cast Integer v ≡ v
 reads_number v n is = let same = number_is v n is in subst (λ w. cast Integer w ≡ w) (sym same) (cast_int (pos n))
 
 natural_stays : (v : Value) → is_natural v ≡ true → cast Integer v ≡ v
-natural_stays Null is = absurd (cc)
 natural_stays (Int (pos n)) is = cast_int (pos n)
-natural_stays (Int (negsuc n)) is = absurd (cc)
-natural_stays (Real x) is = absurd (cc)
-natural_stays (Text t) is = absurd (cc)
-natural_stays (Blob b) is = absurd (cc)
+natural_stays _ is = absurd (cc)
 
 filter_as : {X : Type 0} (p q : X → Bool) (xs : List X) → AllByRecursion (λ x. p x ≡ q x) xs → filter p xs ≡ filter q xs
 filter_as p q [] all = refl

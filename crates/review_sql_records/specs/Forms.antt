@@ -1,5 +1,5 @@
 -- The tables that are not of changes: how their rows are looked up and stored.
-use Rattle.std.specs.Prelude.{nat_le, string_bytes, ℕ, pos, ◌&&◌, Bool, List, [], ◌∷◌, Option, Some, None, option_map, if◌then◌else◌}
+use Rattle.std.specs.Prelude.{nat_le, string_bytes, ℕ, pos, ◌&&◌, Bool, List, [], ◌∷◌, Option, Some, None, option_map}
 use Rattle.{std.specs.Str.is_utf8, sqlite_value.specs.Order.Row, sqlite_value.specs.Order.column}
 use Rattle.sqlite_value.specs.declared.value.Value.TheVariants.{Int, Text}
 use Rattle.review_names.specs.{Forms.is_commit, Forms.is_slashed_name, Names.is_word, Names.is_account_number}

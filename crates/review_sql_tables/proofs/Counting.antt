@@ -1,5 +1,5 @@
 -- What a query shows that counts the rows of a key.
-use Rattle.std.proofs.Common.{◌≡◌, ◌∙◌, ℕ, false, List, [], ◌∷◌, Some, refl, sym, ap, subst, map, filter, length}
+use Rattle.std.proofs.Common.{◌≡◌, ◌∙◌, ℕ, false, List, [], ◌∷◌, Some, sym, ap, subst, map, filter, length}
 use Rattle.std.{proofs.lemmas.List.length-map, proofs.lemmas.List.Sorted.length_permutation, specs.List.AllZip}
 use Rattle.sqlite.proofs.Callers.{reads_as, one_permutation}
 use Rattle.{sqlite.specs.State.State, sqlite.specs.State.Shown, sqlite_keyed.proofs.ListLemmas.filter_same}

@@ -1,5 +1,5 @@
 -- What a query shows that is cut: the row with the greatest value of a column.
-use Rattle.std.proofs.Common.{◌≡◌, ◌∙◌, ◌==◌, ℕ, suc, pos, List, [], ◌∷◌, false, Ordering, Less, Equal, Greater, refl, sym, ap, subst, subst₂, arith, map, filter, length, take, drop, nat_le, nat_lt, is_gt, is_lt, inl, inr, IsSorted}
+use Rattle.std.proofs.Common.{◌≡◌, ◌∙◌, ℕ, suc, pos, List, [], ◌∷◌, false, Ordering, Less, Equal, Greater, refl, sym, ap, subst, subst₂, arith, map, filter, take, is_gt, is_lt, inl, inr, IsSorted}
 use Rattle.std.proofs.lemmas.Cmp.{upto, on_total}
 use Rattle.std.proofs.lemmas.List.Elements.{recursion_from_All, All-from_recursion}
 use Rattle.std.proofs.lemmas.List.Sorted.{length_permutation, All-permutation, IsPermutation-sym}
@@ -47,9 +47,8 @@ all_has P [] f = tt
 all_has P (x ∷ xs) f = (f x (inl refl), all_has P xs (λ y h. f y (inr h)))
 
 at_most_as : (o : Ordering) → is_gt (ordering_then o Equal) ≡ false → is_gt o ≡ false
-at_most_as Less h = refl
-at_most_as Equal h = refl
 at_most_as Greater h = h
+at_most_as _ h = refl
 
 module _ (tree : ℕ) (tests project : List Term) (place : ℕ) (params : Row) where
   abbrev q : Query

@@ -12,7 +12,7 @@ use Rattle.sqlite_value.specs.{Order.Row, Order.column, declared.value.Value.The
 use Rattle.review_sql_tables.proofs.{Meaning.tested, Meaning.tested_below, Meaning.plain, Queries.passes}
 use Rattle.review_sql_tables.proofs.Statements.{inserts, updates, deletes}
 use Rattle.review_sql_tables.specs.Content.{Adds, Remakes, Removes, RemovesWhere, SparesOthers, has_key, is_number_below, is_natural, is_text}
-use Rattle.review_sql_tables.specs.{Desk.simple, Desk.desk_schema, Ran.IsReady, Search.At}
+use Rattle.review_sql_tables.specs.{Desk.desk_schema, Ran.IsReady, Search.At}
 use Rattle.review_sql_tables.specs.Texts.{Alters, Deletes, Inserts, Updates, changed_terms, over_table, tests_from, values_of, new_terms}
 use Rattle.review_sql_tables.specs.inner.{Moving.IsSimple, Words.DeletesBelow, Words.tests_below}
 

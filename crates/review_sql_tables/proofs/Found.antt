@@ -16,9 +16,8 @@ only_shown : {X : Type 0} (f : Row → Row) (read : Row → Option X) (xs ys : L
 only_shown f read [] [] h = refl
 only_shown f read [] (y ∷ ys) h = absurd (let e = length_permutation _ _ h in omega (arith, e))
 only_shown f read (x ∷ []) ys h = ap (only read) (one_permutation (f x) ys h)
-only_shown f read (x ∷ z ∷ xs) [] h = absurd (let e = length_permutation _ _ h in omega (arith, e))
-only_shown f read (x ∷ z ∷ xs) (y ∷ []) h = absurd (let e = length_permutation _ _ h in omega (arith, e))
 only_shown f read (x ∷ z ∷ xs) (y ∷ w ∷ ys) h = refl
+only_shown f read (x ∷ z ∷ xs) _ h = absurd (let e = length_permutation _ _ h in omega (arith, e))
 
 pub one_found : {A X : Type 0} (s : Search A X) (db : Trees) (a : A) (rows : List Row) → Finds s a db rows → only s.read rows ≡ row_at s db a
 one_found s db a rows h = only_shown (shown s) s.read (rows_at (s.at a) (db s.tree)) rows h

@@ -3,8 +3,8 @@ use Rattle.std.proofs.Common.{◌≡◌, ◌≢◌, ◌∙◌, ◌+◌, ◌≤�
 use Rattle.std.proofs.lemmas.{Bool.cases_Bool, Bool.both_ways, Cmp.tied_itself, Map.Lookups.exact_bytes}
 use Rattle.{std.specs.Ordering.is_eq, sqlite_keyed.proofs.ListLemmas.filter-filter, sqlite_trees.specs.Tree.Trees}
 use Rattle.sqlite_value.proofs.OrderLemmas.{value_cmp_total, value_cmp-Text}
-use Rattle.sqlite_value.specs.{Order.Row, Order.value_cmp, declared.value.Value.Value}
-use Rattle.sqlite_value.specs.declared.value.Value.TheVariants.{Null, Int, Real, Text, Blob}
+use Rattle.sqlite_value.specs.Order.{Row, value_cmp}
+use Rattle.sqlite_value.specs.declared.value.Value.{Value, TheVariants.Int, TheVariants.Text}
 use Rattle.review_sql_tables.specs.Content.{has_key, is_value, IsAdded, Remakes, Removes, SparesOthers}
 use Rattle.review_sql_tables.specs.Search.{At, Search, reads, only, Form, IsLawful, Puts, SetsRow}
 use Rattle.review_sql_tables.specs.inner.Words.{Sets, Then}
@@ -19,11 +19,8 @@ same_text v s t p q = let e = sym (value_cmp-Text s t) ∙ same_value v (Text s)
 -- the value that has this text
 pub text_is : (v : Value) (t : List ℕ) → is_value v (Text t) ≡ true → v ≡ Text t
 unfolding value_cmp
-text_is Null t has = absurd (cc)
-text_is (Int m) t has = absurd (cc)
-text_is (Real x) t has = absurd (cc)
 text_is (Text s) t has = ap Text (same_text (Text s) s t (ap is_eq (tied_itself value_cmp_total (Text s))) has)
-text_is (Blob b) t has = absurd (cc)
+text_is _ t has = absurd (cc)
 
 pub itself : (v : Value) → is_eq (value_cmp v v) ≡ true
 itself v = ap is_eq (tied_itself value_cmp_total v)

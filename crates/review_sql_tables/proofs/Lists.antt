@@ -59,8 +59,7 @@ added row rows free = record {
 
 is_eq_back : (o : Ordering) → is_eq (ordering_reverse o) ≡ is_eq o
 is_eq_back Less = refl
-is_eq_back Equal = refl
-is_eq_back Greater = refl
+is_eq_back _ = refl
 
 pub eq_back : (v w : Value) → is_eq (value_cmp v w) ≡ is_eq (value_cmp w v)
 eq_back v w = ap is_eq (value_cmp_total.antisymm v w) ∙ is_eq_back (value_cmp w v)

@@ -50,10 +50,7 @@ null_apart (Blob b) there = rw (value_cmp-Null (Blob b)) refl
 pub equals : (v w : Value) → is_null w ≡ false → is_true (binary (Compare Eq Binary) v w) ≡ is_eq (value_cmp v w)
 unfolding binary
 equals Null w there = null_apart w there
-equals (Int n) w there = rw there (told_true _)
-equals (Real x) w there = rw there (told_true _)
-equals (Text t) w there = rw there (told_true _)
-equals (Blob b) w there = rw there (told_true _)
+equals _ w there = rw there (told_true _)
 
 -- the name of a type is the one that is asked for
 is_named : (type name : List ℕ) → is_true (binary (Compare Eq Binary) (Text name) (Text type)) ≡ is_eq (slice_cmp nat_cmp name type)
@@ -86,11 +83,8 @@ and_false true = refl
 and_false false = refl
 
 exact_integer : (v : Value) (n : ℤ) → (is_eq (value_cmp v (Int n)) && (is_int v && true)) ≡ is_integer v n
-exact_integer Null n = and_false _
 exact_integer (Int m) n = elim (is_eq (value_cmp (Int m) (Int n))) as (λ b. (b && true) ≡ b) [ true ↦ refl | false ↦ refl ]
-exact_integer (Real x) n = and_false _
-exact_integer (Text t) n = and_false _
-exact_integer (Blob b) n = and_false _
+exact_integer _ n = and_false _
 
 is_less : (m n : ℤ) → is_true (binary (Compare Lt Binary) (Int m) (Int n)) ≡ is_lt (cond (int_lt m n) Less (cond (int_lt n m) Greater Equal))
 unfolding binary
@@ -117,20 +111,13 @@ from_zero (negsuc n) = negated _ ∙ ap not (ap is_lt (value_cmp-Int (negsuc n) 
 
 -- a number that isn't negative, whatever else is asked
 natural : (v : Value) (b : Bool) → (is_true (unary Not (binary (Compare Lt Binary) v (Int (pos 0)))) && (is_int v && b)) ≡ (is_natural v && b)
-natural Null b = and_false _
 natural (Int m) b = ap (λ a. a && b) (from_zero m)
-natural (Real x) b = and_false _
-natural (Text t) b = and_false _
-natural (Blob c) b = and_false _
+natural _ b = and_false _
 
 -- the same, and below another
 below : (v : Value) (least : ℕ) (b : Bool) → (is_true (binary (Compare Lt Binary) v (Int (pos least))) && (is_natural v && b)) ≡ (is_number_below least v && b)
-below Null least b = and_false _
 below (Int (pos n)) least b = ap (λ a. a && b) (is_less (pos n) (pos least) ∙ less_by (nat_lt n least) (nat_lt least n))
-below (Int (negsuc n)) least b = and_false _
-below (Real x) least b = and_false _
-below (Text t) least b = and_false _
-below (Blob c) least b = and_false _
+below _ least b = and_false _
 
 -- ---- the tests of a key
 

@@ -11,8 +11,8 @@ use Rattle.{sqlite_resolve.specs.Compile.table_defined_by, sqlite_rules.specs.Li
 use Rattle.sqlite_schema.specs.Names.{same_name}
 use Rattle.sqlite_schema.specs.declared.schema.{Index.Index, Schema.Schema, Table.Table, View.View as Stored}
 use Rattle.sqlite_trees.specs.{Objects.catalog_tree, Tree.Trees, Tree.rowid, Tree.IsAscending}
-use Rattle.sqlite_value.specs.{Order.Row, Order.column, declared.value.Value.Value}
-use Rattle.sqlite_value.specs.declared.value.Value.TheVariants.{Null, Int, Real, Text, Blob}
+use Rattle.sqlite_value.specs.Order.{Row, column}
+use Rattle.sqlite_value.specs.declared.value.Value.{Value, TheVariants.Null, TheVariants.Int, TheVariants.Text}
 
 -- elements that stand in a relation to those of a list, each to one of its own
 one_list : {A B : Type 0} (R : A → B → Type 0) → ((a : A) (x y : B) → R a x → R a y → x ≡ y) → (es : List A) (xs ys : List B) → AllZip R es xs → AllZip R es ys → xs ≡ ys
@@ -83,13 +83,11 @@ one_defined t i j Null name tree x y =
     let key : x.1 ≡ y.1 = same_Some x.1 y.1 (sym x.2 ∙ ap (slice_get t.uniques) at ∙ y.2) in
     let both : automatic t x.0 x.1 i.tree ≡ automatic t y.0 y.1 j.tree = λ k. automatic t (at k) (key k) (tree k) in
     x.3 ∙ both ∙ sym y.3
-one_defined t i j (Int n) name tree x y = absurd x
-one_defined t i j (Real n) name tree x y = absurd x
 one_defined t i j (Text sql) name tree x y =
     let made = one_ok x.0 y.0 _ x.1 y.1 in
     let both : record x.0 { tree = i.tree; table = t.tree } ≡ record y.0 { tree = j.tree; table = t.tree } = λ k. record (made k) { tree = tree k; table = t.tree } in
     x.2 ∙ both ∙ sym y.2
-one_defined t i j (Blob b) name tree x y = absurd x
+one_defined t i j _ name tree x y = absurd x
 
 -- a row of an index of these tables tells which
 one_index : (tables : List Table) → IsAscending (λ s t. same_name s.name t.name ≡ false) tables → (row : Row) (i j : Index) → IsIndexRow tables row i → IsIndexRow tables row j → i ≡ j

@@ -1,6 +1,6 @@
 -- What is found of an owner's rows, as it reads.
-use Rattle.std.proofs.Common.{◌≤◌, ◌<◌, ◌+◌, ◌||◌, ℕ, zero, suc, not, is_some, drop, get_or, take, ◌≡◌, ◌∙◌, List, [], ◌∷◌, ◌++◌, Bool, true, false, Ordering, Option, Some, None, option_map, option_to_list, cond, map, filter, length, refl, sym, ap, subst, inl, inr, arith}
-use Rattle.std.proofs.lemmas.Bool.{cases_Bool, both_ways, or_right}
+use Rattle.std.proofs.Common.{◌≤◌, ◌<◌, ◌+◌, ◌||◌, ℕ, not, is_some, drop, get_or, take, ◌≡◌, ◌∙◌, List, [], ◌∷◌, ◌++◌, Bool, true, false, Ordering, Option, Some, None, option_map, option_to_list, cond, map, filter, length, refl, sym, ap, subst, inl, inr, arith}
+use Rattle.std.proofs.lemmas.Bool.{cases_Bool, both_ways}
 use Rattle.std.proofs.lemmas.List.{length-map, length-append, map-append, append-nil, take_more, take-append-drop}
 use Rattle.std.proofs.lemmas.List.Elements.{filter-append, recursion_from_All, All-from_recursion}
 use Rattle.std.proofs.lemmas.List.Sorted.{length_permutation, IsPermutation-map, All-permutation, IsPermutation-sym}
@@ -10,7 +10,7 @@ use Rattle.sqlite_keyed.proofs.ListLemmas.{IsPermutation-filter, filter-map, fil
 use Rattle.{sqlite_trees.specs.Tree.Trees, sqlite_value.specs.Order.Row, review_table.specs.Rows.row_in}
 use Rattle.review_sql_tables.{proofs.Found.all_found, specs.Content.has_key}
 use Rattle.review_sql_tables.specs.Fronts.{IsFront, IsExact, AreParts, HaveRows}
-use Rattle.review_sql_tables.specs.Search.{Search, HasOdd, shown, reads, row_at, only, rows_at, Finds}
+use Rattle.review_sql_tables.specs.Search.{Search, shown, reads, row_at, only, rows_at, Finds}
 use Rattle.review_sql_tables.specs.inner.Words.{WereApart, WereSorted, HasTwins, is_of, at_key}
 
 -- it is there
@@ -47,26 +47,24 @@ read_one : {Y X : Type 0} (f : Row → Option Y) (g : Row → Option X) (snd : Y
 read_one f g snd [] items None same is reads = refl
 read_one f g snd [] [] (Some x) same is reads = absurd (cc)
 read_one f g snd [] (i ∷ items) (Some x) same is reads = absurd (omega (arith, length_permutation _ _ same))
-read_one f g snd (r ∷ []) [] o same is reads = absurd (omega (arith, length_permutation _ _ same))
 read_one f g snd (r ∷ []) (i ∷ []) None same is reads = absurd (cc)
 read_one f g snd (r ∷ []) (i ∷ []) (Some x) same is reads =
     let e : map Some (i ∷ []) ≡ f r ∷ [] = one_permutation (f r) (map Some (i ∷ [])) same in
     let here : f r ≡ Some i = let s = sym e in cc in
     let value : snd i ≡ x = let s = is in cc in
     ap Some (reads r i here ∙ ap Some value)
-read_one f g snd (r ∷ []) (i ∷ j ∷ items) o same is reads = absurd (omega (arith, length_permutation _ _ same))
 read_one f g snd (r ∷ s ∷ rows) items o same is reads =
     let a = length_permutation _ _ same in
     let b = length-map items Some in
     let d = ap length is in
     let e = length-map items snd in
     absurd (omega (arith, a, b, d, e, short o))
+read_one f g snd (r ∷ []) _ o same is reads = absurd (omega (arith, length_permutation _ _ same))
 
 -- several rows are odd
 several : {X : Type 0} (read : Row → Option X) (rows : List Row) → 1 < length rows → only read rows ≡ Some None
-several read [] two = absurd (omega (arith, two))
-several read (r ∷ []) two = absurd (omega (arith, two))
 several read (r ∷ s ∷ rows) two = refl
+several read _ two = absurd (omega (arith, two))
 
 reads_so : {X : Type 0} (o : Option X) (rest : Bool) → (not (is_some o) || rest) ≡ false → IsThere o × (rest ≡ false)
 reads_so None rest none = absurd (cc)
@@ -174,9 +172,3 @@ module _ {K X : Type 0} (cmp : K → K → Ordering) (exact : IsExact cmp) (read
       let whole : length (filter test all) ≡ length (filter test (take (i + 1) all)) + length (filter test (drop (i + 1) all)) =
       ap (λ l. length (filter test l)) (sym (take-append-drop (i + 1) all)) ∙ (ap length (filter-append test (take (i + 1) all) (drop (i + 1) all)) ∙ length-append (filter test (take (i + 1) all)) (filter test (drop (i + 1) all))) in
       (k, omega (arith, both, whole))
-
--- a row that doesn't read
-pub odd_found : {Y : Type 0} (read : Row → Option Y) (all : List Row) (i : ℕ) (r : Row) → i < length all → r ≡ get_or all i r → read r ≡ None → HasOdd read all
-odd_found read [] i r low at is = absurd (omega (arith, low))
-odd_found read (q ∷ all) zero r low at is = let e : read q ≡ None = ap read (sym at) ∙ is in rw e refl
-odd_found read (q ∷ all) (suc i) r low at is = or_right (not (is_some (read q))) _ (odd_found read all i r (omega (arith, low)) at is)

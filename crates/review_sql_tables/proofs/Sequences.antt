@@ -4,9 +4,8 @@ use Rattle.{std.proofs.lemmas.Bool.cases_Bool, sqlite.proofs.Callers.IsPlain, sq
 use Rattle.sqlite.specs.{Clock.timed, Effect.Database, Listing.understood}
 use Rattle.sqlite.specs.State.{RunsCommand, shows_rows, store_error, ExecutesIn, FailsToQuery, FailsToShow, Shown, ShowsRows, IsNotRun, IsTooLate, State, HasCleanDisk, Survives, KeepsCommit, IsUnchanged, IsRolledBack, Executes, ExecutesInside, Shows, KeepsCounts}
 use Rattle.sqlite.specs.{Steps.FailsToCommit, declared.error.Error.Error}
-use Rattle.sqlite_schema.specs.declared.command.Returning.{Returning}
-use Rattle.sqlite_trees.specs.{Tree.Trees, declared.error.StoreError.StoreError}
-use Rattle.sqlite_trees.specs.declared.error.StoreError.TheVariants.{OutOfMemory, Io, Corrupt, Full, Broken, Unstorable}
+use Rattle.{sqlite_schema.specs.declared.command.Returning.Returning, sqlite_trees.specs.Tree.Trees}
+use Rattle.sqlite_trees.specs.declared.error.StoreError.{StoreError, TheVariants.OutOfMemory}
 use Rattle.{sqlite_value.specs.Order.Row, review_sql_tables.specs.Desk.desk_schema}
 use Rattle.review_sql_tables.specs.Ran.{count_in, is_violation, IsReady, IsDeskIfOpen, Within, OnDesk, Inside, Transacts, Looks, Serves}
 use Rattle.review_sql_tables.specs.inner.Words.{Then}
@@ -65,11 +64,7 @@ one_counted sql params old new r R does runs survives = record {
 -- a fault of the store is no rule that is broken
 no_rule : (cause : StoreError) (e : Error) → e ≡ store_error cause → IsTrue (is_violation e) → ⊥
 no_rule OutOfMemory e is broken = let f = rw is at broken in cc
-no_rule Io e is broken = let f = rw is at broken in cc
-no_rule Corrupt e is broken = let f = rw is at broken in cc
-no_rule Full e is broken = let f = rw is at broken in cc
-no_rule Broken e is broken = let f = rw is at broken in cc
-no_rule Unstorable e is broken = let f = rw is at broken in cc
+no_rule _ e is broken = let f = rw is at broken in cc
 
 unchanged_by_rules : (sql : List ℕ) (params : Row) (old new : State) (e : Error) → IsTrue (is_violation e) → Executes sql params old new (Err e) → IsUnchanged old new
 unfolding ExecutesIn IsNotRun

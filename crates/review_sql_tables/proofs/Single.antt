@@ -1,5 +1,5 @@
 -- No two rows of a table have one UNIQUE key.
-use Rattle.std.proofs.Common.{◌≡◌, ◌∙◌, ◌≤◌, ◌&&◌, inl, inr, ℕ, zero, suc, ℤ, List, [], ◌∷◌, Some, filter, get_or, slice_get, length, map, Bool, true, false, not, Ordering, Less, Equal, Greater, refl, sym, ap, subst, IsTrue, arith}
+use Rattle.std.proofs.Common.{◌≡◌, ◌∙◌, ◌≤◌, ◌&&◌, inl, inr, ℕ, zero, suc, ℤ, List, [], ◌∷◌, Some, filter, get_or, slice_get, length, map, Bool, true, false, not, Ordering, Less, refl, sym, ap, subst, IsTrue, arith}
 use Rattle.std.proofs.lemmas.Bool.{and_parts, and_from, cases_Bool, or_parts, both_ways}
 use Rattle.std.specs.{List.AllByRecursion, List.list_any, Ordering.is_eq, Ordering.is_ne}
 use Rattle.sqlite.specs.Effect.{Database}
@@ -25,10 +25,7 @@ there Null w some is = absurd (let e = rw (value_cmp-Null-apart w some) at is in
     value_cmp-Null-apart (Real x) some = ap is_eq (value_cmp-Null (Real x))
     value_cmp-Null-apart (Text t) some = ap is_eq (value_cmp-Null (Text t))
     value_cmp-Null-apart (Blob b) some = ap is_eq (value_cmp-Null (Blob b))
-there (Int n) w some is = refl
-there (Real x) w some is = refl
-there (Text t) w some is = refl
-there (Blob b) w some is = refl
+there _ w some is = refl
 
 -- two values that equal a third are equal to SQL
 pub equal_values : (v a b : Value) → is_null v ≡ false → is_eq (value_cmp a v) ≡ true → is_eq (value_cmp b v) ≡ true → equal Binary a b ≡ true
@@ -36,8 +33,7 @@ equal_values v a b some p q = equals a b (there b v some q) ∙ ap is_eq (same_v
 
 is_ne_as : (o : Ordering) → is_ne o ≡ not (is_eq o)
 is_ne_as Less = refl
-is_ne_as Equal = refl
-is_ne_as Greater = refl
+is_ne_as _ = refl
 
 differ_ints : (m n : ℤ) → differ (Int m) (Int n) ≡ not (is_eq (value_cmp (Int m) (Int n)))
 unfolding binary
@@ -78,11 +74,9 @@ abbrev pub AreThere : At → Type 0
 AreThere key = AllByRecursion (λ c. is_null c.1 ≡ false) key
 
 has_equal : (v w : Value) → is_value v w ≡ true → is_eq (value_cmp v w) ≡ true
-has_equal v Null has = absurd (cc)
 has_equal v (Int n) has = subst (λ u. is_eq (value_cmp u (Int n)) ≡ true) (sym (whole_is v n has)) (itself (Int n))
-has_equal v (Real x) has = absurd (cc)
 has_equal v (Text t) has = has
-has_equal v (Blob b) has = absurd (cc)
+has_equal v _ has = absurd (cc)
 
 -- rows that have one key agree on its columns
 agreeing : (key : At) (r s : Row) → AreThere key → has_key key r ≡ true → has_key key s ≡ true → agree plain (map (λ c. c.0) key) s (map (λ c. c.0) key) r ≡ true

@@ -11,7 +11,7 @@ use Rattle.sqlite.specs.Rows.{Part, Written, Task, stamped, Inserts, Updates, De
 use Rattle.sqlite.specs.{State.State, State.Executes, declared.run.Mode.Mode}
 use Rattle.sqlite_catalog.specs.Change.{without_table, KeepsRows}
 use Rattle.sqlite_keyed.proofs.ListLemmas.{map-map, filter_same}
-use Rattle.sqlite_rules.specs.{Action.works, Calls.ids_of, Cast.cast_row}
+use Rattle.sqlite_rules.specs.{Calls.ids_of, Cast.cast_row}
 use Rattle.sqlite_rules.specs.Edit.{Edit, edit_of, edited, taken_by, without_all, id_in, have_rowids, are_fresh, left_by, numbered, put_all, is_taken}
 use Rattle.sqlite_rules.specs.declared.error.Rowids.TheVariants.{Chosen, Given}
 use Rattle.sqlite_schema.specs.declared.command.Command.TheVariants.{Insert, Update, Delete, DropTable}

@@ -1,16 +1,14 @@
 -- Values that keys have.
-use Rattle.std.proofs.Common.{◌≡◌, ◌∙◌, ℤ, true, Ordering, Less, Equal, Greater, refl, sym, ap}
+use Rattle.std.proofs.Common.{◌≡◌, ◌∙◌, ℤ, true, Ordering, Equal, refl, sym, ap}
 use Rattle.std.{proofs.lemmas.Cmp.tied_itself, specs.Ordering.is_eq}
 use Rattle.sqlite_keyed.proofs.KeyedLemmas.{same_int as whole}
 use Rattle.sqlite_value.proofs.OrderLemmas.{value_cmp_total, value_cmp-Int}
-use Rattle.sqlite_value.specs.{Order.value_cmp, declared.value.Value.Value}
-use Rattle.sqlite_value.specs.declared.value.Value.TheVariants.{Null, Int, Real, Text, Blob}
+use Rattle.sqlite_value.specs.{Order.value_cmp, declared.value.Value.Value, declared.value.Value.TheVariants.Int}
 use Rattle.review_sql_tables.specs.Content.{is_value}
 
 pub equal_is : (o : Ordering) → is_eq o ≡ true → o ≡ Equal
-equal_is Less h = absurd (cc)
 equal_is Equal h = refl
-equal_is Greater h = absurd (cc)
+equal_is _ h = absurd (cc)
 
 -- two values that a third equals
 pub same_value : (v a b : Value) → is_eq (value_cmp v a) ≡ true → is_eq (value_cmp v b) ≡ true → value_cmp a b ≡ Equal
@@ -21,8 +19,5 @@ same_whole v m n p q = let e = sym (value_cmp-Int m n) ∙ same_value v (Int m) 
 
 -- the value that has this integer
 pub int_is : (v : Value) (n : ℤ) → is_value v (Int n) ≡ true → v ≡ Int n
-int_is Null n has = absurd (cc)
 int_is (Int m) n has = ap Int (same_whole (Int m) m n (ap is_eq (tied_itself value_cmp_total (Int m))) has)
-int_is (Real x) n has = absurd (cc)
-int_is (Text t) n has = absurd (cc)
-int_is (Blob b) n has = absurd (cc)
+int_is _ n has = absurd (cc)

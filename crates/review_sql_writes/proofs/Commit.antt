@@ -1,5 +1,5 @@
 -- What the statements of a commit do together.
-use Rattle.std.proofs.Common.{◌≡◌, ◌≢◌, ◌∙◌, ◌+◌, ◌≤◌, ℕ, List, [], ◌∷◌, Option, Some, None, option_map, cond, Ordering, Less, Equal, Greater, true, false, Bool, is_some, not, pos, refl, sym, ap, subst, arith, inl, inr, length, filter, eqb-true, eq-eqb, ◌&&◌}
+use Rattle.std.proofs.Common.{◌≡◌, ◌≢◌, ◌∙◌, ◌+◌, ◌≤◌, ℕ, List, [], ◌∷◌, Option, Some, None, option_map, cond, Ordering, Equal, true, false, Bool, is_some, not, pos, refl, sym, ap, subst, arith, inl, inr, length, filter, eqb-true, eq-eqb, ◌&&◌}
 use Rattle.std.proofs.lemmas.Bool.{cases_Bool, and_parts, and_from, both_ways}
 use Rattle.std.proofs.lemmas.Cmp.{nat_cmp_total, tied_itself, nat_list_cmp_total}
 use Rattle.std.{proofs.lemmas.Map.Lookups.exact_unsigned, proofs.lemmas.Map.Lookups.exact_bytes, specs.BTreeMap.is_at}
@@ -35,9 +35,8 @@ numbers_exact : IsExact nat_cmp
 numbers_exact = record { same = λ a b is. exact_unsigned a b (equal_is _ is); itself = λ a. ap is_eq (tied_itself nat_cmp_total a) }
 
 both_equal : (o p : Ordering) → is_eq (ordering_then o p) ≡ true → (is_eq o ≡ true) × (is_eq p ≡ true)
-both_equal Less p is = absurd (cc)
 both_equal Equal p is = (refl, is)
-both_equal Greater p is = absurd (cc)
+both_equal _ p is = absurd (cc)
 
 then_equal : (o p : Ordering) → o ≡ Equal → p ≡ Equal → is_eq (ordering_then o p) ≡ true
 then_equal o p a b = rw (a, b) refl
@@ -61,14 +60,12 @@ places_exact = record { same = λ a b is. exact_place a b (equal_is _ is); itsel
 -- ---- rows
 
 told_account : (c : Option (Option (List ℕ))) (was : Option (Option (List ℕ))) → told AccountRow (after_row_edit (option_map (option_map Some) c) was) ≡ after_row_edit (account_change c) (told AccountRow was)
-told_account None was = refl
 told_account (Some None) was = refl
-told_account (Some (Some name)) was = refl
+told_account _ was = refl
 
 told_member : (c : Option (Option (Unit {0}))) (was : Option (Option (Unit {0}))) → told (λ u. MemberRow) (after_row_edit (option_map (option_map Some) c) was) ≡ after_row_edit (member_change c) (told (λ u. MemberRow) was)
-told_member None was = refl
 told_member (Some None) was = refl
-told_member (Some (Some u)) was = refl
+told_member _ was = refl
 
 module _ {A X : Type 0} (s : Search A X) where
   module _ (cmp : A → A → Ordering) (exact : IsExact cmp) (kind : X → Row) where

@@ -18,14 +18,12 @@ use Rattle.review_sql_writes.specs.inner.Changes.{SetsEdit, SetsEdits, SetsUnles
 
 told_part : {X : Type 0} (kind : X → PartRow) (c : Option (Option X)) (was : Option (Option X))
     → told (λ x. APart (kind x)) (after_row_edit (option_map (option_map Some) c) was) ≡ after_row_edit (option_map (option_map APart) (option_map (option_map kind) c)) (told (λ x. APart (kind x)) was)
-told_part kind None was = refl
 told_part kind (Some None) was = refl
-told_part kind (Some (Some x)) was = refl
+told_part kind _ was = refl
 
 told_vote : (c : Option (Option ℤ)) (was : Option (Option ℤ)) → vote_told (after_row_edit (option_map (option_map Some) c) was) ≡ after_row_edit (option_map (option_map APart) (option_map vote_row c)) (vote_told was)
-told_vote None was = refl
 told_vote (Some None) was = refl
-told_vote (Some (Some v)) was = refl
+told_vote _ was = refl
 
 -- the trees of changes
 abbrev pub is_part_tree : ℕ → Bool

@@ -70,10 +70,9 @@ named_whole cmp cs i q some = named_front cmp cs i q ∙ or_true (is_named cmp (
 -- ---- one edit more was reserved, or released
 
 pub reserve_more : {X : Type 0} (n b : Bool) (start was : Option (Option X)) → was ≡ cond n (Some (flat start)) start → cond b (Some (flat was)) was ≡ cond (n || b) (Some (flat start)) start
-reserve_more true true start was is = ap (λ (o : Option (Option _)). Some (flat o)) is
 reserve_more true false start was is = is
-reserve_more false true start was is = ap (λ (o : Option (Option _)). Some (flat o)) is
 reserve_more false false start was is = is
+reserve_more _ true start was is = ap (λ (o : Option (Option _)). Some (flat o)) is
 
 flat_some : {X : Type 0} (o : Option X) → flat (option_map Some o) ≡ o
 flat_some None = refl
@@ -82,9 +81,8 @@ flat_some (Some v) = refl
 pub release_more : {X : Type 0} (n b : Bool) (start was : Option (Option X)) → was ≡ cond n (option_map Some (flat start)) start →
     cond b (option_map Some (flat was)) was ≡ cond (n || b) (option_map Some (flat start)) start
 release_more true true start was is = ap (λ (o : Option (Option _)). option_map Some (flat o)) is ∙ ap (option_map Some) (flat_some (flat start))
-release_more true false start was is = is
 release_more false true start was is = ap (λ (o : Option (Option _)). option_map Some (flat o)) is
-release_more false false start was is = is
+release_more _ false start was is = is
 
 -- ---- edits that are made at places
 
@@ -107,11 +105,10 @@ change_rows {X = X} cmp (c ∷ cs) q all = first (is_at (cmp c.key) q) c.row (ro
     first false row o here later = later
 
 full_by : {X : Type 0} (c : Option (Option X)) (was now : Option (Option X)) → IfSome c (λ row. IsSome row) → now ≡ option_map (after_row_edit c) was → (was ≡ Some None → is_some c ≡ true) → now ≡ Some None → ⊥
-full_by None None now rows is only empty = absurd (let none : None ≡ Some None = sym is ∙ empty in cc)
 full_by None (Some o) now rows is only empty = let other : false ≡ true = only (sym is ∙ empty) in cc
 full_by (Some None) was now rows is only empty = absurd (let none : false ≡ true = rows in cc)
-full_by (Some (Some v)) None now rows is only empty = absurd (let none : None ≡ Some None = sym is ∙ empty in cc)
 full_by (Some (Some v)) (Some o) now rows is only empty = absurd (let none : Some (Some v) ≡ Some None = sym is ∙ empty in cc)
+full_by _ None now rows is only empty = absurd (let none : None ≡ Some None = sym is ∙ empty in cc)
 
 pub full_applied : {K X : Type 0} (cmp : K → K → Ordering) (cs : List (RowEdit K X)) (q : K) (was now : Option (Option X)) → All (λ c. IsSome c.row) cs →
     now ≡ option_map (changed cmp cs q) was → (was ≡ Some None → is_named cmp cs q ≡ true) → now ≡ Some None → ⊥

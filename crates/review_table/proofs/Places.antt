@@ -96,9 +96,8 @@ rows_sorted R ((k, None) ∷ t) h = rows_sorted R t h.1
 rows_sorted R ((k, Some v) ∷ t) h = (all_rows (λ y. R k y ≡ Less) t h.0, rows_sorted R t h.1)
 
 pub both_equal : (a b : Ordering) → ordering_then a b ≡ Equal → (a ≡ Equal) × (b ≡ Equal)
-both_equal Less b e = absurd (cc)
 both_equal Equal b e = (refl, e)
-both_equal Greater b e = absurd (cc)
+both_equal _ b e = absurd (cc)
 
 -- an order by two parts ties only equal keys, where those of the parts do
 pub exact_by_parts : {K A B : Type 0} (P : A → A → Ordering) (Q : B → B → Ordering) (f : K → A) (g : K → B) → CmpEqualImpliesEq P → CmpEqualImpliesEq Q → ((x y : K) → f x ≡ f y → g x ≡ g y → x ≡ y) → CmpEqualImpliesEq (λ x y. ordering_then (P (f x) (f y)) (Q (g x) (g y)))

@@ -122,9 +122,8 @@ truth_back true = refl
 truth_back false = refl
 
 flag_back : (o : Option Bool) → flag_of (shown_flag o) ≡ o
-flag_back None = refl
 flag_back (Some true) = refl
-flag_back (Some false) = refl
+flag_back _ = refl
 
 patch_back : (o : Option ℕ) → patch_of (shown_patch o) ≡ o
 patch_back None = refl
@@ -144,11 +143,7 @@ signed_back (negsuc n) = negative_back (value (numeral (n + 1))) n (value_numera
 kind_back : (k : ChangeKind) → kind_of (kind_name k) ≡ k
 unfolding kind_named
 kind_back kind.NoChange = refl
-kind_back kind.NoCodeChange = refl
-kind_back kind.TrivialRebase = refl
-kind_back kind.TrivialRebaseWithMessageUpdate = refl
-kind_back kind.MergeFirstParentUpdate = refl
-kind_back kind.Rework = refl
+kind_back _ = refl
 
 role_back : (r : Role) → role_of (role_name r) ≡ r
 unfolding role_named
@@ -221,25 +216,14 @@ asked_back (asked.Upload new) = ap asked.Upload (patch_set_back new)
 asked_back (asked.Review review) = ap asked.Review (review_back review)
 asked_back (asked.AddReviewer account as_what) = let number = value_numeral account in let back = role_back as_what in λ i. asked.AddReviewer (number i) (back i)
 asked_back (asked.RemoveReviewer account) = ap asked.RemoveReviewer (value_numeral account)
-asked_back asked.SetWip = refl
-asked_back asked.SetReady = refl
-asked_back asked.Abandon = refl
-asked_back asked.Restore = refl
 asked_back (asked.AddAttention account reason) = call_back asked.AddAttention account reason
 asked_back (asked.RemoveAttention account reason) = call_back asked.RemoveAttention account reason
+asked_back _ = refl
 
 -- A name of what is asked of a change is that of no other command.
 asked_alone : (c : ChangeCommand) (rest : List (List ℕ)) → command_of (asked_name c ∷ rest) ≡ OnChange (value (at rest 0)) (asked_of (asked_name c) (drop 1 rest))
 asked_alone (asked.Upload new) rest = refl
-asked_alone (asked.Review review) rest = refl
-asked_alone (asked.AddReviewer account as_what) rest = refl
-asked_alone (asked.RemoveReviewer account) rest = refl
-asked_alone asked.SetWip rest = refl
-asked_alone asked.SetReady rest = refl
-asked_alone asked.Abandon rest = refl
-asked_alone asked.Restore rest = refl
-asked_alone (asked.AddAttention account reason) rest = refl
-asked_alone (asked.RemoveAttention account reason) rest = refl
+asked_alone _ rest = refl
 
 on_change_back : (change : ℕ) (c : ChangeCommand) → command_of (command_fields (OnChange change c)) ≡ OnChange change c
 on_change_back change c =
@@ -249,11 +233,9 @@ on_change_back change c =
 
 -- one line for each command
 pub command_back : (c : Command) → command_of (command_fields c) ≡ c
-command_back (CreateAccount name) = refl
 command_back (PutGroup group members) = ap (PutGroup group) (numbers_back members)
-command_back (PutProject project file) = refl
-command_back (RecordBase project branch commit) = refl
 command_back (CreateChange new) = change_back new
 command_back (OnChange change command) = on_change_back change command
 command_back (Submit change) = let number = value_numeral change in λ i. Submit (number i)
 command_back (CloseEpoch epoch) = let number = value_numeral epoch in λ i. CloseEpoch (number i)
+command_back _ = refl

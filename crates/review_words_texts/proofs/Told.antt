@@ -8,11 +8,10 @@ use Rattle.review_names.specs.Numerals.{shown_digits, numeral, ◌>>=◌, number
 use Rattle.review_words.specs.{Faults.code_number, Faults.file_fault_number, Refusals.refusal_number}
 use Rattle.review_words.specs.Texts.{expr_fields, fault_fields, most_joined, refusal_fields, reply_fields, IsPlaced, IsRefusalOf, IsStored}
 use Rattle.review_words.specs.declared.faults.{ExprCode.ExprCode, FileFault.FileFault}
-use Rattle.review_words.specs.declared.reply.Answer.TheVariants.{Account, Nothing, Change, Patch, Reviewed, Submitted, Branch, Shown, Requirements, Threads, Attention}
+use Rattle.review_words.specs.declared.reply.Answer.TheVariants.{Account, Nothing, Change, Patch, Reviewed, Submitted}
 use Rattle.review_words.specs.declared.reply.Refusal.{Refusal}
 use Rattle.review_words.specs.declared.reply.Refusal.TheVariants.{UnknownCaller, NotAdmin, NoProject, NoBranch, NoChange, NoPatchSet, NoAccount, NoComment, NotAllowed, Closed, SameState, WorkInProgress, StalePatchSet, NoLabel, ValueOut, VoteRestricted, CommitKnown, UnknownParent, ChainOutdated, ChainAbandoned, ChainWip, ChainTooLong, RequirementUnsatisfied, NotEligible, NameTaken, BadFile, LabelNarrowed, Limit, NoParent, ParentFixed, ParentDepth, EpochAhead}
-use Rattle.review_words.specs.declared.reply.Reply.{Reply}
-use Rattle.review_words.specs.declared.reply.Reply.TheVariants.{Done, Refused, IdentityReused, EpochClosed, NotTaken}
+use Rattle.review_words.specs.declared.reply.Reply.{Reply, TheVariants.Done, TheVariants.Refused}
 use Rattle.review_words_texts.specs.Cutting.{AreShort}
 use Rattle.review_words_texts.specs.Reading.{expr_fault_of, file_fault_of, label_of, list_of, new_change_of, new_patch_of, number_within, numbers_in, plain_answer_of, refusal_of, reply_of, unsatisfied_of}
 use Rattle.review_words_texts.specs.{declared.reading.BadReply.BadReply, inner.Words.Gives}
@@ -120,15 +119,8 @@ reply_back (Done (Patch change patch copied outdated)) s =
     rw (within_back most_changes change (omega arith) s.0 s.1, within_back most_patches patch (omega arith) s.2 s.3, number_back copied s.4, number_back outdated s.5) refl
 reply_back (Done (Reviewed comments)) s = rw (list_back most_comments most_comments comments (omega arith) s.0 s.1) refl
 reply_back (Done (Submitted joined)) s = rw (list_back most_joined most_changes joined (omega arith) s.0 s.1) refl
-reply_back (Done (Branch bases joined)) s = absurd s
-reply_back (Done (Shown change)) s = absurd s
-reply_back (Done (Requirements listed)) s = absurd s
-reply_back (Done (Threads listed)) s = absurd s
-reply_back (Done (Attention listed)) s = absurd s
 reply_back (Refused r) s = refused_back r s
-reply_back IdentityReused s = absurd s
-reply_back EpochClosed s = absurd s
-reply_back (NotTaken c) s = absurd s
+reply_back _ s = absurd s
 
 -- The fields of a stored reply are short.
 short_digits : (ds : List ℕ) → length ds ≤ 20 → length (shown_digits ds) < 1000000000
@@ -141,107 +133,28 @@ short_numeral n h = short_digits (digits_of 10 n) (length-digits_of-le 10 20 n (
 
 code_below : (c : ExprCode) → code_number c < 18446744073709551616
 code_below code.Empty = omega arith
-code_below code.BadTerm = omega arith
-code_below code.Unbalanced = omega arith
-code_below code.Mixed = omega arith
-code_below code.BadValue = omega arith
-code_below code.Zero = omega arith
-code_below code.TooDeep = omega arith
-code_below code.TooLong = omega arith
+code_below _ = omega arith
 
 fault_below : (f : FileFault) → file_fault_number f < 18446744073709551616
 fault_below file.Toml = omega arith
-fault_below file.UnknownKey = omega arith
-fault_below file.Missing = omega arith
-fault_below file.BadName = omega arith
-fault_below file.Twice = omega arith
-fault_below file.BadValues = omega arith
-fault_below (file.Expr e) = omega arith
-fault_below file.UnknownLabel = omega arith
-fault_below file.Limit = omega arith
+fault_below _ = omega arith
 
 below : (r : Refusal) → refusal_number r < 18446744073709551616
 below UnknownCaller = omega arith
-below NotAdmin = omega arith
-below NoProject = omega arith
-below NoBranch = omega arith
-below NoChange = omega arith
-below NoPatchSet = omega arith
-below NoAccount = omega arith
-below NoComment = omega arith
-below NotAllowed = omega arith
-below Closed = omega arith
-below SameState = omega arith
-below WorkInProgress = omega arith
-below StalePatchSet = omega arith
-below NoLabel = omega arith
-below ValueOut = omega arith
-below VoteRestricted = omega arith
-below CommitKnown = omega arith
-below UnknownParent = omega arith
-below ChainOutdated = omega arith
-below ChainAbandoned = omega arith
-below ChainWip = omega arith
-below ChainTooLong = omega arith
-below (RequirementUnsatisfied change requirement) = omega arith
-below NotEligible = omega arith
-below NameTaken = omega arith
-below (BadFile f) = omega arith
-below LabelNarrowed = omega arith
-below Limit = omega arith
-below NoParent = omega arith
-below ParentFixed = omega arith
-below ParentDepth = omega arith
-below EpochAhead = omega arith
+below _ = omega arith
 
 short_label : (name : List ℕ) → is_label name ≡ true → length name < 1000000000
 unfolding is_label
 short_label name e = grind (arith, nat_tests, e)
 
 short_expr : (f : FileFault) → IsPlaced f → AreShort (expr_fields f)
-short_expr file.Toml s = tt
-short_expr file.UnknownKey s = tt
-short_expr file.Missing s = tt
-short_expr file.BadName s = tt
-short_expr file.Twice s = tt
-short_expr file.BadValues s = tt
 short_expr (file.Expr e) s = (short_numeral (code_number e.code) (code_below e.code), (short_numeral e.place s, tt))
-short_expr file.UnknownLabel s = tt
-short_expr file.Limit s = tt
+short_expr _ s = tt
 
 short_refusal : (r : Refusal) → IsRefusalOf r → AreShort (refusal_fields r)
-short_refusal UnknownCaller s = tt
-short_refusal NotAdmin s = tt
-short_refusal NoProject s = tt
-short_refusal NoBranch s = tt
-short_refusal NoChange s = tt
-short_refusal NoPatchSet s = tt
-short_refusal NoAccount s = tt
-short_refusal NoComment s = tt
-short_refusal NotAllowed s = tt
-short_refusal Closed s = tt
-short_refusal SameState s = tt
-short_refusal WorkInProgress s = tt
-short_refusal StalePatchSet s = tt
-short_refusal NoLabel s = tt
-short_refusal ValueOut s = tt
-short_refusal VoteRestricted s = tt
-short_refusal CommitKnown s = tt
-short_refusal UnknownParent s = tt
-short_refusal ChainOutdated s = tt
-short_refusal ChainAbandoned s = tt
-short_refusal ChainWip s = tt
-short_refusal ChainTooLong s = tt
 short_refusal (RequirementUnsatisfied change requirement) s = let most = s.0.1 in (short_numeral change (omega (arith, most)), (short_label requirement s.1, tt))
-short_refusal NotEligible s = tt
-short_refusal NameTaken s = tt
 short_refusal (BadFile f) s = (short_numeral (file_fault_number f) (fault_below f), short_expr f s)
-short_refusal LabelNarrowed s = tt
-short_refusal Limit s = tt
-short_refusal NoParent s = tt
-short_refusal ParentFixed s = tt
-short_refusal ParentDepth s = tt
-short_refusal EpochAhead s = tt
+short_refusal _ s = tt
 
 short_numbers : (most : ℕ) (ns : List ℕ) → most < 18446744073709551616 → AllByRecursion (λ n. (1 ≤ n) × (n ≤ most)) ns → AreShort (map numeral ns)
 short_numbers most [] small s = tt
@@ -255,15 +168,8 @@ short_reply (Done (Patch change patch copied outdated)) s =
     (omega arith, (short_numeral change (omega (arith, s.1)), (short_numeral patch (omega (arith, s.3)), (short_numeral copied s.4, (short_numeral outdated s.5, tt)))))
 short_reply (Done (Reviewed comments)) s = (omega arith, (short_numeral (length comments) (omega (arith, s.0)), short_numbers most_comments comments (omega arith) s.1))
 short_reply (Done (Submitted joined)) s = (omega arith, (short_numeral (length joined) (omega (arith, s.0)), short_numbers most_changes joined (omega arith) s.1))
-short_reply (Done (Branch bases joined)) s = absurd s
-short_reply (Done (Shown change)) s = absurd s
-short_reply (Done (Requirements listed)) s = absurd s
-short_reply (Done (Threads listed)) s = absurd s
-short_reply (Done (Attention listed)) s = absurd s
 short_reply (Refused r) s = (omega arith, (short_numeral (refusal_number r) (below r), short_refusal r s))
-short_reply IdentityReused s = absurd s
-short_reply EpochClosed s = absurd s
-short_reply (NotTaken c) s = absurd s
+short_reply _ s = absurd s
 
 -- What fields are read as is stored.
 told_first : {A B : Type 0} (o : Option A) (f : A → Option B) (b : B) → (o >>= f) ≡ Some b → (a : A) × (o ≡ Some a) × (f a ≡ Some b)

@@ -1,6 +1,6 @@
 -- How a text of a migration moves the rows of a table to another, and drops the first: words that only proofs and private clauses use.
 use Rattle.std.specs.List.{AllByRecursion}
-use Rattle.std.specs.Prelude.{ℕ, List, [], ◌∷◌, ◌++◌, ◌≡◌, ◌≢◌, Option, Some, false, slice_get}
+use Rattle.std.specs.Prelude.{ℕ, List, [], ◌∷◌, ◌++◌, ◌≡◌, ◌≢◌, Some, false, slice_get}
 use Rattle.sqlite.proofs.Callers.{IsPlain, command_of}
 use Rattle.sqlite.specs.{Does.is_acted_on, Effect.Database, Effect.IsDatabase, Listing.understood}
 use Rattle.sqlite_catalog.specs.Change.{without_table}

@@ -1,7 +1,7 @@
 -- Words that only proofs and private clauses use.
-use Rattle.std.specs.{BTreeMap.is_at, List.AllByRecursion, List.Sorted.IsPermutation}
-use Rattle.std.specs.Prelude.{[], ℕ, ◌≡◌, Bool, true, false, List, filter, take, drop, map, Option, Some, option_to_list, None, ◌<◌, length, ◌⊎◌, ◌∷◌, pos, ◌++◌, ◌≢◌, codes}
-use Rattle.{std.specs.declared.cmp.Ordering.Ordering, sqlite.specs.Effect.Database, sqlite.specs.Effect.IsDatabase}
+use Rattle.std.specs.{BTreeMap.is_at, List.Sorted.IsPermutation}
+use Rattle.std.specs.Prelude.{[], ℕ, ◌≡◌, Bool, true, false, List, filter, take, drop, map, Option, Some, option_to_list, None, ◌<◌, length, ◌⊎◌, ◌∷◌, pos, codes}
+use Rattle.std.specs.declared.cmp.Ordering.{Ordering}
 use Rattle.sqlite_schema.specs.declared.{command.Command.TheVariants.Delete, schema.Table.Table}
 use Rattle.sqlite_sql.specs.{Query.Query, Term.Term, Term.lit, Term.col, Term.op1, Term.op2}
 use Rattle.sqlite_sql.specs.declared.ops.BinaryOp.TheVariants.{Compare}
@@ -11,9 +11,8 @@ use Rattle.{sqlite_tied.specs.Listing.counting, sqlite_trees.specs.Tree.Trees, s
 use Rattle.sqlite_value.specs.{Order.Row, Order.Row as Raw, declared.keys.Collation.TheVariants.Binary}
 use Rattle.sqlite_value.specs.declared.value.Value.{Value, TheVariants.Int, TheVariants.Text}
 use Rattle.review_table.specs.Rows.{row_in}
-use Rattle.review_sql_tables.specs.Content.{has_key, SparesOthers, AreApart}
-use Rattle.review_sql_tables.specs.{Desk.desk_tables, Desk.schema_of, Greatest.IsGreatest, Greatest.as_counted}
-use Rattle.review_sql_tables.specs.Moved.{Move, AreMoved}
+use Rattle.review_sql_tables.specs.{Content.has_key, Content.SparesOthers, Desk.desk_tables}
+use Rattle.review_sql_tables.specs.Greatest.{IsGreatest, as_counted}
 use Rattle.review_sql_tables.specs.Search.{HasOdd, Search, rows_at, shown, At}
 use Rattle.review_sql_tables.specs.Texts.{tests_from, over_table, number_at, has_integer, Alters}
 

@@ -1,6 +1,5 @@
-use Rattle.std.proofs.Common.{◌∙◌, None, ap, cond, sym, take, arith}
-use Rattle.std.{proofs.lemmas.List.take_all, specs.BTreeMap.is_at}
-use Rattle.review_table.specs.Rows.{row_in, rows_of}
+use Rattle.std.proofs.{Common.◌∙◌, Common.None, Common.ap, Common.cond, Common.sym, Common.take, lemmas.List.take_all}
+use Rattle.{std.specs.BTreeMap.is_at, review_table.specs.Rows.row_in, review_table.specs.Rows.rows_of}
 use Rattle.review_memory_rows.proofs.Dropped.{among_more, drop_more}
 use Rattle.review_memory_rows.specs.Answers.{answer_cmp, is_among}
 use Rattle.review_memory_rows.proofs.lower.remove_keys.Goals as goal
