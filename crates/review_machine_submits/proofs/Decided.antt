@@ -406,11 +406,11 @@ unchained_undecided sound whole part unmade caller n effective rows c found open
         whole_sound (branch_after reading h c.project c.branch) walk n Broken (whole reading h c.project c.branch history l.reads)
         (bad_kept (links_in rows c.project c.branch) (branch_after reading h c.project c.branch) walk n Broken (part reading h rows c.project c.branch history l.reads l.agree) bad) refl
     unlinked reading h history l (inr (walk, w, is)) = wanted_left unmade reading h caller n effective rows c w history found opened ready l (wanted_is (links_in rows c.project c.branch) walk n w is)
-unchained_undecided sound whole part unmade caller n effective rows c found opened ready _ is = is
 
     by : (reading : Reading) (h : List Entry) → IsHistory h → AreEnough reading h caller (OfCommand (Submit n)) effective rows → HasUnsound rows ⊎ IsUnlinked rows n c → ⊥
     by reading h history l (inl (k, x, there, unsound)) = unsound (sound reading h k x history l.reads (change_known reading h rows k x l.agree there))
     by reading h history l (inr broken) = unlinked reading h history l broken
+unchained_undecided sound whole part unmade caller n effective rows c found opened ready _ is = is
 
 -- ==== a submit that is decided
 

@@ -38,11 +38,10 @@ told_file (Some (Some g)) (Some f) is = ap (option_map Some) (same_file (Some (F
     file_in : Option Row → Option StoredFile
     file_in (Some (FileRow x)) = Some x
     file_in o = None
-told_file _ (Some f) is = absurd (cc)
-told_file _ None is = absurd (cc)
 
     same_file : (a b : Option Row) → a ≡ b → file_in a ≡ file_in b
     same_file a b same = ap file_in same
+told_file _ _ is = absurd (cc)
 
 -- where no odd row is told, there is none
 no_odd : (odd : Bool) → cond odd (Some OddRow) None ≡ None → odd ≡ false
