@@ -1,4 +1,5 @@
 -- Rows that fit together.
+use Rattle.review_core_tables.proofs.Copied.{zero_of}
 use Rattle.std.proofs.Common.{◌≡◌, List, [], ◌∷◌, Option, Some, None, Bool, true, false, refl, sym, ap, ◌∙◌, unwrap_or, if◌then◌else◌, ℕ, ℤ, not, ◌&&◌, ◌||◌, eq-eqb, eqb-true, length, nat_le, nat_cmp, ◌==◌, is_some, ◌+◌, pos, arith, int_eq}
 use Rattle.std.proofs.lemmas.Bool.{and_parts, and_from, false_from_ne_true, Decides.Decides-int_eq}
 use Rattle.std.specs.{BTreeMap.is_at, List.list_all, List.Sorted.IsStrictlySortedBy, Map.keys_of}
@@ -126,13 +127,6 @@ passing rows votes_sorted called_sorted s =
     (all_from accounts_tell (call_test rows) (rows_of rows.attention) called_sorted (call_passes rows s))))
 
 -- ==== what the definitions say of rows that are made
-
-zero_of : (v : ℤ) → voted v ≡ false → v ≡ pos 0
-zero_of v e = (Decides-int_eq v (pos 0)).0 (untrue (int_eq v (pos 0)) e)
-  where
-    untrue : (b : Bool) → not b ≡ false → b ≡ true
-    untrue true e = refl
-    untrue false e = absurd (let f : true ≡ false = e in cc)
 
 -- the next patch set has no votes yet
 pub next_free : (c : Change) → IsSound c → (l : List ℕ) (a : ℕ) → c.vote (current c + 1) l a ≡ pos 0

@@ -1,4 +1,5 @@
 -- Comments in threads, and which threads are unresolved.
+use Rattle.std.proofs.Math.Bool.{or-true}
 use Rattle.std.proofs.Common.{◌≡◌, List, [], ◌∷◌, ◌++◌, Bool, true, false, not, ◌&&◌, ◌||◌, ◌==◌, refl, ap, ◌∙◌, ℕ, zero, suc, ◌+◌, ◌≤◌, length, map, Option, Some, None, cond, sym, subst, eq-eqb, arith, unwrap_or, ◌<◌, get_or, set, append-nil, append_assoc, length-append, filter, option_map, slice_get, eqb-true, ⊎_elim}
 use Rattle.std.proofs.lemmas.Bool.{cases_Bool, Decides.nat_tests}
 use Rattle.std.proofs.lemmas.{List.length-map, List.map-append, Option.slice_get-map}
@@ -12,14 +13,10 @@ use Rattle.review_core_standing.specs.inner.Gathered.{place_of, put_in, thread_s
 
 -- ==== whether a thread is unresolved, from the last comment on
 
-or_true : (b : Bool) → (b || true) ≡ true
-or_true true = refl
-or_true false = refl
-
 -- what is unresolved among the last is unresolved among all
 pub stays_unresolved : (xs ys : List Post) → has_unresolved ys ≡ true → has_unresolved (xs ++ ys) ≡ true
 stays_unresolved [] ys is = is
-stays_unresolved (x ∷ xs) ys is = ap (λ b. (x.unresolved && not (list_any (λ q. q.root == x.root) (xs ++ ys))) || b) (stays_unresolved xs ys is) ∙ or_true (x.unresolved && not (list_any (λ q. q.root == x.root) (xs ++ ys)))
+stays_unresolved (x ∷ xs) ys is = ap (λ b. (x.unresolved && not (list_any (λ q. q.root == x.root) (xs ++ ys))) || b) (stays_unresolved xs ys is) ∙ or-true (x.unresolved && not (list_any (λ q. q.root == x.root) (xs ++ ys)))
 
 -- the last of its thread that is unresolved
 pub unresolved_here : (p : Post) (ps : List Post) → list_any (λ q. q.root == p.root) ps ≡ false → p.unresolved ≡ true → has_unresolved (p ∷ ps) ≡ true
@@ -113,7 +110,7 @@ at_place P [] k s all is = absurd (cc)
 at_place P (y ∷ q) zero s all is = let same : y ≡ s = cc in subst P same all.0
 at_place P (y ∷ q) (suc k) s all is = at_place P q k s all.1 is
 
-other_way : (x y : ℕ) → (x == y) ≡ false → (y == x) ≡ false
+pub other_way : (x y : ℕ) → (x == y) ≡ false → (y == x) ≡ false
 other_way x y e = grind (arith, nat_tests)
 
 put_there : (q : List ℕ) (k s : ℕ) (f g : ℕ → Thread) (x : ShownComment) → slice_get q k ≡ Some s → AreApart q → ((y : ℕ) → (s == y) ≡ false → g y ≡ f y) →
@@ -145,12 +142,12 @@ among_more s (x ∷ xs) ys is = at (x == s) (is_among s xs) is (among_more s xs 
 
 among_last : (s : ℕ) (xs : List ℕ) → is_among s (xs ++ s ∷ []) ≡ true
 among_last s [] = ap (λ b. b || false) (eq-eqb s s refl)
-among_last s (x ∷ xs) = ap (λ b. (x == s) || b) (among_last s xs) ∙ or_true (x == s)
+among_last s (x ∷ xs) = ap (λ b. (x == s) || b) (among_last s xs) ∙ or-true (x == s)
 
 among_at : (q : List ℕ) (k s : ℕ) → slice_get q k ≡ Some s → is_among s q ≡ true
 among_at [] k s is = absurd (cc)
 among_at (y ∷ q) zero s is = let same : y ≡ s = cc in ap (λ b. b || is_among s q) (eq-eqb y s same)
-among_at (y ∷ q) (suc k) s is = ap (λ b. (y == s) || b) (among_at q k s is) ∙ or_true (y == s)
+among_at (y ∷ q) (suc k) s is = ap (λ b. (y == s) || b) (among_at q k s is) ∙ or-true (y == s)
 
 -- ---- what holds of the comments so far
 
@@ -384,7 +381,7 @@ first_ends : (r : Rooted) (rs : List Rooted) → r.comment.unresolved ≡ true �
 first_ends r rs is last = λ i. (is i && not (last i)) || ends_open rs
 
 others_end : (r : Rooted) (rs : List Rooted) → ends_open rs ≡ true → ends_open (r ∷ rs) ≡ true
-others_end r rs is = ap (λ b. (r.comment.unresolved && not (has_root rs r.root)) || b) is ∙ or_true (r.comment.unresolved && not (has_root rs r.root))
+others_end r rs is = ap (λ b. (r.comment.unresolved && not (has_root rs r.root)) || b) is ∙ or-true (r.comment.unresolved && not (has_root rs r.root))
 
 -- an open thread has a comment that is unresolved with none of the thread behind it
 open_ends : (rs : List Rooted) (s : ℕ) → is_open rs s ≡ true → ends_open rs ≡ true
@@ -447,7 +444,7 @@ any_at : (p : ℕ → Bool) (xs : List ℕ) (s : ℕ) → is_among s xs ≡ true
 any_at p [] s among is = absurd (cc)
 any_at p (x ∷ xs) s among is =
     ⊎_elim (λ (e : (x == s) ≡ true). ap (λ b. b || list_any p xs) (ap p (eqb-true x s e) ∙ is))
-    (λ (e : (x == s) ≡ false). ap (λ b. p x || b) (any_at p xs s (sym (ap (λ b. b || is_among s xs) e) ∙ among) is) ∙ or_true (p x))
+    (λ (e : (x == s) ≡ false). ap (λ b. p x || b) (any_at p xs s (sym (ap (λ b. b || is_among s xs) e) ∙ among) is) ∙ or-true (p x))
     (cases_Bool (x == s))
 
 some_at : (p : ℕ → Bool) (xs : List ℕ) → list_any p xs ≡ true → (s : ℕ) × (p s ≡ true)

@@ -81,7 +81,7 @@ voters_alike s c f _ a h = refl
 counted_alike : (s : Setting) (c : Change) (f : ChangeFacts) (t : LabelTerm) (a : ℕ) (v : ℤ) → AreFacts s c f → v ≡ c.vote (current c) t.label a → is_counted f t (a, v) ≡ counts s c t a
 counted_alike s c f t a v h is = λ i. meets (h.ranges t.label i) t.comparison (is i) && voters_alike s c f t.voters a h i
 
-some_where : {X : Type 0} (b : Bool) (x : X) → is_some (cond b (Some x) None) ≡ b
+pub some_where : {X : Type 0} (b : Bool) (x : X) → is_some (cond b (Some x) None) ≡ b
 some_where true x = refl
 some_where false x = refl
 
@@ -230,7 +230,7 @@ or_none : {X : Type 0} (o : Option X) → or_else o None ≡ o
 or_none None = refl
 or_none (Some x) = refl
 
-value_kept : (o : Option ℤ) → option_filter voted o ≡ unless_zero (value_of o)
+pub value_kept : (o : Option ℤ) → option_filter voted o ≡ unless_zero (value_of o)
 value_kept None = refl
 value_kept (Some v) = refl
 

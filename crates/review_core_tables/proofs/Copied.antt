@@ -247,7 +247,7 @@ lost_is f n l u (e ∷ es) s =
     ∙ value_if f l u here e.1 old))
 
 -- the vote on the next patch set
-zero_of : (v : ℤ) → voted v ≡ false → v ≡ pos 0
+pub zero_of : (v : ℤ) → voted v ≡ false → v ≡ pos 0
 zero_of v e = (Decides-int_eq v (pos 0)).0 (not_false (int_eq v (pos 0)) e)
   where
     not_false : (b : Bool) → not b ≡ false → b ≡ true

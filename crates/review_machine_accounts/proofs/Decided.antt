@@ -1,4 +1,5 @@
 -- Commands that are decided, and what closes epochs.
+use Rattle.review_machine_accounts.proofs.Members.{eq_sym}
 use Rattle.std.proofs.Common.{◌≡◌, ℕ, List, refl, ◌+◌, ◌==◌, [], ◌∷◌, ◌++◌, Option, Some, None, Bool, true, false, cond, not, ◌&&◌, sym, ap, ◌∙◌, subst, ⊎_elim, length, map, arith, nat_cmp, is_some, nat_lt, option_map, unwrap_or, MatchOption, bytes_eq, nat_le}
 use Rattle.std.proofs.lemmas.{Bool.cases_Bool, Bool.Decides.nat_tests, Map.Text.is_eq-slice_cmp}
 use Rattle.std.{proofs.lemmas.Slice.Eq.bytes_eq-Decides, specs.BTreeMap.is_at}
@@ -159,9 +160,6 @@ account_row_after : (b : Bool) (name : List ℕ) (before : Option (List ℕ)) �
     option_map AccountRow (cond b (Some name) before) ≡ after_row_edit (account_change (cond b (Some (Some name)) None)) (option_map AccountRow before)
 account_row_after true name before = refl
 account_row_after false name before = refl
-
-eq_sym : (m n : ℕ) → (m == n) ≡ (n == m)
-eq_sym m n = grind (arith, nat_tests)
 
 -- the new account is the only new row
 pub create_decided : {reading : Reading} (h : List Entry) (caller : ℕ) (name : List ℕ) (delta : Delta) (number : ℕ) →

@@ -1,4 +1,10 @@
 -- What rows that agree with a history tell of it.
+use Rattle.review_machine_laws.proofs.Shown.{based_from}
+use Rattle.review_machine_laws.proofs.Shown.{placed_at}
+use Rattle.review_machine_laws.proofs.Shown.{listed_at}
+use Rattle.review_machine_laws.proofs.Changes.{some_mapped}
+use Rattle.review_machine_laws.proofs.Changes.{some_made}
+use Rattle.std.proofs.Math.Bool.{or-false}
 use Rattle.std.proofs.Common.{◌≡◌, ℕ, ◌+◌, ◌<◌, ◌≤◌, ◌==◌, List, [], ◌∷◌, Option, Some, None, Bool, true, false, cond, ◌&&◌, ◌||◌, refl, sym, ap, ◌∙◌, ⊎_elim, arith, eq-eqb, leb-true, is_some, IsSome, nat_le, option_map, bytes_eq, zero, suc, length, ◌⊎◌, nat_cmp, nat_lt, length-append, ◌++◌, subst, MatchOption}
 use Rattle.std.proofs.lemmas.Bool.{cases_Bool, cases_lt, and_parts, Decides.nat_tests}
 use Rattle.std.{proofs.lemmas.Slice.Eq.bytes_eq-Decides, specs.List.list_any}
@@ -26,14 +32,6 @@ use Rattle.review_words.specs.declared.command.Query.TheVariants as asked
 
 -- ==== accounts and their names in a history
 
-some_cond : {X : Type 0} (b : Bool) (x : X) (o : Option X) → is_some (cond b (Some x) o) ≡ (b || is_some o)
-some_cond true x o = refl
-some_cond false x o = refl
-
-or_false : (b : Bool) → (b || false) ≡ b
-or_false true = refl
-or_false false = refl
-
 -- one more account
 one_more : (n c : ℕ) → ((n == c + 1) || (nat_le 1 n && nat_le n c)) ≡ (nat_le 1 n && nat_le n (c + 1))
 one_more n c = grind (arith, nat_tests)
@@ -43,12 +41,12 @@ first_account n = grind (arith, nat_tests)
 
 named_step : (o : Option Command) (n c : ℕ) (before : Option (List ℕ)) → is_some before ≡ (nat_le 1 n && nat_le n c) →
     is_some (named o n (c + 1) before) ≡ (nat_le 1 n && nat_le n (counted o c))
-named_step (Some (CreateAccount name)) n c before e = some_cond (n == c + 1) name before ∙ (ap (λ b. (n == c + 1) || b) e ∙ one_more n c)
+named_step (Some (CreateAccount name)) n c before e = some_made (n == c + 1) name before ∙ (ap (λ b. (n == c + 1) || b) e ∙ one_more n c)
 named_step _ n c before e = e
 
 -- an account has a name
 pub named_account : (h : List Entry) (n : ℕ) → is_some (name_of h n) ≡ is_account h n
-named_account [] n = some_cond (n == 1) admin_name None ∙ (or_false (n == 1) ∙ first_account n)
+named_account [] n = some_made (n == 1) admin_name None ∙ (or-false (n == 1) ∙ first_account n)
 named_account (e ∷ h) n = named_step (accepted e) n (account_count h) (name_of h n) (named_account h n)
 
 pub some_account : (h : List Entry) → 1 ≤ account_count h
@@ -136,10 +134,6 @@ found_taken reading h name None none =
     (λ (t : name_taken h name ≡ true). let r = taken_name_is h name t in absurd (none r.0 (ap (option_map AccountRow) r.1)))
     (λ (f : name_taken h name ≡ false). sym f)
     (cases_Bool (name_taken h name))
-
-some_mapped : {X Y : Type 0} (f : X → Y) (o : Option X) → is_some (option_map f o) ≡ is_some o
-some_mapped f None = refl
-some_mapped f (Some x) = refl
 
 account_fact : (reading : Reading) (h : List Entry) (n : ℕ) → is_some (fact reading h (AccountKey n)) ≡ is_account h n
 account_fact reading h n = some_mapped AccountRow (name_of h n) ∙ named_account h n
@@ -276,30 +270,6 @@ pub place_told : (reading : Reading) (h : List Entry) (rows : Rows) (key : Branc
 place_told reading h rows key agree there =
     let r = found_of (view reading h) rows (want.LastPlace key) agree there in
     ap number_of (r.1 ∙ ap Some r.2.1) ∙ last_place_is (bases h key.project key.branch) r.2.0 r.2.2.above r.2.2.there
-
--- a commit stands at a place just where it is in the list
-listed_at : (bs : List (List ℕ)) (commit : List ℕ) (n : ℕ) → at_place bs n ≡ Some commit → list_any (λ c. bytes_eq c commit) bs ≡ true
-listed_at [] commit n e = absurd (cc)
-listed_at (b ∷ bs) commit zero e = absurd (cc)
-listed_at (b ∷ bs) commit (suc zero) e =
-    let same : b ≡ commit = cc in ap (λ t. t || list_any (λ c. bytes_eq c commit) bs) ((bytes_eq-Decides b commit).1 same)
-listed_at (b ∷ bs) commit (suc (suc n)) e = ap (λ t. bytes_eq b commit || t) (listed_at bs commit (suc n) e) ∙ or_true (bytes_eq b commit)
-  where
-    or_true : (b : Bool) → (b || true) ≡ true
-    or_true true = refl
-    or_true false = refl
-
-placed_at : (bs : List (List ℕ)) (commit : List ℕ) → list_any (λ c. bytes_eq c commit) bs ≡ true → (n : ℕ) × (at_place bs (suc n) ≡ Some commit)
-placed_at [] commit e = absurd (cc)
-placed_at (b ∷ bs) commit e =
-    ⊎_elim
-    (λ (t : bytes_eq b commit ≡ true). (0, ap Some ((bytes_eq-Decides b commit).0 t)))
-    (λ (f : bytes_eq b commit ≡ false). let r = placed_at bs commit (sym (ap (λ t. t || list_any (λ c. bytes_eq c commit) bs) f) ∙ e) in (suc r.0, r.1))
-    (cases_Bool (bytes_eq b commit))
-
-based_from : (o : Option (List ℕ)) (commit : List ℕ) → option_map BaseRow o ≡ Some (BaseRow commit) → o ≡ Some commit
-based_from None commit e = absurd (cc)
-based_from (Some c) commit e = let same : c ≡ commit = cc in ap Some same
 
 base_or_not : (reading : Reading) (h : List Entry) (base : Base) (is : Bool) → IsBaseOrNot (fact reading h) base is → is ≡ is_base h base.project base.branch base.commit
 base_or_not reading h base true there =

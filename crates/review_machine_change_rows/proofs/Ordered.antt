@@ -1,4 +1,5 @@
 -- Rows by their numbers, in order.
+use Rattle.std.proofs.lemmas.List.{append-nil}
 use Rattle.std.proofs.Common.{◌≡◌, ℕ, zero, suc, ◌+◌, ◌<◌, ◌≤◌, ◌==◌, true, false, cond, List, [], ◌∷◌, ◌++◌, length, Some, None, refl, sym, ap, ◌∙◌, subst, ⊎_elim, arith}
 use Rattle.std.proofs.lemmas.{Bool.cases_lt, Bool.Decides.nat_tests, Cmp.ranked}
 use Rattle.std.specs.{Cmp.unsigned_tied, List.AllByRecursion, List.Sorted.IsStrictlySortedBy, Map.keys_of}
@@ -25,17 +26,13 @@ at_number k (x ∷ xs) (suc m) n is =
     let e : (n == k + 1) ≡ false = grind (arith, nat_tests) in
     ap (λ b. cond b (Some x) (row_in nat_cmp (numbered (k + 1) xs) n)) (unsigned_tied n (k + 1) ∙ e) ∙ at_number (k + 1) xs m n (omega (arith, is))
 
-nothing_more : {X : Type 0} (xs : List X) → xs ++ [] ≡ xs
-nothing_more [] = refl
-nothing_more (x ∷ xs) = ap (λ l. x ∷ l) (nothing_more xs)
-
 numbered_is : {X : Type 0} (xs : List X) → AreInOrder (numbered 0 xs) xs
 numbered_is xs zero = before_first 0 xs 0 (omega arith)
 numbered_is xs (suc m) = at_number 0 xs m (suc m) (omega arith)
 
 -- all rows are under their numbers
 pub in_order : {X : Type 0} (rows : List (ℕ × X)) (xs : List X) → numbered 0 xs ++ [] ≡ rows → AreInOrder rows xs
-in_order rows xs is n = ap (λ r. row_in nat_cmp r n) (sym is ∙ nothing_more (numbered 0 xs)) ∙ numbered_is xs n
+in_order rows xs is n = ap (λ r. row_in nat_cmp r n) (sym is ∙ append-nil (numbered 0 xs)) ∙ numbered_is xs n
 
 -- ---- gaps
 

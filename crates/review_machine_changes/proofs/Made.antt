@@ -1,4 +1,5 @@
 -- What a command on a change that is done makes of the rows.
+use Rattle.review_machine_change_rows.proofs.Edited.{after_mapped}
 use Rattle.std.proofs.Common.{ℕ, Result, IfOk, refl, sym, subst, nat_cmp, ◌≡◌, zero, suc, ◌+◌, ◌==◌, ◌≤◌, ◌<◌, List, [], ◌∷◌, ◌++◌, Option, Some, None, Bool, true, false, cond, ap, ◌∙◌, ⊎_elim, arith, is_some, nat_le, nat_lt, option_map, min, length, eqb-true, unwrap_or}
 use Rattle.std.proofs.lemmas.{Bool.cases_Bool, Bool.Decides.nat_tests, Result.IfOk-weaker}
 use Rattle.std.specs.declared.alloc.AllocError.{AllocError}
@@ -65,10 +66,6 @@ stored_numbers number last patch n within p = let w = within_parts most_changes 
 
 pub change_within : (n : ℕ) → nat_lt n most_changes ≡ true → is_within most_changes (n + 1) ≡ true
 change_within n below = within_next n most_changes below
-
-after_mapped : {X Y : Type 0} (f : X → Y) (o : Option (Option X)) (was : Option X) → after_row_edit (option_map (option_map f) o) (option_map f was) ≡ option_map f (after_row_edit o was)
-after_mapped f None was = refl
-after_mapped f (Some now) was = refl
 
 -- an edit turns the rows of its change and no others
 pub edit_turns : (e : ChangeEdit) (n : ℕ) (part : Part) (before : Option Change) (new : Change) (b : Bool) → (e.change == n) ≡ b →

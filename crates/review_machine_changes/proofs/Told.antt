@@ -43,10 +43,6 @@ use Rattle.review_file_rules.specs.declared.parts.Right.TheVariants as right
 
 -- ==== what rows that agree with a history tell of its changes
 
--- the files that a text spells have the same trees
-abbrev pub OneFile : Type 0
-OneFile = OneEffective
-
 -- a change
 pub change_told : (reading : Reading) (h : List Entry) (rows : Rows) (n : ℕ) → Agree reading h rows → IsKnown rows (want.Change n) → change_in (known rows (want.Change n)) ≡ change reading h n
 change_told reading h rows n agree there =
@@ -72,12 +68,12 @@ each_group reading h rows account (g ∷ gs) agree all =
     λ i. ((ap (λ b. bytes_eq g registered_users || b) (member_told reading h rows g account agree all.0)) ∙ sym (in_group h g account)) i || each_group reading h rows account gs agree all.1 i
 
 -- the file that was read has the groups of the one that is read right
-same_groups : OneFile → (reading : Reading) (h : List Entry) (project : List ℕ) (file : File) (right : Right) → Reads reading h → HasFile (texts_of h project) (Some file) →
+same_groups : OneEffective → (reading : Reading) (h : List Entry) (project : List ℕ) (file : File) (right : Right) → Reads reading h → HasFile (texts_of h project) (Some file) →
     right_groups right file.access ≡ right_groups right (file_of reading h project).access
 same_groups one reading h project file right reads has = ap (λ t. right_groups right t.access) (same_file one reading h project file reads has)
 
 -- whether an account has a right
-pub right_told : OneFile → (reading : Reading) (h : List Entry) (rows : Rows) (project : List ℕ) (file : File) (right : Right) (account : ℕ) → Reads reading h → Agree reading h rows →
+pub right_told : OneEffective → (reading : Reading) (h : List Entry) (rows : Rows) (project : List ℕ) (file : File) (right : Right) (account : ℕ) → Reads reading h → Agree reading h rows →
     HasFile (texts_of h project) (Some file) → AllByRecursion (IsKnown rows) (caller_in account (right_groups right file.access)) → right_in rows file right account ≡ has_right reading h project right account
 right_told one reading h rows project file right account reads agree has all =
     each_group reading h rows account (right_groups right file.access) agree all
@@ -124,7 +120,7 @@ some_project h project f has = texts_there h project ∙ by (texts_of h project)
     by [] has = absurd (let none : Some f ≡ None = has in cc)
     by (t ∷ ts) has = refl
 
-refused_at : OneFile → (reading : Reading) (h : List Entry) (caller : ℕ) (new : NewChange) (effective o : Option File) (rows : Rows) → is_account h caller ≡ true → AreEnough reading h caller (OfCommand (CreateChange new)) effective rows →
+refused_at : OneEffective → (reading : Reading) (h : List Entry) (caller : ℕ) (new : NewChange) (effective o : Option File) (rows : Rows) → is_account h caller ≡ true → AreEnough reading h caller (OfCommand (CreateChange new)) effective rows →
     HasFile (texts_of h new.project) o → AllByRecursion (IsKnown rows) (command_wants (CreateChange new)) → AllByRecursion (IsKnown rows) (file_wants o caller (OfCommand (CreateChange new))) →
     refused_by reading h caller (CreateChange new) ≡ first_refusal (create_checks o rows caller new)
 refused_at one reading h caller new effective None rows account l has all asked =
@@ -142,7 +138,7 @@ refused_at one reading h caller new effective (Some f) rows account l has all as
     (sym (ap (λ n. nat_lt n most_changes) (last_change_told reading h rows l.agree all.1.0)))
 
 -- what refuses a new change is what rows tell
-pub refused_told : OneFile → (reading : Reading) (h : List Entry) (caller : ℕ) (new : NewChange) (effective : Option File) (rows : Rows) → is_account h caller ≡ true → AreEnough reading h caller (OfCommand (CreateChange new)) effective rows →
+pub refused_told : OneEffective → (reading : Reading) (h : List Entry) (caller : ℕ) (new : NewChange) (effective : Option File) (rows : Rows) → is_account h caller ≡ true → AreEnough reading h caller (OfCommand (CreateChange new)) effective rows →
     refused_by reading h caller (CreateChange new) ≡ first_refusal (create_checks effective rows caller new)
 refused_told one reading h caller new effective rows account l =
     let all = asked_beside h caller (CreateChange new) rows l in

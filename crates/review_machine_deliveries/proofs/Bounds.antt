@@ -1,4 +1,7 @@
 -- How many votes a change of a history has: they are counted, accounts gave them, and there is a most.
+use Rattle.review_machine_laws.proofs.Rows.{made_holds}
+use Rattle.std.proofs.lemmas.Bool.{or_left}
+use Rattle.std.proofs.lemmas.Bool.{or_right}
 use Rattle.std.proofs.Common.{◌≡◌, ℕ, ◌+◌, ◌==◌, ◌≤◌, List, [], ◌∷◌, length, Bool, true, false, cond, ◌&&◌, ◌||◌, refl, sym, ap, ◌∙◌, ⊎_elim, arith, eqb-true, eq-eqb, bytes_eq, ℤ, pos, Option, Some, None, subst, leb-true, le-leb, nat_le, option_map, zero, suc, ◌*◌, ◌<◌, ◌++◌, not, Less, Equal, Greater, nat_cmp, length-append, ltb-true, ltb-false, int_eq, is_some, nat_lt, find, filter, fold, codes}
 use Rattle.std.proofs.lemmas.{Bool.and_parts, Bool.and_from, Bool.cases_Bool, Bool.cases_lt, List.length-map}
 use Rattle.std.{proofs.lemmas.Slice.Eq.bytes_eq-Decides, specs.Cmp.Lexicographic.slice_cmp}
@@ -51,10 +54,6 @@ without_long u l (k ∷ ks) there =
     omega arith)
     (cases_Bool (is_vote k u l))
 
-or_or : (b c : Bool) → c ≡ true → (b || c) ≡ true
-or_or true c t = refl
-or_or false c t = t
-
 -- two votes of one key
 same_vote : (k : VoteKey) (u v : ℕ) (l m : List ℕ) → is_vote k u l ≡ true → is_vote k v m ≡ true → (u ≡ v) × (l ≡ m)
 same_vote k u v l m one other =
@@ -76,7 +75,7 @@ without_other u v l m (k ∷ ks) other there =
     ∙ ⊎_elim
     (λ (s : is_vote k v m ≡ true). ap (λ b. b || has_vote (without u l ks) v m) s)
     (λ (n : is_vote k v m ≡ false).
-    or_or (is_vote k v m) (has_vote (without u l ks) v m) (without_other u v l m ks other (sym (ap (λ b. b || has_vote ks v m) n) ∙ there)))
+    or_right (is_vote k v m) (has_vote (without u l ks) v m) (without_other u v l m ks other (sym (ap (λ b. b || has_vote ks v m) n) ∙ there)))
     (cases_Bool (is_vote k v m)))
     (cases_Bool (is_vote k u l))
 
@@ -91,7 +90,7 @@ no_more (k ∷ ks) js apart within =
     let rest = no_more ks (without k.account k.label js) apart.1 (λ u l there.
     without_other k.account u k.label l js (λ same.
     let bad : true ≡ false = sym there ∙ ((λ i. has_vote ks (sym same.0 i) (sym same.1 i)) ∙ apart.0) in absurd (cc))
-    (within u l (or_or (is_vote k u l) (has_vote ks u l) there))) in
+    (within u l (or_right (is_vote k u l) (has_vote ks u l) there))) in
     let long = without_long k.account k.label js here in
     omega arith
 
@@ -167,14 +166,10 @@ by_choice Is true None f c before then is = absurd (cc)
 by_choice Is true (Some x) f c before then is = let same : f x ≡ c = cc in subst Is same (then x (before x refl))
 by_choice Is false o f c before then is = before c is
 
-by_making : (Is : Change → Type 0) (b : Bool) (o : Option Change) (new c : Change) → ((x : Change) → o ≡ Some x → Is x) → Is new → cond b (Some new) o ≡ Some c → Is c
-by_making Is true o new c before begins is = let same : new ≡ c = cc in subst Is same begins
-by_making Is false o new c before begins is = before c is
-
 voters_done : (reading : Reading) (h : List Entry) (caller n : ℕ) (c : Change) (command : Command) (a : Answer) → IsAnswerBy reading h caller command (Done a) →
     ((x : Change) → change reading h n ≡ Some x → HasVoters h x) → change_by reading h caller (Some command) n (change reading h n) ≡ Some c → HasVoters h c
 voters_done reading h caller n c (CreateChange new) a answer before is =
-    by_making (HasVoters h) (change_count h + 1 == n) (change reading h n) (begun new caller (length h + 1)) c before (λ m l u none. absurd (cc)) is
+    made_holds (HasVoters h) (change_count h + 1 == n) (change reading h n) (begun new caller (length h + 1)) c before (λ m l u none. absurd (cc)) is
 voters_done reading h caller n c (OnChange m command) a answer before is =
     let account = (all_pass ((is_account h caller, UnknownCaller) ∷ checks reading h caller (OnChange m command)) (done_passes reading h caller (OnChange m command) a answer)).0 in
     by_choice (HasVoters h) (m == n) (change reading h n) (λ x. after (setting_of reading h x.project) command caller (length h + 1) x) c before
@@ -227,14 +222,6 @@ in_both (k ∷ ks) js u l = ap (λ b. (bytes_eq k.label l && (k.account == u)) |
     or_assoc : (a b c : Bool) → ((a || b) || c) ≡ (a || (b || c))
     or_assoc true b c = refl
     or_assoc false b c = refl
-
-or_left : (a b : Bool) → a ≡ true → (a || b) ≡ true
-or_left true b is = refl
-or_left false b is = absurd (cc)
-
-or_right : (a b : Bool) → b ≡ true → (a || b) ≡ true
-or_right true b is = refl
-or_right false b is = is
 
 votes_on_there : (m l : List ℕ) (n u : ℕ) → bytes_eq m l ≡ true → 1 ≤ u → u ≤ n → has_vote (votes_on m n) u l ≡ true
 votes_on_there m l zero u same low high = absurd (omega arith)

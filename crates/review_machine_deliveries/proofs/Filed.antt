@@ -1,4 +1,6 @@
 -- Effective files, as they are gathered row by row.
+use Rattle.review_machine_rows.proofs.Asked.{none_in}
+use Rattle.review_machine_rows.proofs.Lined.{fewer}
 use Rattle.std.proofs.Common.{◌≡◌, inl, inr, ℕ, ◌<◌, List, [], ◌∷◌, Option, Some, None, true, refl, sym, ap, ◌∙◌, subst, All, is_some, ◌++◌, zero, suc, Bool, false, cond, Result, Ok, Err, option_and_then, option_map, IfErr, IsErr, IsErrAnd}
 use Rattle.std.specs.{List.AllByRecursion, Option.option_or, Option.option_map_or}
 use Rattle.review_words.specs.{History.Entry, History.is_project, declared.command.Command.Command}
@@ -82,15 +84,10 @@ stays_added first rows more both stays added w there =
 pub left_before : (f : ShelfFault) (old mid new : Option Tables) → mid ≡ old → LeavesBy (cause_of f) mid new → LeavesBy (cause_of f) old new
 left_before f old mid new same leaves = subst (λ (t : Option Tables). LeavesBy (cause_of f) t new) same leaves
 
--- nothing is left of two lists where the first that has something has nothing
-none_of : (a b : List Want) → or_next a b ≡ [] → (a ≡ []) × (b ≡ [])
-none_of [] b none = (refl, none)
-none_of (w ∷ ws) b none = absurd (cc)
-
 front_made : (rows : Rows) (xs ys : List (List Want)) → next_of rows (xs ++ ys) ≡ [] → next_of rows xs ≡ []
 front_made rows [] ys none = refl
 front_made rows (x ∷ xs) ys none =
-    let p = none_of (unknown rows x) (next_of rows (xs ++ ys)) none in
+    let p = none_in (unknown rows x) (next_of rows (xs ++ ys)) none in
     ap (λ l. or_next l (next_of rows xs)) p.0 ∙ front_made rows xs ys p.1
 
 -- where nothing is left to ask without the file, asking has come to what is asked by a file
@@ -99,8 +96,8 @@ come_to_file file rows caller topic none =
     let line = line_steps rows most_depth (parent_of rows topic) in
     let last = file_wants None caller topic ∷ [] in
     let made = (all_made None rows caller topic none).0 in
-    let p = none_of (unknown rows (first_wants caller topic)) (next_of rows (change_wants rows topic ∷ (line ++ last))) made in
-    let q = none_of (unknown rows (change_wants rows topic)) (next_of rows (line ++ last)) p.1 in
+    let p = none_in (unknown rows (first_wants caller topic)) (next_of rows (change_wants rows topic ∷ (line ++ last))) made in
+    let q = none_in (unknown rows (change_wants rows topic)) (next_of rows (line ++ last)) p.1 in
     (p.0, q.0, front_made rows line last q.1)
 
 -- ==== the effective file by which a command is judged or a question answered, as it is gathered
@@ -238,11 +235,6 @@ project_stays first rows (OfCommand (CreateChange new)) project stays is = is
 project_stays first rows (OfCommand (OnChange n command)) project stays is = change_stays (needs_file command) first rows n project stays is
 project_stays first rows (OfCommand (Submit n)) project stays is = change_stays true first rows n project stays is
 project_stays first rows _ project stays is = absurd (cc)
-
--- fewer steps ask for less
-fewer : (rows : Rows) (n : ℕ) (p : Option (List ℕ)) → AllByRecursion (λ s. unknown rows s ≡ []) (line_steps rows (suc n) p) → AllByRecursion (λ s. unknown rows s ≡ []) (line_steps rows n p)
-fewer rows zero p all = tt
-fewer rows (suc n) p all = (all.0, fewer rows n (option_and_then (known_parent rows) p) all.1)
 
 module _ (first rows : Rows) (stays : StaysKnown first rows) where
   -- a line that was asked for is the same in more rows

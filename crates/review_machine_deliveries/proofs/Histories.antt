@@ -1,4 +1,5 @@
 -- Histories with one more delivery: identities, tables, and what an answer rests on.
+use Rattle.review_machine_laws.proofs.Parents.{history_from}
 use Rattle.std.proofs.Common.{◌++◌, ◌∷◌, ◌||◌, ℕ, Bool, true, false, List, [], if◌then◌else◌, arith, ◌≡◌, ◌+◌, ◌≤◌, length, Option, Some, None, cond, refl, sym, ap, ◌∙◌, subst, ⊎_elim, inl, inr, eqb-true, eq-eqb, ◌==◌, ◌&&◌, MatchOption, nat_le, nat_lt, unwrap_or, bytes_eq, ◌<◌, Result, Ok, Err}
 use Rattle.std.proofs.lemmas.{Bool.and_parts, Bool.and_from, Bool.cases_Bool, Slice.Eq.bytes_eq-Decides}
 use Rattle.review_words.specs.History.{Entry, entry_of, is_closed, Identity, stored, is_same, latest, may_follow, version_of, least_open, if_done}
@@ -52,11 +53,11 @@ all_taken_formed [] rs all = tt
 all_taken_formed (d ∷ ds) [] all = tt
 all_taken_formed (d ∷ ds) (r ∷ rs) all = taken_formed d r (taken ds rs) all.0 (all_taken_formed ds rs all.1)
 
-first_formed : (h0 earlier es : List Entry) → AreFormed es → AreFormed (arrivals_after h0 earlier es)
-first_formed h0 earlier [] formed = tt
-first_formed h0 earlier (e ∷ es) formed = either (has_identity h0 e || has_identity earlier e) (first_formed h0 (e ∷ earlier) es formed.2)
+first_formed : (h0 history_from es : List Entry) → AreFormed es → AreFormed (arrivals_after h0 history_from es)
+first_formed h0 history_from [] formed = tt
+first_formed h0 history_from (e ∷ es) formed = either (has_identity h0 e || has_identity history_from e) (first_formed h0 (e ∷ history_from) es formed.2)
   where
-    either : (b : Bool) → AreFormed (arrivals_after h0 (e ∷ earlier) es) → AreFormed (if b then arrivals_after h0 (e ∷ earlier) es else e ∷ arrivals_after h0 (e ∷ earlier) es)
+    either : (b : Bool) → AreFormed (arrivals_after h0 (e ∷ history_from) es) → AreFormed (if b then arrivals_after h0 (e ∷ history_from) es else e ∷ arrivals_after h0 (e ∷ history_from) es)
     either true later = later
     either false later = (formed.0, formed.1, later)
 
@@ -219,11 +220,6 @@ stored_stays (m ∷ more) h i e hist some =
     absurd (cc))
     (λ (f : is_same m.identity i ≡ false). stored_there m (more ++ h) i f ∙ there)
     (cases_Bool (is_same m.identity i))
-
--- a list that goes on from another is a history only where that is one
-pub earlier : (more h : List Entry) → IsHistory (more ++ h) → IsHistory h
-earlier [] h history = history
-earlier (e ∷ more) h history = earlier more h history.3
 
 -- what is kept under an identity whose epoch is open is what is stored under it
 pub kept_open : (h : List Entry) (i : Identity) → is_closed h i.epoch ≡ false → kept_answer h i ≡ stored_answer h i

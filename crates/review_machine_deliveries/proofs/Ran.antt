@@ -1,4 +1,6 @@
 -- Runs: one delivery more, several lists, and the shelf closed between them.
+use Rattle.std.proofs.Math.Bool.{or-false}
+use Rattle.std.proofs.Math.Bool.{or-true}
 use Rattle.std.proofs.Common.{◌≡◌, ℕ, zero, suc, ◌+◌, ◌-◌, ◌<◌, ◌≤◌, take, List, [], ◌∷◌, ◌++◌, length, get_or, Bool, true, false, cond, ◌||◌, refl, sym, ap, ◌∙◌, subst, inl, inr, ⊎_elim, arith, length-append, get_or-append-add, is_some, Option, append_assoc, append-nil}
 use Rattle.std.proofs.Math.Seq.{take-append-add}
 use Rattle.std.proofs.lemmas.{Bool.cases_Bool, Bool.cases_lt, List.get_or_append_left, List.take-append-le}
@@ -37,23 +39,15 @@ taken-append (d ∷ ds) es (r ∷ rs) ss same =
 abbrev pub HasSince : List Entry → List Entry → List Entry → Type 0
 HasSince now h0 earlier = (i : Identity) → is_closed now i.epoch ≡ false → is_some (stored now i) ≡ (is_some (stored h0 i) || is_some (stored earlier i))
 
-or_true : (b : Bool) → (b || true) ≡ true
-or_true true = refl
-or_true false = refl
-
-pub or_false : (b : Bool) → (b || false) ≡ b
-or_false true = refl
-or_false false = refl
-
 pub since_start : (h : List Entry) → HasSince h h []
-since_start h i opened = sym (or_false (is_some (stored h i)))
+since_start h i opened = sym (or-false (is_some (stored h i)))
 
 pub since_old : (now h0 earlier : List Entry) (e : Entry) → HasSince now h0 earlier → has_identity now e ≡ true → HasSince now h0 (e ∷ earlier)
 since_old now h0 earlier e since old i opened =
     ⊎_elim
     (λ (t : is_same e.identity i ≡ true).
     let there : is_some (stored now i) ≡ true = subst (λ (j : Identity). is_some (stored now j) ≡ true) (same_from e.identity i t) old in
-    there ∙ sym (ap (λ o. is_some (stored h0 i) || is_some o) (stored_here e earlier i t) ∙ or_true (is_some (stored h0 i))))
+    there ∙ sym (ap (λ o. is_some (stored h0 i) || is_some o) (stored_here e earlier i t) ∙ or-true (is_some (stored h0 i))))
     (λ (f : is_same e.identity i ≡ false).
     since i opened ∙ ap (λ o. is_some (stored h0 i) || is_some o) (sym (stored_there e earlier i f)))
     (cases_Bool (is_same e.identity i))
@@ -62,7 +56,7 @@ pub since_new : (now h0 earlier : List Entry) (e : Entry) → HasSince now h0 ea
 since_new now h0 earlier e since i opened =
     ⊎_elim
     (λ (t : is_same e.identity i ≡ true).
-    ap is_some (stored_here e now i t) ∙ sym (ap (λ o. is_some (stored h0 i) || is_some o) (stored_here e earlier i t) ∙ or_true (is_some (stored h0 i))))
+    ap is_some (stored_here e now i t) ∙ sym (ap (λ o. is_some (stored h0 i) || is_some o) (stored_here e earlier i t) ∙ or-true (is_some (stored h0 i))))
     (λ (f : is_same e.identity i ≡ false).
     ap is_some (stored_there e now i f) ∙ since i (open_before e now i.epoch opened) ∙ ap (λ o. is_some (stored h0 i) || is_some o) (sym (stored_there e earlier i f)))
     (cases_Bool (is_same e.identity i))

@@ -1,4 +1,6 @@
 -- What one delivery does, and that its history has a reading.
+use Rattle.review_machine_rows.proofs.Readings.{put_file}
+use Rattle.review_machine_rows.proofs.Readings.{not_refused}
 use Rattle.std.proofs.Common.{◌≡◌, ℕ, ◌+◌, ◌<◌, List, [], ◌∷◌, ◌++◌, length, Option, Some, None, Bool, true, false, cond, ◌||◌, refl, sym, ap, ◌∙◌, subst, inl, inr, ⊎_elim, ◌⊎◌, Result, Ok, Err, is_some, IfOk, IfErr, nat_lt, IsErr, IsErrAnd, bytes_eq, MatchOption}
 use Rattle.std.proofs.lemmas.{Bool.cases_Bool, Slice.Eq.bytes_eq-Decides}
 use Rattle.review_words.specs.History.{Entry, Identity, IsFirst, stored, entry_of, is_closed, accepted}
@@ -416,17 +418,6 @@ right_there reading text file is _ right = tt
 reads_there : (reading : Reading) (text : List ℕ) (file : File) → IsRead text file → (h : List Entry) → Reads reading h → Reads (with_file reading text file) h
 reads_there reading text file is [] reads = tt
 reads_there reading text file is (e ∷ h) reads = (right_there reading text file is (accepted e) reads.0, reads_there reading text file is h reads.1)
-
--- an answer that is no refusal is given where no check refuses
-not_fault : {A : Type 0} (o : Option Refusal) (a : Answer) → MatchOption o A (λ r. Done a ≡ Refused r) → A
-not_fault None a outcome = outcome
-not_fault (Some r) a refused = absurd (cc)
-
--- the file that an accepted PutProject puts
-put_file : (reading : Reading) (h : List Entry) (caller : ℕ) (project text : List ℕ) (a : Answer) → IsAnswerBy reading h caller (PutProject project text) (Done a) → (f : File) × IsRead text f
-put_file reading h caller project text a answer =
-    ⊎_elim (λ (fault : IsFaultAnswer text (Done a)). let e : Done a ≡ Refused (BadFile fault.0) = fault.2 in absurd (cc)) (λ (file : IsFileAnswer reading h project text (Done a)). (file.0, file.1))
-    (not_fault (refused_by reading h caller (PutProject project text)) a answer)
 
 -- one answered entry more
 read_more : (h : List Entry) (caller epoch : ℕ) (id : List ℕ) (command : Command) (reply : Reply) (reading : Reading) → Reads reading h → IsDoneBy reading h caller command reply → HasReading (entry_of caller epoch id command reply ∷ h)

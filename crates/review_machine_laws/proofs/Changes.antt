@@ -1,4 +1,6 @@
 -- The changes of a history: which there are, what each was made for, and that each is sound.
+use Rattle.review_core_rules.proofs.Stays.{joins as joined_sound}
+use Rattle.std.proofs.Math.Bool.{or-true}
 use Rattle.std.proofs.Common.{◌≡◌, ℕ, ◌+◌, List, length, Option, Some, None, refl, subst, is_some, ◌<◌, ◌≤◌, ◌==◌, [], ◌∷◌, Bool, true, false, cond, ◌&&◌, ◌||◌, sym, ap, ◌∙◌, ⊎_elim, arith, leb-true, IsSome, nat_le, option_map, bytes_eq, ◌++◌, eqb-true, MatchOption, zero, suc, ltb-true}
 use Rattle.std.proofs.lemmas.Bool.{cases_lt, and_parts, cases_Bool, Decides.nat_tests}
 use Rattle.std.specs.{List.AllByRecursion, Option.option_map_or}
@@ -49,7 +51,7 @@ joining_there h js n o = joining_some h (place_in js n) o
 abbrev pub is_up_to : ℕ → ℕ → Bool
 is_up_to c n = nat_le 1 n && nat_le n c
 
-some_mapped : {X Y : Type 0} (f : X → Y) (o : Option X) → is_some (option_map f o) ≡ is_some o
+pub some_mapped : {X Y : Type 0} (f : X → Y) (o : Option X) → is_some (option_map f o) ≡ is_some o
 some_mapped f None = refl
 some_mapped f (Some x) = refl
 
@@ -57,7 +59,7 @@ some_where : {X : Type 0} (b : Bool) (x o : Option X) → is_some x ≡ is_some 
 some_where true x o e = e
 some_where false x o e = refl
 
-some_made : {X : Type 0} (b : Bool) (x : X) (o : Option X) → is_some (cond b (Some x) o) ≡ (b || is_some o)
+pub some_made : {X : Type 0} (b : Bool) (x : X) (o : Option X) → is_some (cond b (Some x) o) ≡ (b || is_some o)
 some_made true x o = refl
 some_made false x o = refl
 
@@ -247,17 +249,6 @@ done_sound begins stays reading h caller n c (OnChange m command) a answer befor
     is
 done_sound begins stays reading h caller n c _ a answer before is = before c is
 
--- a change that joins its branch stays sound: nobody is in its attention set
-joined_sound : (place request : ℕ) (c : Change) → IsSound c → IsSound (joined_at place request c)
-joined_sound place request c s = record {
-  patches = s.patches;
-  comments = s.comments;
-  on_patches = s.on_patches;
-  in_order = s.in_order;
-  voters = s.voters;
-  attending = λ u called. absurd (cc);
-}
-
 step_sound : BeginsSound → StaysSound → (reading : Reading) (h : List Entry) (caller n : ℕ) (c : Change) (command : Command) (reply : Reply) → IsDoneBy reading h caller command reply →
     ((x : Change) → change reading h n ≡ Some x → IsSound x) → change_by reading h caller (if_done reply command) n (change reading h n) ≡ Some c → IsSound c
 step_sound begins stays reading h caller n c command (Done a) answer before is = done_sound begins stays reading h caller n c command a answer before is
@@ -271,17 +262,13 @@ are_sound begins stays reading (e ∷ h) n c history reads is =
 
 -- ==== whether one of the changes of a history passes a test
 
-pub or_true : (b : Bool) → (b || true) ≡ true
-or_true true = refl
-or_true false = refl
-
 -- one up to a number passes, where a change of no greater number does
-passes_up_to : (reading : Reading) (h : List Entry) (test : Change → Bool) (k n : ℕ) (c : Change) → 1 ≤ n → n ≤ k → change reading h n ≡ Some c → test c ≡ true → some_change reading h test k ≡ true
+pub passes_up_to : (reading : Reading) (h : List Entry) (test : Change → Bool) (k n : ℕ) (c : Change) → 1 ≤ n → n ≤ k → change reading h n ≡ Some c → test c ≡ true → some_change reading h test k ≡ true
 passes_up_to reading h test zero n c one below is passes = absurd (omega arith)
 passes_up_to reading h test (suc k) n c one below is passes =
     ⊎_elim
     (λ (lt : n < suc k).
-    ap (λ b. option_map_or test (change reading h (suc k)) false || b) (passes_up_to reading h test k n c one (omega arith) is passes) ∙ or_true (option_map_or test (change reading h (suc k)) false))
+    ap (λ b. option_map_or test (change reading h (suc k)) false || b) (passes_up_to reading h test k n c one (omega arith) is passes) ∙ or-true (option_map_or test (change reading h (suc k)) false))
     (λ (ge : suc k ≤ n).
     let same : n ≡ suc k = omega arith in
     ap (λ o. option_map_or test o false || some_change reading h test k) (ap (change reading h) (sym same) ∙ is) ∙ ap (λ b. b || some_change reading h test k) passes)
@@ -297,7 +284,7 @@ within_count reading h n c is =
 pub some_passes : (reading : Reading) (h : List Entry) (test : Change → Bool) (n : ℕ) (c : Change) → change reading h n ≡ Some c → test c ≡ true → some_change reading h test (change_count h) ≡ true
 some_passes reading h test n c is passes = let range = within_count reading h n c is in passes_up_to reading h test (change_count h) n c range.0 range.1 is passes
 
-passing : (o : Option Change) (test : Change → Bool) → option_map_or test o false ≡ true → (c : Change) × (o ≡ Some c) × (test c ≡ true)
+pub passing : (o : Option Change) (test : Change → Bool) → option_map_or test o false ≡ true → (c : Change) × (o ≡ Some c) × (test c ≡ true)
 passing None test e = absurd (cc)
 passing (Some c) test e = (c, refl, e)
 

@@ -1,4 +1,7 @@
 -- Lines of projects that end, and what a new file makes of the files along them.
+use Rattle.std.proofs.lemmas.Bool.{and_from}
+use Rattle.std.proofs.lemmas.Bool.{not_from_false}
+use Rattle.std.proofs.lemmas.Bool.{not-true}
 use Rattle.std.proofs.Common.{◌≡◌, ℕ, ◌+◌, ◌<◌, zero, suc, List, [], ◌∷◌, length, Option, Some, None, Bool, true, false, refl, sym, ap, ◌∙◌, arith, not, ◌&&◌, option_and_then, option_map, bytes_eq, subst}
 use Rattle.std.{proofs.lemmas.Slice.Eq.bytes_eq-Decides, specs.Option.option_map_or}
 use Rattle.review_expr.specs.declared.expr.Expr.{Expr}
@@ -116,10 +119,6 @@ abbrev pub avoids : Files → List ℕ → ℕ → List ℕ → Bool
 avoids own x zero project = true
 avoids own x (suc n) project = not (bytes_eq x project) && option_map_or (avoids own x n) (option_and_then (λ f. f.parent) (own project)) true
 
-pub both_true : (a b : Bool) → a ≡ true → b ≡ true → (a && b) ≡ true
-both_true true b h g = g
-both_true false b h g = h
-
 pub left_true : (a b : Bool) → (a && b) ≡ true → a ≡ true
 left_true true b h = refl
 left_true false b h = h
@@ -127,14 +126,6 @@ left_true false b h = h
 pub right_true : (a b : Bool) → (a && b) ≡ true → b ≡ true
 right_true true b h = h
 right_true false b h = absurd (let none : false ≡ true = h in cc)
-
-pub not_true : (b : Bool) → b ≡ false → not b ≡ true
-not_true true h = absurd (let none : true ≡ false = h in cc)
-not_true false h = refl
-
-pub true_not : (b : Bool) → not b ≡ true → b ≡ false
-true_not true h = absurd (let none : false ≡ true = h in cc)
-true_not false h = refl
 
 -- where two tests differ at two projects, these are two
 two : (own : Files) (n : ℕ) (x project : List ℕ) → ends own n project ≡ true → ends own n x ≡ false → bytes_eq x project ≡ false
@@ -156,8 +147,8 @@ pub shorter_avoids : (own : Files) (x : List ℕ) (n : ℕ) (project : List ℕ)
 shorter_avoids own x zero project h g = refl
 shorter_avoids own x (suc n) project h g =
     let b = begins own n project h in
-    both_true (not (bytes_eq x project)) (option_map_or (avoids own x n) (option_and_then (λ f. f.parent) (own project)) true)
-    (not_true (bytes_eq x project) (two own (suc n) x project h g))
+    and_from (not (bytes_eq x project)) (option_map_or (avoids own x n) (option_and_then (λ f. f.parent) (own project)) true)
+    (not_from_false (bytes_eq x project) (two own (suc n) x project h g))
     (ap (λ o. option_map_or (avoids own x n) (option_and_then (λ f. f.parent) o) true) b.there ∙ above b.file.parent (λ q e. shorter_avoids own x n q e (not_ends own n x g)) b.above)
   where
     above : (p : Option (List ℕ)) → ((q : List ℕ) → ends own n q ≡ true → avoids own x n q ≡ true) → ends_above p (ends own n) ≡ true → option_map_or (avoids own x n) p true ≡ true
@@ -178,7 +169,7 @@ SameBut x own new = (q : List ℕ) → bytes_eq x q ≡ false → new q ≡ own 
 pub line_spared : (own new : Files) (x : List ℕ) → SameBut x own new → (n : ℕ) (project : List ℕ) → avoids own x n project ≡ true → line_of new n project ≡ line_of own n project
 line_spared own new x same zero project h = refl
 line_spared own new x same (suc n) project h =
-    ap (λ o. with_above o (line_of new n)) (same project (true_not (bytes_eq x project) (left_true (not (bytes_eq x project)) (option_map_or (avoids own x n) (option_and_then (λ f. f.parent) (own project)) true) h)))
+    ap (λ o. with_above o (line_of new n)) (same project (not-true (bytes_eq x project) (left_true (not (bytes_eq x project)) (option_map_or (avoids own x n) (option_and_then (λ f. f.parent) (own project)) true) h)))
     ∙ by (own project) (λ q e. line_spared own new x same n q e) (right_true (not (bytes_eq x project)) (option_map_or (avoids own x n) (option_and_then (λ f. f.parent) (own project)) true) h)
   where
     above : (p : Option (List ℕ)) → ((q : List ℕ) → avoids own x n q ≡ true → line_of new n q ≡ line_of own n q) → option_map_or (avoids own x n) p true ≡ true →
@@ -193,7 +184,7 @@ line_spared own new x same (suc n) project h =
 pub ends_spared : (own new : Files) (x : List ℕ) → SameBut x own new → (n : ℕ) (project : List ℕ) → avoids own x n project ≡ true → ends new n project ≡ ends own n project
 ends_spared own new x same zero project h = refl
 ends_spared own new x same (suc n) project h =
-    ap (λ o. ends_by o (ends new n)) (same project (true_not (bytes_eq x project) (left_true (not (bytes_eq x project)) (option_map_or (avoids own x n) (option_and_then (λ f. f.parent) (own project)) true) h)))
+    ap (λ o. ends_by o (ends new n)) (same project (not-true (bytes_eq x project) (left_true (not (bytes_eq x project)) (option_map_or (avoids own x n) (option_and_then (λ f. f.parent) (own project)) true) h)))
     ∙ by (own project) (λ q e. ends_spared own new x same n q e) (right_true (not (bytes_eq x project)) (option_map_or (avoids own x n) (option_and_then (λ f. f.parent) (own project)) true) h)
   where
     above : (p : Option (List ℕ)) → ((q : List ℕ) → avoids own x n q ≡ true → ends new n q ≡ ends own n q) → option_map_or (avoids own x n) p true ≡ true → ends_above p (ends new n) ≡ ends_above p (ends own n)

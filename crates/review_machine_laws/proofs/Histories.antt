@@ -1,4 +1,6 @@
 -- The files of every history: they are sound, and keep what they had.
+use Rattle.review_machine_rows.proofs.Readings.{not_refused}
+use Rattle.std.proofs.lemmas.Bool.{not-true}
 use Rattle.std.proofs.Common.{◌≡◌, ℕ, List, [], ◌∷◌, Option, Some, None, Bool, true, false, not, refl, ⊎_elim, ◌||◌, nat_lt, MatchOption, ◌∙◌, cond, sym, ap, subst, arith, is_some, bytes_eq, ◌<◌, ◌&&◌, is_none, zero, suc}
 use Rattle.std.proofs.lemmas.{Bool.Decides.nat_tests, Slice.Eq.bytes_eq-Decides}
 use Rattle.std.specs.{List.AllByRecursion, Option.option_map_or}
@@ -49,14 +51,6 @@ five true true false d e f h = absurd (cc)
 five true true true false e f h = absurd (cc)
 five true true true true false f h = absurd (cc)
 
-not_false : (b : Bool) → not b ≡ true → b ≡ false
-not_false true h = absurd (let none : false ≡ true = h in cc)
-not_false false h = refl
-
-not_refused : {A : Type 0} (o : Option Refusal) (a : Answer) → MatchOption o A (λ r. Done a ≡ Refused r) → A
-not_refused None a outcome = outcome
-not_refused (Some r) a refused = absurd (cc)
-
 -- A file that was put was acceptable, and the text spells it.
 pub acceptable : (reading : Reading) (h : List Entry) (caller : ℕ) (project text : List ℕ) (a : Answer) → IsAnswerBy reading h caller (PutProject project text) (Done a) →
     (own : File) × IsRead text own × IsAcceptable reading h project own
@@ -68,7 +62,7 @@ acceptable reading h caller project text a answer =
     five (keeps_parent h project own.parent) (option_map_or (is_project h) own.parent true) (option_map_or (λ parent. nat_lt (depth h parent) most_depth) own.parent true) (not (puts_unknown_label reading h own))
     (not (is_project h project) || covers (file_of reading h project) (file_with reading h own)) (is_project h project || nat_lt (project_count h) most_projects)
     (done_or (first_refusal (file_checks reading h project own)) a Nothing file.2) in
-    (own, file.1, record { keeps = all.0; there = all.1; low = all.2; known = not_false (puts_unknown_label reading h own) all.3; covers = all.4 }))
+    (own, file.1, record { keeps = all.0; there = all.1; low = all.2; known = not-true (puts_unknown_label reading h own) all.3; covers = all.4 }))
     (not_refused (refused_by reading h caller (PutProject project text)) a answer)
 
 -- ==== what is so of the files of every history
@@ -285,7 +279,7 @@ Steps reading own new = AreSoundFiles reading new × Grow reading own new
 stays : (reading : Reading) (own : Files) → AreSoundFiles reading own → Steps reading own own
 stays reading own sound = (sound, λ q is. let h = sound.end q is in covers_itself (eff reading own most_depth q) (eff_ordered reading own sound.spelled most_depth q h))
 
-same_name : (a b : Option (List ℕ)) → is_same_parent a b ≡ true → a ≡ b
+pub same_name : (a b : Option (List ℕ)) → is_same_parent a b ≡ true → a ≡ b
 same_name None None h = refl
 same_name (Some a) (Some b) h = ap Some ((bytes_eq-Decides a b).0 h)
 same_name None (Some b) h = absurd (let none : false ≡ true = h in cc)

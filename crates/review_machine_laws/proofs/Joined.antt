@@ -1,4 +1,5 @@
 -- Which changes joined a branch, and at which places.
+use Rattle.review_machine_rows.proofs.Readings.{not_refused}
 use Rattle.std.proofs.Common.{◌≡◌, ℕ, List, ◌∷◌, Option, Some, None, refl, subst, inl, inr, MatchOption, ◌⊎◌, ◌+◌, ◌==◌, [], ◌++◌, length, Bool, true, false, cond, ◌&&◌, sym, ap, ◌∙◌, ⊎_elim, arith, eqb-true, append-nil, is_some, option_map, bytes_eq, ◌<◌, ◌≤◌, leb-true, All, Contains, nat_le, ◌||◌}
 use Rattle.std.proofs.lemmas.Bool.{not-true, and_right, and_parts, and_from, Decides.nat_tests}
 use Rattle.std.proofs.lemmas.List.{Elements.All-from_recursion, Folds.list_any-append}
@@ -48,11 +49,6 @@ accepted_of reading h caller m (Some c) a there pass (inr good) =
       told = none.1;
     }
 
--- an answer that is no refusal is given where no check refuses
-not_refused : {A : Type 0} (o : Option Refusal) (a : Answer) → MatchOption o A (λ r. Done a ≡ Refused r) → A
-not_refused None a outcome = outcome
-not_refused (Some r) a refused = absurd (cc)
-
 pub submit_accepted : (reading : Reading) (h : List Entry) (caller m : ℕ) (a : Answer) → IsAnswerBy reading h caller (Submit m) (Done a) → IsAccepted reading h m a
 submit_accepted reading h caller m a answer =
     let none = done_passes reading h caller (Submit m) a answer in
@@ -92,7 +88,7 @@ none_from : {X : Type 0} (o : Option X) → is_some o ≡ false → o ≡ None
 none_from None e = refl
 none_from (Some x) e = absurd (cc)
 
-past : (c : ℕ) → is_up_to c (c + 1) ≡ false
+pub past : (c : ℕ) → is_up_to c (c + 1) ≡ false
 past c = grind (arith, nat_tests)
 
 -- the next number is that of no change

@@ -1,4 +1,5 @@
 -- Branches are sound: what an accepted submit joins was ready, and parents join before their children.
+use Rattle.review_machine_laws.proofs.Changes.{one_passing}
 use Rattle.std.proofs.Common.{◌≡◌, ◌⊎◌, inl, inr, ℕ, List, [], ◌∷◌, Option, Some, None, Bool, true, false, cond, refl, sym, ap, subst, ◌∙◌, All, MatchOption, option_map, Contains, zero, suc, ◌+◌, ◌&&◌, ⊎_elim, arith, slice_get, bytes_eq, ◌<◌, ◌++◌, length, option_and_then}
 use Rattle.std.proofs.lemmas.Bool.{and_parts, or_cases}
 use Rattle.std.proofs.lemmas.List.Elements.{All-from_recursion, recursion_from_All, All-weaker, Contains-append_left, Contains-append_right}
@@ -183,16 +184,6 @@ entry_is_new reading e h m a c history reads command reply there =
 
 -- ---- in the branch
 
--- a change that passes the test, where one is said to
-some_passes : (reading : Reading) (h : List Entry) (test : Change → Bool) (k : ℕ) → some_change reading h test k ≡ true → (n : ℕ) × (c : Change) × (change reading h n ≡ Some c) × (test c ≡ true)
-some_passes reading h test zero e = absurd (cc)
-some_passes reading h test (suc k) e =
-    ⊎_elim (λ here. let p = passes (change reading h (suc k)) here in (suc k, p.0, p.1, p.2)) (some_passes reading h test k) (or_cases (option_map_or test (change reading h (suc k)) false) (some_change reading h test k) e)
-  where
-    passes : (o : Option Change) → option_map_or test o false ≡ true → (c : Change) × (o ≡ Some c) × (test c ≡ true)
-    passes None t = absurd (cc)
-    passes (Some c) t = (c, refl, t)
-
 -- the commit is the current one of a change that joined the branch
 abbrev pub IsJoinedCommit : Reading → List Entry → List ℕ → List ℕ → List ℕ → Type 0
 IsJoinedCommit reading h project branch x = (d : ℕ) × Contains (joined h project branch) d × (option_map commit (change reading h d) ≡ Some x)
@@ -214,7 +205,7 @@ pub in_branch : (reading : Reading) (h : List Entry) (project branch x : List �
     (is_base h project branch x ≡ true) ⊎ IsJoinedCommit reading h project branch x
 in_branch reading h project branch x history reads e =
     ⊎_elim (λ base. inl base)
-    (λ merged. let r = some_passes reading h (is_merged_commit project branch x) (change_count h) merged in inr (merged_commit reading h project branch x history reads r.0 r.1 r.2 r.3))
+    (λ merged. let r = one_passing reading h (is_merged_commit project branch x) (change_count h) merged in inr (merged_commit reading h project branch x history reads r.0 r.1 r.2 r.3))
     (or_cases (is_base h project branch x) (some_change reading h (is_merged_commit project branch x) (change_count h)) e)
 
 -- ---- by a patch set
@@ -450,7 +441,7 @@ joined_stands reading (e ∷ h) project branch front n back history reads is =
 
 -- ==== the branches of a history are sound
 
-history_from : (later earlier : List Entry) → IsHistory (later ++ earlier) → IsHistory earlier
+pub history_from : (later earlier : List Entry) → IsHistory (later ++ earlier) → IsHistory earlier
 history_from [] earlier history = history
 history_from (e ∷ later) earlier history = history_from later earlier history.3
 

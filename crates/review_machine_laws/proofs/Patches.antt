@@ -1,4 +1,7 @@
 -- Patch sets and bases of a branch: what adds to them, that they stay, and that each has a commit of its own.
+use Rattle.review_machine_laws.proofs.Joined.{past}
+use Rattle.std.proofs.Math.Bool.{or-true}
+use Rattle.std.proofs.lemmas.Bool.{not-true}
 use Rattle.std.proofs.Common.{◌≡◌, ℕ, ◌+◌, ◌==◌, List, ◌∷◌, length, Option, Some, None, Bool, true, false, cond, not, ◌⊎◌, inl, inr, refl, sym, ap, ◌∙◌, eqb-true, option_map, bytes_eq, zero, suc, [], ◌++◌, ◌&&◌, ◌||◌, ⊎_elim, arith, is_some, slice_get, subst}
 use Rattle.std.proofs.lemmas.Bool.{and_parts, cases_Bool, and_from, Decides.nat_tests}
 use Rattle.std.{proofs.lemmas.Slice.Eq.bytes_eq-Decides, specs.List.AllByRecursion, specs.List.list_any}
@@ -13,7 +16,7 @@ use Rattle.review_core_rules.specs.declared.rows.PatchRow.{PatchRow}
 use Rattle.review_machine_rows.proofs.Readings.{IsDoneBy, done_of}
 use Rattle.review_machine_rows.specs.Answer.{IsAnswerBy, IsHistory, checks, request_checks}
 use Rattle.review_machine_rows.specs.Changes.{Reading, Reads, change, change_by, change_count, is_for, is_known, setting_of, submitted, has_commit, is_sent, joined, joining_at, place_in}
-use Rattle.review_machine_laws.proofs.Changes.{joining_keeps, one_passing, or_true, some_passes, Passes, all_pass, checks_pass, done_passes, change_there, is_up_to}
+use Rattle.review_machine_laws.proofs.Changes.{joining_keeps, one_passing, some_passes, Passes, all_pass, checks_pass, done_passes, change_there, is_up_to}
 use Rattle.review_machine_laws.proofs.Places.{appended, only, kept, last_of, number_within}
 use Rattle.review_machine_laws.specs.Patches.{HasPatch}
 use Rattle.review_words.specs.declared.command.ChangeCommand.TheVariants as on
@@ -35,10 +38,6 @@ pub record IsSentNow (reading : Reading) (h : List Entry) (o : Option Command) (
 -- a patch set after a command was there before, or the command sends it
 abbrev pub Came : Reading → List Entry → Option Command → List ℕ → List ℕ → ℕ → ℕ → PatchRow → Type 0
 Came reading h o project branch n k p = HasPatch project branch k p (change reading h n) ⊎ IsSentNow reading h o project branch n k p
-
-pub from_not : (b : Bool) → not b ≡ true → b ≡ false
-from_not true e = absurd (cc)
-from_not false e = refl
 
 pub for_project : (project branch : List ℕ) (c : Change) → is_for project branch c ≡ true → c.project ≡ project
 for_project project branch c e = (bytes_eq-Decides c.project project).0 (and_parts (bytes_eq c.project project) (bytes_eq c.branch branch) e).0
@@ -66,7 +65,7 @@ asked_came reading h caller project branch m n k p x (on.Upload patch) same is p
         inr
         (record {
           put = ap (option_map (λ (c : Change). (m, current c + 1))) (ap (change reading h) same ∙ is) ∙ (λ i. Some (same i, sym last i));
-          unknown = (λ i. is_known reading h (sym one i) (sym two i) (sym new i).commit) ∙ from_not (is_known reading h x.project x.branch patch.commit) pass.1.1.0;
+          unknown = (λ i. is_known reading h (sym one i) (sym two i) (sym new i).commit) ∙ not-true (is_known reading h x.project x.branch patch.commit) pass.1.1.0;
           based = (λ i. is_known reading h (sym one i) (sym two i) (sym new i).parent) ∙ pass.1.1.1.0;
         })
 asked_came reading h caller project branch m n k p x (on.Review review) same is pass for sent = inl (record { of = x; is = is; is_for_it = for; sent = sent })
@@ -96,7 +95,7 @@ done_came reading h caller project branch n k p c (CreateChange new) a answer is
         inr
         (record {
           put = λ i. Some (here i, sym first.0 i);
-          unknown = (λ i. is_known reading h (sym one i) (sym two i) (sym first.1 i).commit) ∙ from_not (is_known reading h new.project new.branch new.commit) pass.1.1.1.1.0;
+          unknown = (λ i. is_known reading h (sym one i) (sym two i) (sym first.1 i).commit) ∙ not-true (is_known reading h new.project new.branch new.commit) pass.1.1.1.1.0;
           based = (λ i. is_known reading h (sym one i) (sym two i) (sym first.1 i).parent) ∙ pass.1.1.1.1.1.0;
         })
 done_came reading h caller project branch n k p c (OnChange m command) a answer is for sent = by (m == n) refl (change reading h n) refl is
@@ -132,18 +131,18 @@ came reading e h project branch n k p history reads has =
 -- ---- a commit that was sent is that of a patch set
 
 -- a patch set with the commit makes a list have it
-sent_at : (xs : List PatchRow) (commit : List ℕ) (n : ℕ) (p : PatchRow) → slice_get xs n ≡ Some p → p.commit ≡ commit → list_any (λ x. bytes_eq x.commit commit) xs ≡ true
+pub sent_at : (xs : List PatchRow) (commit : List ℕ) (n : ℕ) (p : PatchRow) → slice_get xs n ≡ Some p → p.commit ≡ commit → list_any (λ x. bytes_eq x.commit commit) xs ≡ true
 sent_at [] commit n p is same = absurd (cc)
 sent_at (x ∷ xs) commit zero p is same =
     let first : x ≡ p = cc in ap (λ b. b || list_any (λ y. bytes_eq y.commit commit) xs) ((bytes_eq-Decides x.commit commit).1 (ap (λ y. y.commit) first ∙ same))
-sent_at (x ∷ xs) commit (suc n) p is same = ap (λ b. bytes_eq x.commit commit || b) (sent_at xs commit n p is same) ∙ or_true (bytes_eq x.commit commit)
+sent_at (x ∷ xs) commit (suc n) p is same = ap (λ b. bytes_eq x.commit commit || b) (sent_at xs commit n p is same) ∙ or-true (bytes_eq x.commit commit)
 
 has_its_commit : (xs : List PatchRow) (commit : List ℕ) (number : ℕ) (p : PatchRow) → of_number xs number ≡ Some p → p.commit ≡ commit → list_any (λ x. bytes_eq x.commit commit) xs ≡ true
 has_its_commit xs commit zero p is same = absurd (cc)
 has_its_commit xs commit (suc n) p is same = sent_at xs commit n p is same
 
 -- in a list that has the commit a patch set has it
-sent_from : (xs : List PatchRow) (commit : List ℕ) → list_any (λ x. bytes_eq x.commit commit) xs ≡ true → (n : ℕ) × (p : PatchRow) × (slice_get xs n ≡ Some p) × (p.commit ≡ commit)
+pub sent_from : (xs : List PatchRow) (commit : List ℕ) → list_any (λ x. bytes_eq x.commit commit) xs ≡ true → (n : ℕ) × (p : PatchRow) × (slice_get xs n ≡ Some p) × (p.commit ≡ commit)
 sent_from [] commit e = absurd (cc)
 sent_from (x ∷ xs) commit e =
     ⊎_elim
@@ -181,9 +180,6 @@ sent_patch reading h project branch commit e =
 pub patches_kept : (command : ChangeCommand) (caller : ℕ) (xs : List PatchRow) (k : ℕ) (p : PatchRow) → of_number xs k ≡ Some p → of_number (patches_by command caller xs) k ≡ Some p
 patches_kept (on.Upload patch) caller xs k p is = kept xs (record { commit = patch.commit; parent = patch.parent; kind = patch.kind; uploader = caller; paths = patch.paths } ∷ []) p k is
 patches_kept _ caller xs k p is = is
-
-past : (c : ℕ) → is_up_to c (c + 1) ≡ false
-past c = grind (arith, nat_tests)
 
 -- the next number is that of no change yet
 none_next : (reading : Reading) (h : List Entry) (n : ℕ) (c : Change) → change_count h + 1 ≡ n → change reading h n ≡ Some c → ⊥
@@ -278,14 +274,14 @@ known_stays reading e h project branch x is = by (known_parts (is_base h project
         let s = sent_patch reading h project branch x sent in
         ap (λ b. is_base (e ∷ h) project branch x || b)
         (patch_sent reading (e ∷ h) project branch x s.number s.place s.patch (patch_stays reading e h project branch s.number s.place s.patch s.has) s.commit_is)
-        ∙ or_true (is_base (e ∷ h) project branch x)
+        ∙ or-true (is_base (e ∷ h) project branch x)
 
 -- ==== patch sets in one branch have commits of their own, which are no bases of it
 
 -- what is sent is known
 patch_known : (reading : Reading) (h : List Entry) (project branch : List ℕ) (n k : ℕ) (p : PatchRow) → HasPatch project branch k p (change reading h n) → is_known reading h project branch p.commit ≡ true
 patch_known reading h project branch n k p has =
-    ap (λ b. is_base h project branch p.commit || b) (patch_sent reading h project branch p.commit n k p has refl) ∙ or_true (is_base h project branch p.commit)
+    ap (λ b. is_base h project branch p.commit || b) (patch_sent reading h project branch p.commit n k p has refl) ∙ or-true (is_base h project branch p.commit)
 
 -- what is sent now was no commit of a patch set before
 new_commit : (reading : Reading) (h : List Entry) (o : Option Command) (project branch : List ℕ) (n k m j : ℕ) (p q : PatchRow) → HasPatch project branch k p (change reading h n) →
@@ -336,7 +332,7 @@ base_done reading h caller project branch x (RecordBase named in_branch commit) 
         let two : in_branch ≡ branch = (bytes_eq-Decides in_branch branch).0 places.1 in
         let three : commit ≡ x = (bytes_eq-Decides commit x).0 parts.1 in
         let pass = all_pass ((is_account h caller, UnknownCaller) ∷ checks reading h caller (RecordBase named in_branch commit)) (done_passes reading h caller (RecordBase named in_branch commit) a answer) in
-        inr (refl, (λ i. is_known reading h (sym one i) (sym two i) (sym three i)) ∙ from_not (is_known reading h named in_branch commit) pass.1.1.1.0)
+        inr (refl, (λ i. is_known reading h (sym one i) (sym two i) (sym three i)) ∙ not-true (is_known reading h named in_branch commit) pass.1.1.1.0)
 base_done reading h caller project branch x _ a answer is = inl is
 
 -- of a command with its reply

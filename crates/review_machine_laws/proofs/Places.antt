@@ -68,10 +68,6 @@ of_number_there xs zero low high = absurd (omega arith)
 of_number_there xs (suc k) low high =
     ⊎_elim (λ here. (here.0, here.2)) (λ past. let e : length xs ≤ k = past.0 in absurd (omega arith)) (slice_get_cases xs k).1
 
-pub of_number_past : {X : Type 0} (xs : List X) (n : ℕ) → length xs < n → of_number xs n ≡ None
-of_number_past xs zero past = refl
-of_number_past xs (suc k) past = slice_get_past xs k (omega arith)
-
 of_number_within : {X : Type 0} (xs : List X) (n : ℕ) (x : X) → of_number xs n ≡ Some x → n ≤ length xs
 of_number_within xs zero x is = omega arith
 of_number_within xs (suc k) x is = let e : k < length xs = slice_get_within xs k x is in omega arith

@@ -1,4 +1,5 @@
 -- What the rows of changes tell.
+use Rattle.review_machine_laws.proofs.Places.{none_past}
 use Rattle.std.proofs.Common.{◌≡◌, ℕ, ◌+◌, ◌==◌, List, [], ◌∷◌, length, Option, Some, None, Bool, true, false, cond, refl, sym, ap, subst, ◌∙◌, eqb-true, option_map, ℤ, pos, suc, not, ⊎_elim, int_eq, slice_get, ◌-◌, ◌<◌, ◌≤◌, arith, AllPairs, map, slice_index_or}
 use Rattle.std.proofs.lemmas.{Bool.cases_Bool, Bool.cases_lt, Bool.Decides.Decides-int_eq, List.Elements.All-get_or}
 use Rattle.std.proofs.lemmas.Option.{get_or_from_slice_get, slice_get-get_or, slice_get-map, slice_get_within}
@@ -21,7 +22,7 @@ use Rattle.review_machine_rows.specs.{Questions.joined_change, Rows.APart, Submi
 use Rattle.review_machine_rows.specs.declared.rows.BranchKey.{BranchKey}
 use Rattle.review_machine_laws.proofs.Changes.{joining_keeps, Passes, checks_pass, done_passes, are_sound}
 use Rattle.review_machine_laws.proofs.Joined.{has_place, joined_distinct, joined_placed, state_merged, merged_stays}
-use Rattle.review_machine_laws.proofs.Places.{last_number, of_number_past, of_number_there, same_order, contained_get, get_placed, placed_get}
+use Rattle.review_machine_laws.proofs.Places.{last_number, of_number_there, same_order, contained_get, get_placed, placed_get}
 
 -- ==== what holds of every change of a history
 
@@ -32,13 +33,13 @@ pub record Stays (P : Change → Type 0) (reading : Reading) : Type 0 where
   pub stays : (h : List Entry) (caller : ℕ) (command : ChangeCommand) (c : Change) → AllByRecursion Passes (request_checks reading h caller command c) → P c →
       P (after (setting_of reading h c.project) command caller (length h + 1) c)
 
-named_holds : (P : Change → Type 0) (b : Bool) (o : Option Change) (f : Change → Change) (c : Change) → ((x : Change) → o ≡ Some x → P x) → (b ≡ true → (x : Change) → o ≡ Some x → P x → P (f x)) →
+pub named_holds : (P : Change → Type 0) (b : Bool) (o : Option Change) (f : Change → Change) (c : Change) → ((x : Change) → o ≡ Some x → P x) → (b ≡ true → (x : Change) → o ≡ Some x → P x → P (f x)) →
     cond b (option_map f o) o ≡ Some c → P c
 named_holds P true None f c before then is = absurd (cc)
 named_holds P true (Some x) f c before then is = let same : f x ≡ c = cc in subst P same (then refl x refl (before x refl))
 named_holds P false o f c before then is = before c is
 
-made_holds : (P : Change → Type 0) (b : Bool) (o : Option Change) (new c : Change) → ((x : Change) → o ≡ Some x → P x) → P new → cond b (Some new) o ≡ Some c → P c
+pub made_holds : (P : Change → Type 0) (b : Bool) (o : Option Change) (new c : Change) → ((x : Change) → o ≡ Some x → P x) → P new → cond b (Some new) o ≡ Some c → P c
 made_holds P true o new c before begins is = let same : new ≡ c = cc in subst P same begins
 made_holds P false o new c before begins is = before c is
 
@@ -175,7 +176,7 @@ rows_tell a b same = same_parts a b (λ part. unmap APart tells_part (part_of a 
 -- ---- places
 
 -- the header that stands for a change is its own
-header_from : (o : Option Change) (header : Header) → option_map APart (part_of o TheHeader) ≡ Some (APart (AHeader header)) → (c : Change) × (o ≡ Some c) × (header_of c ≡ header)
+pub header_from : (o : Option Change) (header : Header) → option_map APart (part_of o TheHeader) ≡ Some (APart (AHeader header)) → (c : Change) × (o ≡ Some c) × (header_of c ≡ header)
 header_from None header e = absurd (cc)
 header_from (Some c) header e = let same : header_of c ≡ header = cc in (c, refl, same)
 
@@ -227,11 +228,11 @@ last_joined_is reading h key last history reads l =
 
 -- ---- current commits
 
-sent_from : (o : Option PatchRow) (p : PatchRow) → option_map APart (option_map APatch o) ≡ Some (APart (APatch p)) → o ≡ Some p
+pub sent_from : (o : Option PatchRow) (p : PatchRow) → option_map APart (option_map APatch o) ≡ Some (APart (APatch p)) → o ≡ Some p
 sent_from None p e = absurd (cc)
 sent_from (Some x) p e = let same : x ≡ p = cc in ap Some same
 
-unsent_from : (o : Option PatchRow) → option_map APart (option_map APatch o) ≡ None → o ≡ None
+pub unsent_from : (o : Option PatchRow) → option_map APart (option_map APatch o) ≡ None → o ≡ None
 unsent_from None e = refl
 unsent_from (Some x) e = absurd (cc)
 
@@ -246,7 +247,7 @@ is_current : (reading : Reading) (h : List Entry) (n : ℕ) (c : Change) (p : Pa
 is_current reading h n c p there is = record {
   number = length c.patches;
   sent = ap (λ o. option_map APart (part_of o (PatchOf (length c.patches)))) there ∙ ap (λ o. option_map APart (option_map APatch o)) is;
-  later = λ m past. ap (λ o. option_map APart (part_of o (PatchOf m))) there ∙ ap (λ o. option_map APart (option_map APatch o)) (of_number_past c.patches m past);
+  later = λ m past. ap (λ o. option_map APart (part_of o (PatchOf m))) there ∙ ap (λ o. option_map APart (option_map APatch o)) (none_past c.patches m past);
 }
 
 -- the commit of a joined change is that of its current patch set

@@ -1,4 +1,5 @@
 -- What a PutProject does by what rows know of the line of its project.
+use Rattle.review_machine_laws.proofs.Histories.{same_name}
 use Rattle.std.proofs.Common.{◌≡◌, ℕ, suc, arith, List, [], ◌∷◌, length, Option, Some, None, Result, Ok, Err, Bool, true, false, cond, not, ◌||◌, ◌∙◌, ◌⊎◌, refl, sym, ap, subst, inl, inr, ⊎_elim, MatchBool, is_some, nat_lt, IfErr, IfOk, MatchOption, option_map, option_and_then}
 use Rattle.std.proofs.lemmas.{Bool.Decides.nat_tests, Slice.Eq.bytes_eq-Decides}
 use Rattle.std.specs.{List.AllByRecursion, Option.option_map_or}
@@ -37,15 +38,9 @@ refused_nothing r refusal e is = subst (λ reply. HasNoEffect reply r.0) (sym is
 
 -- ---- parents
 
-same_parent : (a b : Option (List ℕ)) → is_same_parent a b ≡ true → a ≡ b
-same_parent None None e = refl
-same_parent (Some a) (Some b) e = ap Some ((bytes_eq-Decides a b).0 e)
-same_parent None (Some b) e = absurd (cc)
-same_parent (Some a) None e = absurd (cc)
-
 parent_same : (was : Option StoredFile) (p named : Option (List ℕ)) → keeps_parent was p ≡ true → p ≡ named → parent_or named was ≡ p
 parent_same None p named kept is = sym is
-parent_same (Some f) p named kept is = same_parent f.parent p kept
+parent_same (Some f) p named kept is = same_name f.parent p kept
 
 -- a project that is there has texts
 some_texts : (o : Option StoredFile) (above : List ℕ → List (List ℕ)) → nat_lt 0 (length (with_above o above)) ≡ is_some o

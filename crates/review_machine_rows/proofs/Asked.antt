@@ -69,7 +69,7 @@ by_recursion P [] all = tt
 by_recursion P (x ∷ xs) all = (All-head P x xs all, by_recursion P xs (All-tail P x xs all))
 
 -- nothing is left of a list, and nothing after it
-none_in : (a b : List Want) → or_next a b ≡ [] → (a ≡ []) × (b ≡ [])
+pub none_in : (a b : List Want) → or_next a b ≡ [] → (a ≡ []) × (b ≡ [])
 none_in [] b none = (refl, none)
 none_in (w ∷ ws) b none = absurd (cc)
 

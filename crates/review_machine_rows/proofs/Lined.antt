@@ -31,7 +31,7 @@ there_is h q = by (file_text h q)
     by (Some t) = refl
 
 -- fewer steps ask for less
-fewer : (rows : Rows) (n : ℕ) (p : Option (List ℕ)) → AllByRecursion (λ s. unknown rows s ≡ []) (line_steps rows (suc n) p) → AllByRecursion (λ s. unknown rows s ≡ []) (line_steps rows n p)
+pub fewer : (rows : Rows) (n : ℕ) (p : Option (List ℕ)) → AllByRecursion (λ s. unknown rows s ≡ []) (line_steps rows (suc n) p) → AllByRecursion (λ s. unknown rows s ≡ []) (line_steps rows n p)
 fewer rows zero p all = tt
 fewer rows (suc n) p all = (all.0, fewer rows n (option_and_then (known_parent rows) p) all.1)
 

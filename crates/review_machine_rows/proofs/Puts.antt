@@ -1,4 +1,5 @@
 -- What a file or a base that is put leaves, and what a delta without one does.
+use Rattle.review_table.proofs.Places.{both_equal}
 use Rattle.std.proofs.Common.{◌≡◌, ◌∙◌, ◌&&◌, ◌==◌, ℕ, List, Option, None, true, refl, ap, is_eq, nat_cmp, bytes_eq}
 use Rattle.std.proofs.lemmas.Cmp.{then_total, on_total, nat_cmp_total, nat_list_cmp_total}
 use Rattle.std.proofs.lemmas.Map.Lookups.{CmpEqualImpliesEq, exact_unsigned, exact_bytes}
@@ -9,10 +10,6 @@ use Rattle.review_machine_rows.specs.Rows.{Key, FileKey, BaseKey, Row, FileRow, 
 use Rattle.review_machine_rows.specs.declared.rows.{Delta.Delta, PlaceKey.PlaceKey}
 
 -- ---- places of branches as keys
-
-pub both_equal : (a b : Ordering) → ordering_then a b ≡ Equal → (a ≡ Equal) × (b ≡ Equal)
-both_equal Equal b e = (refl, e)
-both_equal _ b e = absurd (cc)
 
 pub is_eq-then : (a b : Ordering) → is_eq (ordering_then a b) ≡ (is_eq a && is_eq b)
 is_eq-then Less b = refl

@@ -101,12 +101,12 @@ reads_with reading text file is [] reads = tt
 reads_with reading text file is (e ∷ h) reads = (right_with reading text file is (accepted e) reads.0, reads_with reading text file is h reads.1)
 
 -- an answer that is no refusal is given where no check refuses
-not_refused : {A : Type 0} (o : Option Refusal) (a : Answer) → MatchOption o A (λ r. Done a ≡ Refused r) → A
+pub not_refused : {A : Type 0} (o : Option Refusal) (a : Answer) → MatchOption o A (λ r. Done a ≡ Refused r) → A
 not_refused None a outcome = outcome
 not_refused (Some r) a refused = absurd (cc)
 
 -- the file that an accepted PutProject puts
-put_file : (reading : Reading) (h : List Entry) (caller : ℕ) (project text : List ℕ) (a : Answer) → IsAnswerBy reading h caller (PutProject project text) (Done a) → (f : File) × IsRead text f
+pub put_file : (reading : Reading) (h : List Entry) (caller : ℕ) (project text : List ℕ) (a : Answer) → IsAnswerBy reading h caller (PutProject project text) (Done a) → (f : File) × IsRead text f
 put_file reading h caller project text a answer =
     ⊎_elim (λ (fault : IsFaultAnswer text (Done a)). let e : Done a ≡ Refused (BadFile fault.0) = fault.2 in absurd (cc)) (λ (file : IsFileAnswer reading h project text (Done a)). (file.0, file.1))
     (not_refused (refused_by reading h caller (PutProject project text)) a answer)

@@ -1,4 +1,5 @@
 -- The tables after changes, and the orders of their keys.
+use Rattle.review_machine_rows.proofs.Puts.{is_eq-then}
 use Rattle.std.proofs.Common.{◌≡◌, ℕ, true, false, cond, ◌&&◌, not, ◌==◌, List, Option, Some, None, refl, ◌∙◌, ap, arith, is_eq, is_le, is_lt, nat_cmp, bytes_eq, Bool, option_map, IsSome, ◌+◌, ◌≤◌, [], ◌∷◌, ◌++◌, Result, Ok, Err, length, ⊎_elim, sym, subst, ◌⊎◌, inl, inr, All, Contains, IfSome, is_some, OnOk, OnErr}
 use Rattle.std.proofs.lemmas.Cmp.{then_total, on_total, nat_cmp_total, nat_list_cmp_total, tied_itself}
 use Rattle.std.proofs.lemmas.List.Elements.{All-head, All-tail, All-contains, All-weaker, Contains-append_left, Contains-push, Contains-push_cases}
@@ -16,7 +17,7 @@ use Rattle.review_machine_rows.specs.Rows.{member_cmp, Key, AccountKey, MemberKe
 use Rattle.review_machine_rows.specs.Shelf.{IsCommitted}
 use Rattle.review_machine_rows.specs.declared.rows.{Delta.Delta, Kept.Kept, MemberKey.MemberKey as Member}
 use Rattle.review_machine_rows.specs.declared.rows.{PlaceKey.PlaceKey, Put.Put, StoredFile.StoredFile}
-use Rattle.review_memory_rows.proofs.Dropped.{at_account, is_eq-then, exact_answer, at_answer}
+use Rattle.review_memory_rows.proofs.Dropped.{at_account, exact_answer, at_answer}
 use Rattle.review_memory_rows.{proofs.Turned.made_by, specs.Answers.key_of, specs.Answers.answer_cmp}
 use Rattle.review_memory_rows.specs.{Bases.BranchesView, Bases.total_in, Kept.ArePrepared, Kept.part_at}
 use Rattle.review_memory_rows.specs.declared.answer_keys.{AnswerKey.AnswerKey, StoredAnswer.StoredAnswer}

@@ -113,10 +113,6 @@ sound_beside old new least rest filled sound = subst IsSound (sym rest) (record 
 
 -- ==== places without a row: none, or only those of keys that changes name
 
--- a table without rows
-pub none_empty : {K X : Type 0} (R : K → K → Ordering) (t : List (K × Option X)) → t ≡ [] → HasNoEmptyPlace R t
-none_empty R t none q empty = let bad : None ≡ Some None = ap (λ xs. place_at R xs q) (sym none) ∙ empty in absurd (cc)
-
 -- what holds whatever a call gave
 pub on_ok : {X E : Type 0} (r : Result X E) (P : Type 0) → P → OnOk r P
 on_ok (Ok x) P holds = holds

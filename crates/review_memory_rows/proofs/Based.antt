@@ -1,4 +1,5 @@
 -- Bases of branches and their index.
+use Rattle.review_table.proofs.Places.{both_equal}
 use Rattle.std.proofs.Common.{zero, suc, ◌≡◌, ℕ, ◌+◌, ◌<◌, ◌≤◌, ◌==◌, Bool, true, false, cond, not, ◌&&◌, List, [], ◌∷◌, Option, Some, None, ap, sym, ◌∙◌, refl, subst, ⊎_elim, ◌⊎◌, inl, inr, eqb-true, arith, All, is_some, IsSome, unwrap_or, nat_cmp, max, bytes_eq, option_map, is_eq, ◌++◌, length, eq-eqb, length-append, is_le, is_lt}
 use Rattle.std.proofs.lemmas.Bool.{cases_Bool, and_parts, cases_lt, eqb-false}
 use Rattle.std.proofs.lemmas.Cmp.{then_total, on_total, nat_cmp_total, nat_list_cmp_total, tied_itself}
@@ -10,7 +11,7 @@ use Rattle.std.specs.{Ordering.ordering_then, declared.cmp.Ordering.Ordering}
 use Rattle.review_table.specs.Rows.{row_in, after_row_edit, changed, HasNoEmptyPlace, HasEmptyOnly}
 use Rattle.review_table.specs.declared.table.RowEdit.{RowEdit}
 use Rattle.review_machine_rows.proofs.Joins.{nothing_at_zero, past_end, some_at, placed_more}
-use Rattle.review_machine_rows.proofs.Puts.{at_place_of, is_eq-then, exact_place, place_total, both_equal}
+use Rattle.review_machine_rows.proofs.Puts.{at_place_of, is_eq-then, exact_place, place_total}
 use Rattle.review_machine_rows.specs.{Known.at_place, Rows.branch_cmp, Rows.place_cmp}
 use Rattle.review_machine_rows.specs.declared.rows.{BranchKey.BranchKey, PlaceKey.PlaceKey, Put.Put}
 use Rattle.review_memory_rows.specs.Bases.{commit_cmp, base_at, total_in, last_in, AreLast, IsLastPlace, commit_at, greatest_place, has_commit, is_stale, AreListed, AreBases}

@@ -1,4 +1,7 @@
 -- Keys of answers: their order, and which of them are dropped.
+use Rattle.review_machine_rows.proofs.Puts.{is_eq-then}
+use Rattle.review_table.proofs.Places.{both_equal}
+use Rattle.std.proofs.lemmas.Bool.{or_right}
 use Rattle.std.proofs.Common.{◌≡◌, ℕ, Bool, true, false, ◌&&◌, ◌==◌, refl, sym, ◌∙◌, is_eq, nat_cmp, bytes_eq, Option, Some, None, Bor, option_map, option_copied, is_some, cond, List, ◌∷◌, subst, [], ap, ◌+◌, ◌<◌, ◌||◌, ◌++◌, length, get_or, take, map, ⊎_elim, append_assoc, append-nil, flat_map, nat_lt}
 use Rattle.std.proofs.lemmas.Bool.{cases_Bool}
 use Rattle.std.proofs.lemmas.Cmp.{then_total, on_total, nat_cmp_total, nat_list_cmp_total, tied_itself}
@@ -15,14 +18,10 @@ use Rattle.review_memory_rows.specs.declared.answer_keys.{AnswerKey.AnswerKey, S
 
 -- ==== the order of the keys of answers: it is total, and ties only equal keys
 
-equal_parts : (a b : Ordering) → ordering_then a b ≡ Equal → (a ≡ Equal) × (b ≡ Equal)
-equal_parts Equal b e = (refl, e)
-equal_parts _ b e = absurd (cc)
-
 pub exact_answer : CmpEqualImpliesEq answer_cmp
 exact_answer x y e =
-    let one = equal_parts (nat_cmp x.epoch y.epoch) (ordering_then (nat_cmp x.caller y.caller) (slice_cmp nat_cmp x.id y.id)) e in
-    let two = equal_parts (nat_cmp x.caller y.caller) (slice_cmp nat_cmp x.id y.id) one.1 in
+    let one = both_equal (nat_cmp x.epoch y.epoch) (ordering_then (nat_cmp x.caller y.caller) (slice_cmp nat_cmp x.id y.id)) e in
+    let two = both_equal (nat_cmp x.caller y.caller) (slice_cmp nat_cmp x.id y.id) one.1 in
     let epoch = exact_unsigned x.epoch y.epoch one.0 in
     let caller = exact_unsigned x.caller y.caller two.0 in
     let id = exact_bytes x.id y.id two.1 in
@@ -30,10 +29,6 @@ exact_answer x y e =
 
 pub answer_total : IsTotalOrder answer_cmp
 answer_total = then_total (on_total (λ (k : AnswerKey). k.epoch) nat_cmp_total) (then_total (on_total (λ (k : AnswerKey). k.caller) nat_cmp_total) (on_total (λ (k : AnswerKey). k.id) nat_list_cmp_total))
-
-pub is_eq-then : (a b : Ordering) → is_eq (ordering_then a b) ≡ (is_eq a && is_eq b)
-is_eq-then Less b = refl
-is_eq-then _ b = refl
 
 pub at_account : (a b : ℕ) → is_at (nat_cmp a) b ≡ (a == b)
 at_account a b = sym (unsigned_ties a b)
@@ -121,10 +116,6 @@ drop_more _ true old mid new m n = n
 
 answer_itself : (k : AnswerKey) → is_at (answer_cmp k) k ≡ true
 answer_itself k = ap is_eq (tied_itself answer_total k)
-
-or_right : (a b : Bool) → b ≡ true → (a || b) ≡ true
-or_right true b t = refl
-or_right false b t = t
 
 -- a lower key is among those of the rows where it has one
 pub among_own : (least : ℕ) (k q : AnswerKey) → k ≡ q → nat_lt q.epoch least ≡ true → is_among (if_lower least k) q ≡ true

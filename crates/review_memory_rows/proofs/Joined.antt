@@ -1,4 +1,5 @@
 -- Changes that joined a branch, by the index of their places.
+use Rattle.review_table.proofs.Places.{both_equal}
 use Rattle.std.proofs.Common.{◌≡◌, ℕ, ◌<◌, ◌==◌, List, [], ◌∷◌, ◌++◌, Option, Some, None, Bool, true, false, cond, refl, sym, ap, ◌∙◌, subst, eqb-true, arith, nat_cmp, flat_map, ◌≤◌, ◌⊎◌, inl, inr, ⊎_elim, ◌&&◌, not, max, eq-eqb, option_map, is_le, is_lt, bytes_eq, zero, suc, get_or, All, Contains, filter, AllPairs, option_to_list}
 use Rattle.std.proofs.lemmas.Bool.{and_parts, Decides.nat_tests}
 use Rattle.std.proofs.lemmas.Cmp.{then_total, on_total, nat_cmp_total, tied_itself, ranked}
@@ -26,10 +27,6 @@ use Rattle.review_memory_rows.specs.Kept.{part_at, place_cmp, place_of, placed_i
 use Rattle.review_memory_rows.specs.declared.places.PlaceKey.{PlaceKey}
 
 -- ==== the index of changes by their places in branches, once changes are edited
-
-both_equal : (a b : Ordering) → ordering_then a b ≡ Equal → (a ≡ Equal) × (b ≡ Equal)
-both_equal Equal b e = (refl, e)
-both_equal _ b e = absurd (cc)
 
 pub exact_place : CmpEqualImpliesEq place_cmp
 exact_place x y e =

@@ -1,4 +1,5 @@
 -- Patch sets by their commits.
+use Rattle.review_table.proofs.Places.{both_equal}
 use Rattle.std.proofs.Common.{◌≡◌, List, [], ◌∷◌, ◌++◌, Option, Some, None, Bool, true, false, cond, refl, sym, ap, ◌∙◌, subst, All, is_some, is_eq, IsSome, ℕ, ◌==◌, eqb-true, option_map, nat_cmp, ◌≤◌, ◌&&◌, not, arith, is_le, is_lt, bytes_eq, Result, Ok, Err, IfOk, MatchBool}
 use Rattle.std.proofs.lemmas.Bool.{and_parts}
 use Rattle.std.proofs.lemmas.Cmp.{tied_itself, then_total, on_total, nat_cmp_total, nat_list_cmp_total}
@@ -106,10 +107,6 @@ pub all_put : {K : Type 0} (cs all : List (RowEdit K (Unit {0}))) → OnlyPuts a
 all_put {K} cs all puts is = subst (All (λ (c : RowEdit K (Unit {0})). IsSome c.row)) (sym is) (All-from_recursion (λ c. IsSome c.row) all (only_some all puts))
 
 -- ==== the index of patch sets by commit, once changes are edited
-
-both_equal : (a b : Ordering) → ordering_then a b ≡ Equal → (a ≡ Equal) × (b ≡ Equal)
-both_equal Equal b e = (refl, e)
-both_equal _ b e = absurd (cc)
 
 pub exact_sent : CmpEqualImpliesEq sent_cmp
 exact_sent x y e =

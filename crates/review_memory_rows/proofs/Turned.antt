@@ -63,10 +63,6 @@ assoc : {X : Type 0} (xs ys zs : List X) → (xs ++ ys) ++ zs ≡ xs ++ (ys ++ z
 assoc [] ys zs = refl
 assoc (x ∷ xs) ys zs = ap (λ l. x ∷ l) (assoc xs ys zs)
 
-nothing_more : {X : Type 0} (xs : List X) → xs ++ [] ≡ xs
-nothing_more [] = refl
-nothing_more (x ∷ xs) = ap (λ l. x ∷ l) (nothing_more xs)
-
 with_apart : (n p : ℕ) (row : Option PatchRow) (rest : List (RowEdit SentKey (Unit {0}))) → with_sent n p row rest ≡ with_sent n p row [] ++ rest
 with_apart n p None rest = refl
 with_apart n p (Some patch) rest = refl

@@ -1,12 +1,9 @@
+use Rattle.std.proofs.Math.Bool.{and-true}
 use Rattle.std.proofs.Common.{◌≡◌, ◌==◌, ◌&&◌, ◌∙◌, ap, not, None, Bool, true, false, refl, if◌then◌else◌}
 use Rattle.review_words.specs.declared.command.ChangeCommand.TheVariants.{RemoveAttention}
 use Rattle.review_core_rules.specs.{Change.eligible, Change.no_copying, Change.settled, Seen.of_account, Seen.seen}
 use Rattle.review_core_tables.proofs.Accounts.{kept_nothing}
 use Rattle.review_core.proofs.attending.unattend.Goals as goal
-
-and_true : (b : Bool) → (b && true) ≡ b
-and_true true = refl
-and_true false = refl
 
 pub returns-clause-made : goal.returns-clause-made
 returns-clause-made c =
@@ -14,7 +11,7 @@ returns-clause-made c =
     let v = c.args.account in
     let same = c.in_ok-edited.ensures.same in
     λ i. record (same i) {
-      attention = λ u. (c.in_ok-drop_called.ensures.called u ∙ ((λ j. if (v == u) && true then None else (same j).attention u) ∙ (ap (λ b. if b then None else of_account rows.attention u) (and_true (v == u))
+      attention = λ u. (c.in_ok-drop_called.ensures.called u ∙ ((λ j. if (v == u) && true then None else (same j).attention u) ∙ (ap (λ b. if b then None else of_account rows.attention u) (and-true (v == u))
           ∙ kept_nothing (eligible (settled no_copying (RemoveAttention v c.args.reason.now) c.args.caller c.args.request (seen rows)) u && (not (c.args.caller == u) && not rows.header.wip))
           (if v == u then None else of_account rows.attention u) c.args.request))) i;
     }
