@@ -1,5 +1,5 @@
 -- Rows that fit together.
-use Rattle.review_core_tables.proofs.Copied.{zero_of}
+use Rattle.review_core_rules.proofs.Stays.{zero_of}
 use Rattle.std.proofs.Common.{◌≡◌, List, [], ◌∷◌, Option, Some, None, Bool, true, false, refl, sym, ap, ◌∙◌, unwrap_or, if◌then◌else◌, ℕ, ℤ, not, ◌&&◌, ◌||◌, eq-eqb, eqb-true, length, nat_le, nat_cmp, ◌==◌, is_some, ◌+◌, pos, arith, int_eq}
 use Rattle.std.proofs.lemmas.Bool.{and_parts, and_from, false_from_ne_true, Decides.Decides-int_eq}
 use Rattle.std.specs.{BTreeMap.is_at, List.list_all, List.Sorted.IsStrictlySortedBy, Map.keys_of}

@@ -1,4 +1,7 @@
 -- A request keeps a change sound.
+use Rattle.std.proofs.Common.{int_eq}
+use Rattle.std.proofs.lemmas.Bool.Decides.{Decides-int_eq}
+use Rattle.std.proofs.lemmas.Bool.{not-false}
 use Rattle.std.proofs.lemmas.Bool.{and_right}
 use lib.ListN.{length-map}
 use Rattle.std.proofs.Common.{◌≡◌, ◌≤◌, ℕ, ◌+◌, true, nat_lt, arith, ◌&&◌, List, [], ◌∷◌, ◌++◌, length, map, Option, Some, None, refl, ℤ, Bool, false, sym, ◌∙◌, bytes_eq, if◌then◌else◌, is_some, not, ◌||◌, ap, eqb-true, ⊎_elim, ◌==◌, is_none, pos, eq-eqb, nat_le, lt-ltb, length-append}
@@ -112,7 +115,7 @@ more_roles true b x y f h = refl
 more_roles false true x y f h = refl
 more_roles false false x y f h = f h
 
-pub some_put : (b : Bool) (r : Role) (o : Option Role) → is_some o ≡ true → is_some (if b then Some r else o) ≡ true
+pub some_put : {X : Type 0} (b : Bool) (r : X) (o : Option X) → is_some o ≡ true → is_some (if b then Some r else o) ≡ true
 some_put true r o h = refl
 some_put false r o h = h
 
@@ -304,7 +307,7 @@ removed_voters true true v was e before h = absurd (let f : false ≡ true = h i
 removed_voters true false v was e before h = before h
 removed_voters false same v was e before h = absurd (let f : false ≡ true = e in cc)
 
-removed_on : (b : Bool) (v : ℤ) → voted (if b then pos 0 else v) ≡ true → voted v ≡ true
+pub removed_on : (b : Bool) (v : ℤ) → voted (if b then pos 0 else v) ≡ true → voted v ≡ true
 removed_on true v h = absurd (let f : false ≡ true = h in cc)
 removed_on false v h = h
 
@@ -360,3 +363,7 @@ joins place request c s = record {
   voters = s.voters;
   attending = λ u h. absurd (let e : false ≡ true = h in cc);
 }
+
+-- a vote that isn't one is 0
+pub zero_of : (v : ℤ) → voted v ≡ false → v ≡ pos 0
+zero_of v e = (Decides-int_eq v (pos 0)).0 (not-false (int_eq v (pos 0)) e)

@@ -1,4 +1,6 @@
 -- Comments in threads, and which threads are unresolved.
+use Rattle.std.proofs.lemmas.Bool.{both_ways}
+use Rattle.review_table.proofs.Plain.{all_at}
 use Rattle.std.proofs.Math.Bool.{or-true}
 use Rattle.std.proofs.Common.{◌≡◌, List, [], ◌∷◌, ◌++◌, Bool, true, false, not, ◌&&◌, ◌||◌, ◌==◌, refl, ap, ◌∙◌, ℕ, zero, suc, ◌+◌, ◌≤◌, length, map, Option, Some, None, cond, sym, subst, eq-eqb, arith, unwrap_or, ◌<◌, get_or, set, append-nil, append_assoc, length-append, filter, option_map, slice_get, eqb-true, ⊎_elim}
 use Rattle.std.proofs.lemmas.Bool.{cases_Bool, Decides.nat_tests}
@@ -105,11 +107,6 @@ same_all : (P : ℕ → Type 0) (f g : ℕ → Thread) (q : List ℕ) → ((y : 
 same_all P f g [] same all = refl
 same_all P f g (y ∷ q) same all = λ i. same y all.0 i ∷ same_all P f g q same all.1 i
 
-at_place : (P : ℕ → Type 0) (q : List ℕ) (k s : ℕ) → AllByRecursion P q → slice_get q k ≡ Some s → P s
-at_place P [] k s all is = absurd (cc)
-at_place P (y ∷ q) zero s all is = let same : y ≡ s = cc in subst P same all.0
-at_place P (y ∷ q) (suc k) s all is = at_place P q k s all.1 is
-
 pub other_way : (x y : ℕ) → (x == y) ≡ false → (y == x) ≡ false
 other_way x y e = grind (arith, nat_tests)
 
@@ -121,7 +118,7 @@ put_there (y ∷ q) zero s f g x is apart stays grows =
     let here = subst (λ z. g z ≡ record { root = (f z).root; comments = (f z).comments ++ x ∷ []; unresolved = x.unresolved }) same grows in
     λ i. here i ∷ same_all (λ z. (y == z) ≡ false) f g q (λ z other. stays z (ap (λ w. w == z) same ∙ other)) apart.0 i
 put_there (y ∷ q) (suc k) s f g x is apart stays grows =
-    let other = at_place (λ z. (y == z) ≡ false) q k s apart.0 is in
+    let other = all_at (λ z. (y == z) ≡ false) q k s apart.0 is in
     λ i. stays y (other_way y s other) i ∷ put_there q k s f g x is apart.1 stays grows i
 
 put_last : (x : ShownComment) (ts : List Thread) → put_in (length ts) x ts ≡ ts ++ record { root = x.number; comments = x ∷ []; unresolved = x.unresolved } ∷ []
@@ -188,7 +185,7 @@ grows_by_one ps p = length-append ps (p ∷ [])
 answered : (ps : List Post) (rs : List Rooted) (places : List ℕ) (ts : List Thread) (p : Post) (r : Rooted) (k : ℕ) → IsSoFar ps rs places ts → p.root ≡ r.root → r.comment.number ≡ length ps + 1 → slice_get (roots rs) k ≡ Some r.root →
     IsSoFar (ps ++ p ∷ []) (rs ++ r ∷ []) (places ++ k ∷ []) (put_in k r.comment ts)
 answered ps rs places ts p r k h of_post number at =
-    let low = at_place (λ s. s ≤ length ps) (roots rs) k r.root (roots_within (length ps) rs h.within) at in
+    let low = all_at (λ s. s ≤ length ps) (roots rs) k r.root (roots_within (length ps) rs h.within) at in
     let other : (r.root == r.comment.number) ≡ false = ap (λ m. r.root == m) number ∙ other_way (length ps + 1) r.root (below_other (length ps) r.root low) in
     let stay : roots (rs ++ r ∷ []) ≡ roots rs = roots_more rs r ∙ (ap (λ b. roots rs ++ cond b (r.root ∷ []) []) other ∙ append-nil (roots rs)) in
     record {
@@ -452,11 +449,6 @@ some_at p [] is = absurd (cc)
 some_at p (x ∷ xs) is =
     ⊎_elim (λ (e : p x ≡ true). (x, e)) (λ (e : p x ≡ false). some_at p xs (sym (ap (λ b. b || list_any p xs) e) ∙ is)) (cases_Bool (p x))
 
-same_bools : (a b : Bool) → (a ≡ true → b ≡ true) → (b ≡ true → a ≡ true) → a ≡ b
-same_bools true b to from = sym (to refl)
-same_bools false true to from = from refl
-same_bools false false to from = refl
-
 any_thread : (rs : List Rooted) (xs : List ℕ) → list_any (λ t. t.unresolved) (map (thread_of rs) xs) ≡ list_any (is_open rs) xs
 any_thread rs [] = refl
 any_thread rs (x ∷ xs) = ap (λ b. is_open rs x || b) (any_thread rs xs)
@@ -466,7 +458,7 @@ unresolved_alike xs =
     let rs = rooted_rest [] xs in
     ap has_unresolved (threaded_is [] xs)
     ∙ (by_rooted [] xs
-    ∙ (same_bools (ends_open rs) (list_any (is_open rs) (roots rs))
+    ∙ (both_ways (ends_open rs) (list_any (is_open rs) (roots rs))
     (λ e. let at = ends_open_at rs e in any_at (is_open rs) (roots rs) at.0 (open_rooted rs at.0 (all_rooted xs) at.1) at.1)
     (λ e. let at = some_at (is_open rs) (roots rs) e in open_ends rs at.0 at.1)
     ∙ (sym (any_thread rs (roots rs)) ∙ ap (λ l. list_any (λ t. t.unresolved) (map (thread_of l) (roots l))) (sym (rooted_is xs)))))

@@ -1,4 +1,6 @@
 -- Votes by their keys: copied to a new patch set, and counted.
+use Rattle.review_core_rules.proofs.Stays.{zero_of}
+use Rattle.std.proofs.Math.Bool.{and_assoc}
 use Rattle.std.proofs.Common.{◌≡◌, List, [], ◌∷◌, Option, Some, None, Bool, true, false, refl, sym, ap, ◌∙◌, ⊎_elim, subst, filter, is_eq, if◌then◌else◌, ℕ, ℤ, pos, not, ◌&&◌, ◌||◌, eqb-true, eq-eqb, int_eq, IsSome, nat_cmp, ◌==◌, bytes_eq, Bor, ◌<◌, ◌+◌, length, drop, get_or, map, append_assoc, ◌++◌, suc}
 use Rattle.std.proofs.lemmas.Bool.{cases_Bool, and_parts, and_from, Decides.Decides-int_eq}
 use Rattle.std.proofs.lemmas.{List.at_drop_more, Map.Text.is_eq-slice_cmp, Slice.Eq.bytes_eq-Decides}
@@ -153,10 +155,6 @@ copied_where : (f : Copies) (l : List ℕ) (a : ℕ) (b : Bool) (v : ℤ) (o : O
 copied_where f l a true v o = refl
 copied_where f l a false v o = refl
 
-and_swap : (a b c : Bool) → ((a && b) && c) ≡ (a && (b && c))
-and_swap true b c = refl
-and_swap false b c = refl
-
 -- the row of a vote on the next patch set, after those that are copied
 pub put_copied : (f : Copies) (n next : ℕ) (l : List ℕ) (a : ℕ) (rows : List (VoteKey × ℤ)) → IsStrictlySortedBy vote_cmp (keys_of rows) → (before : Option ℤ) →
     put_in vote_cmp (copied_rows f n next rows) (vote_key next l a) before ≡ or_else (copied_of f l a (row_in vote_cmp rows (vote_key n l a))) before
@@ -175,7 +173,7 @@ put_copied f n next l a (e ∷ es) s before =
     let q : l ≡ e.0.label = ap (λ (x : VoteKey). x.label) same in
     let r : a ≡ e.0.account = ap (λ (x : VoteKey). x.account) same in (
       vote_tied k next l a ∙ and_from (next == next) (bytes_eq e.0.label l && (e.0.account == a)) (eq-eqb next next refl) (and_from (bytes_eq e.0.label l) (e.0.account == a) ((bytes_eq-Decides e.0.label l).1 (sym q)) (eq-eqb e.0.account a (sym r))),
-      and_swap (e.0.patch == n) (voted e.1) (f e.0.label e.0.account e.1) ∙ (λ i. eq-eqb e.0.patch n (sym p) i && (voted e.1 && f (sym q i) (sym r i) e.1)),
+      and_assoc (e.0.patch == n) (voted e.1) (f e.0.label e.0.account e.1) ∙ (λ i. eq-eqb e.0.patch n (sym p) i && (voted e.1 && f (sym q i) (sym r i) e.1)),
       ap (copied_of f l a) (none_after vote_cmp e.0 (vote_key n l a) same es s.0),
     ))
     (λ yes d.
@@ -234,7 +232,7 @@ lost_is f n l u (e ∷ es) s =
     let q : l ≡ e.0.label = ap (λ (x : VoteKey). x.label) same in
     let r : u ≡ e.0.account = ap (λ (x : VoteKey). x.account) same in (
       and_from (bytes_eq e.0.label l) (e.0.account == u) ((bytes_eq-Decides e.0.label l).1 (sym q)) (eq-eqb e.0.account u (sym r)),
-      and_swap (e.0.patch == n) (voted e.1) (not (f e.0.label e.0.account e.1)) ∙ (λ i. eq-eqb e.0.patch n (sym p) i && (voted e.1 && not (f (sym q i) (sym r i) e.1))),
+      and_assoc (e.0.patch == n) (voted e.1) (not (f e.0.label e.0.account e.1)) ∙ (λ i. eq-eqb e.0.patch n (sym p) i && (voted e.1 && not (f (sym q i) (sym r i) e.1))),
       lost_is f n l u es s.1 ∙ value_none f l u old (none_after vote_cmp e.0 (vote_key n l u) same es s.0),
     ))
     (λ yes t.
@@ -245,14 +243,6 @@ lost_is f n l u (e ∷ es) s =
     (and_from (bytes_eq l e.0.label) (u == e.0.account) ((bytes_eq-Decides l e.0.label).1 (sym ((bytes_eq-Decides e.0.label l).0 z.0))) (eq-eqb u e.0.account (sym (eqb-true e.0.account u z.1)))))
     ∙ (ap (λ b. if here then voted e.1 && not (f l u e.1) else b) (lost_is f n l u es s.1)
     ∙ value_if f l u here e.1 old))
-
--- the vote on the next patch set
-pub zero_of : (v : ℤ) → voted v ≡ false → v ≡ pos 0
-zero_of v e = (Decides-int_eq v (pos 0)).0 (not_false (int_eq v (pos 0)) e)
-  where
-    not_false : (b : Bool) → not b ≡ false → b ≡ true
-    not_false true e = refl
-    not_false false e = absurd (let f : true ≡ false = e in cc)
 
 value_next : (f : Copies) (l : List ℕ) (a : ℕ) (o before : Option ℤ) → value_of before ≡ pos 0 → value_of (or_else (copied_of f l a o) before) ≡ (if f l a (value_of o) then value_of o else pos 0)
 value_next f l a None before zero = zero ∙ same (f l a (pos 0))

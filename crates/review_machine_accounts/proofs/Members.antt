@@ -1,5 +1,5 @@
 -- What changes in a group, and the row of a key after it.
-use Rattle.review_machine_laws.proofs.Changes.{some_made}
+use Rattle.review_table.proofs.Plain.{some_or}
 use Rattle.std.proofs.lemmas.Bool.{and_right}
 use Rattle.std.proofs.lemmas.Bool.{not-true}
 use Rattle.std.proofs.Common.{Bor, ◌≡◌, ℕ, ◌+◌, ◌<◌, ◌==◌, List, [], ◌∷◌, ◌++◌, length, get_or, take, map, Bool, true, false, cond, not, ◌&&◌, ◌||◌, refl, sym, ap, ◌∙◌, ⊎_elim, Option, Some, None, eqb-true, eq-eqb, arith, filter, nat_cmp, is_some, bytes_eq}
@@ -126,7 +126,7 @@ eq_sym m n = grind (arith, nat_tests)
 
 -- one more member that is held
 held_more : (e : ℕ × Unit {0}) (held : List (ℕ × Unit {0})) (a : ℕ) → is_held (e ∷ held) a ≡ ((e.0 == a) || is_held held a)
-held_more e held a = some_made (is_at (nat_cmp a) e.0) e.1 (row_in nat_cmp held a) ∙ ap (λ b. b || is_held held a) (unsigned_tied a e.0 ∙ eq_sym a e.0)
+held_more e held a = some_or (is_at (nat_cmp a) e.0) e.1 (row_in nat_cmp held a) ∙ ap (λ b. b || is_held held a) (unsigned_tied a e.0 ∙ eq_sym a e.0)
 
 -- a key is taken away where it is of a member that leaves
 row_edit_of-dropped : (group members : List ℕ) (held : List (ℕ × Unit {0})) (k : Member) →

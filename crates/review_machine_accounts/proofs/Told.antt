@@ -1,9 +1,9 @@
 -- What rows that agree with a history tell of it.
-use Rattle.review_machine_laws.proofs.Shown.{based_from}
+use Rattle.review_machine_rows.proofs.Puts.{based_from}
+use Rattle.review_table.proofs.Plain.{some_mapped}
+use Rattle.review_table.proofs.Plain.{some_or}
 use Rattle.review_machine_laws.proofs.Shown.{placed_at}
 use Rattle.review_machine_laws.proofs.Shown.{listed_at}
-use Rattle.review_machine_laws.proofs.Changes.{some_mapped}
-use Rattle.review_machine_laws.proofs.Changes.{some_made}
 use Rattle.std.proofs.Math.Bool.{or-false}
 use Rattle.std.proofs.Common.{◌≡◌, ℕ, ◌+◌, ◌<◌, ◌≤◌, ◌==◌, List, [], ◌∷◌, Option, Some, None, Bool, true, false, cond, ◌&&◌, ◌||◌, refl, sym, ap, ◌∙◌, ⊎_elim, arith, eq-eqb, leb-true, is_some, IsSome, nat_le, option_map, bytes_eq, zero, suc, length, ◌⊎◌, nat_cmp, nat_lt, length-append, ◌++◌, subst, MatchOption}
 use Rattle.std.proofs.lemmas.Bool.{cases_Bool, cases_lt, and_parts, Decides.nat_tests}
@@ -41,12 +41,12 @@ first_account n = grind (arith, nat_tests)
 
 named_step : (o : Option Command) (n c : ℕ) (before : Option (List ℕ)) → is_some before ≡ (nat_le 1 n && nat_le n c) →
     is_some (named o n (c + 1) before) ≡ (nat_le 1 n && nat_le n (counted o c))
-named_step (Some (CreateAccount name)) n c before e = some_made (n == c + 1) name before ∙ (ap (λ b. (n == c + 1) || b) e ∙ one_more n c)
+named_step (Some (CreateAccount name)) n c before e = some_or (n == c + 1) name before ∙ (ap (λ b. (n == c + 1) || b) e ∙ one_more n c)
 named_step _ n c before e = e
 
 -- an account has a name
 pub named_account : (h : List Entry) (n : ℕ) → is_some (name_of h n) ≡ is_account h n
-named_account [] n = some_made (n == 1) admin_name None ∙ (or-false (n == 1) ∙ first_account n)
+named_account [] n = some_or (n == 1) admin_name None ∙ (or-false (n == 1) ∙ first_account n)
 named_account (e ∷ h) n = named_step (accepted e) n (account_count h) (name_of h n) (named_account h n)
 
 pub some_account : (h : List Entry) → 1 ≤ account_count h
@@ -240,10 +240,6 @@ room_told reading h rows of agree there =
 
 -- ---- the bases of a branch, by place
 
-some_based : (o : Option (List ℕ)) → is_some (option_map BaseRow o) ≡ is_some o
-some_based None = refl
-some_based (Some c) = refl
-
 -- the last place is the number of bases
 pub last_place_is : (bs : List (List ℕ)) (last : ℕ) → ((n : ℕ) → last < n → option_map BaseRow (at_place bs n) ≡ None) →
     (last ≡ 0) ⊎ IsSome (option_map BaseRow (at_place bs last)) → last ≡ length bs
@@ -256,7 +252,7 @@ last_place_is bs last above there =
     not_above : (bs : List (List ℕ)) (last : ℕ) → last < length bs → ((n : ℕ) → last < n → option_map BaseRow (at_place bs n) ≡ None) → ⊥
     not_above bs last lt above =
         let none = above (length bs) lt in
-        let there : is_some (option_map BaseRow (at_place bs (length bs))) ≡ true = some_based (at_place bs (length bs)) ∙ some_at bs (length bs) (omega arith) (omega arith) in
+        let there : is_some (option_map BaseRow (at_place bs (length bs))) ≡ true = some_mapped BaseRow (at_place bs (length bs)) ∙ some_at bs (length bs) (omega arith) (omega arith) in
         let bad : true ≡ false = sym there ∙ ap is_some none in
         absurd (cc)
 

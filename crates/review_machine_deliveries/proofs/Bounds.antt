@@ -1,4 +1,6 @@
 -- How many votes a change of a history has: they are counted, accounts gave them, and there is a most.
+use Rattle.std.proofs.lemmas.Bool.{or_parts}
+use Rattle.review_core_rules.proofs.Stays.{removed_on}
 use Rattle.review_machine_laws.proofs.Rows.{made_holds}
 use Rattle.std.proofs.lemmas.Bool.{or_left}
 use Rattle.std.proofs.lemmas.Bool.{or_right}
@@ -148,16 +150,11 @@ was_reviewed : (h : List Entry) (s : Setting) (caller request : ℕ) (r : Review
 was_reviewed h s caller request r c account has n l u is =
     review_voter (reviewed r c == n) (caller == u) (given_or r.labels l (c.vote n l u)) (c.vote n l u) (λ same. subst (λ x. is_account h x ≡ true) (eqb-true caller u same) account) (has n l u) is
 
--- a vote that wasn't taken away was there before
-left_vote : (b : Bool) (v : ℤ) → voted (cond b (pos 0) v) ≡ true → voted v ≡ true
-left_vote true v is = absurd (cc)
-left_vote false v is = is
-
 -- after a request of an account on a change accounts voted on it: but for an Upload and a Review each vote was there before
 voters_after : (h : List Entry) (s : Setting) (caller request : ℕ) (command : ChangeCommand) (c : Change) → is_account h caller ≡ true → HasVoters h c → HasVoters h (after s command caller request c)
 voters_after h s caller request (on.Upload patch) c account has n l u is = uploaded h s patch caller request c has n l u is
 voters_after h s caller request (on.Review review) c account has n l u is = was_reviewed h s caller request review c account has n l u is
-voters_after h s caller request (on.RemoveReviewer v) c account has n l u is = has n l u (left_vote ((current c == n) && (v == u)) (c.vote n l u) is)
+voters_after h s caller request (on.RemoveReviewer v) c account has n l u is = has n l u (removed_on ((current c == n) && (v == u)) (c.vote n l u) is)
 voters_after h s caller request _ c account has n l u is = has n l u is
 
 -- what becomes of a change that a request names, or that is made
@@ -275,14 +272,10 @@ filter_long p (x ∷ xs) =
     (λ (f : p x ≡ false). let e : length (filter p (x ∷ xs)) ≡ length (filter p xs) = ap (λ b. length (cond b (x ∷ filter p xs) (filter p xs))) f in omega arith)
     (cases_Bool (p x))
 
-first_false : (a b : Bool) → (a || b) ≡ false → a ≡ false
-first_false true b is = absurd (cc)
-first_false false b is = refl
-
 labels_bound : (text : List ℕ) (f : FileView Expr) → IsRead text f → length f.labels ≤ 64
 labels_bound text f (short, (ms, parsed, good)) =
     let members = members_at (codes "label") (table ms) in
-    let within : nat_lt most_parts (length members) ≡ false = first_false (nat_lt most_parts (length members)) _ good.2 in
+    let within : nat_lt most_parts (length members) ≡ false = (or_parts (nat_lt most_parts (length members)) _ good.2).0 in
     let few : length members ≤ 64 = ltb-false most_parts (length members) within in
     let spelled_long : length (spelled (table ms)).labels ≡ length (named members) = length-map (named members) label_in in
     let named_long = filter_long (λ (m : List ℕ × Data). is_label m.0) members in

@@ -1,4 +1,5 @@
 -- What was decided of a command.
+use Rattle.review_machine_rows.proofs.Readings.{history_length}
 use Rattle.std.proofs.Common.{◌≡◌, ◌⊎◌, inl, inr, ℕ, List, [], ◌∷◌, Option, Some, None, true, false, cond, refl, sym, ap, ◌∙◌, subst, is_some, ◌≤◌, ◌<◌, ◌+◌, length, arith, Result, Ok, Err, IfOk, IfErr, nat_lt}
 use Rattle.std.specs.{List.AllByRecursion, Option.option_map_or}
 use Rattle.review_words.specs.{History.Entry, History.is_project, History.IsFirst, History.if_done, Texts.IsStored}
@@ -21,7 +22,7 @@ use Rattle.review_machine_rows.specs.View.{AreEnough}
 use Rattle.review_machine_rows.specs.declared.rows.{Rows.Rows, StoredFile.StoredFile, Want.TheVariants.LeastEpoch}
 use Rattle.review_machine_laws.proofs.{Growing.line_whole, Histories.sound_files, Histories.parent_ends}
 use Rattle.{review_machine_laws.specs.Ends.ends, review_machine_deliveries.proofs.Files.spelled_once}
-use Rattle.review_machine_deliveries.proofs.Histories.{enough_shown, history_length, requests_told, rests_on}
+use Rattle.review_machine_deliveries.proofs.Histories.{enough_shown, requests_told, rests_on}
 use Rattle.review_machine_deliveries.proofs.Served.{not_taken_served, views_left_by}
 use Rattle.review_machine_deliveries.specs.Gathered.{CountsCause, IsAllAsked, IsUngathered, LeavesTables}
 use Rattle.review_machine_deliveries.specs.Replies.{CountsReply, IsLawful, IsServed, KeepsUntaken}

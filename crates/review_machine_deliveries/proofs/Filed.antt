@@ -1,4 +1,5 @@
 -- Effective files, as they are gathered row by row.
+use Rattle.review_machine_rows.proofs.Asked.{or_stays}
 use Rattle.review_machine_rows.proofs.Asked.{none_in}
 use Rattle.review_machine_rows.proofs.Lined.{fewer}
 use Rattle.std.proofs.Common.{◌≡◌, inl, inr, ℕ, ◌<◌, List, [], ◌∷◌, Option, Some, None, true, refl, sym, ap, ◌∙◌, subst, All, is_some, ◌++◌, zero, suc, Bool, false, cond, Result, Ok, Err, option_and_then, option_map, IfErr, IsErr, IsErrAnd}
@@ -70,10 +71,6 @@ so_far_added (Some t) rows more both (inr agree) found added = inr (agrees_added
 pub so_far_shown : (tables : Option Tables) (file : Option File) (rows : Rows) (caller : ℕ) (topic : Topic) → IsSoFar tables rows → next file rows caller topic ≡ [] → Shows tables (λ t. Agrees t rows)
 so_far_shown tables file rows caller topic (inl nothing) left = absurd (asks_first file rows caller topic nothing left)
 so_far_shown tables file rows caller topic (inr agree) left = agree
-
-or_stays : {X : Type 0} (a b : Option X) → is_some a ≡ true → option_or a b ≡ a
-or_stays None b there = absurd (cc)
-or_stays (Some x) b there = refl
 
 -- what the first rows know stays
 pub stays_added : (first rows more both : Rows) → StaysKnown first rows → AreAdded rows more both → StaysKnown first both

@@ -174,10 +174,6 @@ latest_follows [] history = refl
 latest_follows (e ∷ h) history =
     and_from (nat_le e.version latest) (nat_le latest latest) (and_parts (nat_le (version_of h) e.version) (nat_le e.version latest) history.4).1 refl
 
-pub history_length : (h : List Entry) → IsHistory h → length h ≤ most_requests
-history_length [] hist = omega arith
-history_length (e ∷ h) hist = let below = hist.2 in omega arith
-
 -- the entry of a stored answer
 pub recalled : (h : List Entry) (a : AnswerRow) (i : Identity) → IsHistory h → stored_answer h i ≡ Some (Answered a) →
     (e : Entry) × (stored h i ≡ Some e) × (a.content ≡ content_text e.command) × (a.reply ≡ reply_text e.reply) × IsStored e.reply

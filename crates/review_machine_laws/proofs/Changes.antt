@@ -1,4 +1,6 @@
 -- The changes of a history: which there are, what each was made for, and that each is sound.
+use Rattle.review_table.proofs.Plain.{some_mapped}
+use Rattle.review_table.proofs.Plain.{some_or}
 use Rattle.review_core_rules.proofs.Stays.{joins as joined_sound}
 use Rattle.std.proofs.Math.Bool.{or-true}
 use Rattle.std.proofs.Common.{◌≡◌, ℕ, ◌+◌, List, length, Option, Some, None, refl, subst, is_some, ◌<◌, ◌≤◌, ◌==◌, [], ◌∷◌, Bool, true, false, cond, ◌&&◌, ◌||◌, sym, ap, ◌∙◌, ⊎_elim, arith, leb-true, IsSome, nat_le, option_map, bytes_eq, ◌++◌, eqb-true, MatchOption, zero, suc, ltb-true}
@@ -51,17 +53,9 @@ joining_there h js n o = joining_some h (place_in js n) o
 abbrev pub is_up_to : ℕ → ℕ → Bool
 is_up_to c n = nat_le 1 n && nat_le n c
 
-pub some_mapped : {X Y : Type 0} (f : X → Y) (o : Option X) → is_some (option_map f o) ≡ is_some o
-some_mapped f None = refl
-some_mapped f (Some x) = refl
-
 some_where : {X : Type 0} (b : Bool) (x o : Option X) → is_some x ≡ is_some o → is_some (cond b x o) ≡ is_some o
 some_where true x o e = e
 some_where false x o e = refl
-
-pub some_made : {X : Type 0} (b : Bool) (x : X) (o : Option X) → is_some (cond b (Some x) o) ≡ (b || is_some o)
-some_made true x o = refl
-some_made false x o = refl
 
 one_more : (n c : ℕ) → ((c + 1 == n) || is_up_to c n) ≡ is_up_to (c + 1) n
 one_more n c = grind (arith, nat_tests)
@@ -78,7 +72,7 @@ asked_stays reading h caller (Some on) n before =
 
 there_step : (reading : Reading) (h : List Entry) (caller : ℕ) (o : Option Command) (n : ℕ) (before : Option Change) → is_some before ≡ is_up_to (change_count h) n →
     is_some (change_by reading h caller o n before) ≡ is_up_to (change_counted o (change_count h)) n
-there_step reading h caller (Some (CreateChange new)) n before e = some_made (change_count h + 1 == n) _ before ∙ (ap (λ b. (change_count h + 1 == n) || b) e ∙ one_more n (change_count h))
+there_step reading h caller (Some (CreateChange new)) n before e = some_or (change_count h + 1 == n) _ before ∙ (ap (λ b. (change_count h + 1 == n) || b) e ∙ one_more n (change_count h))
 there_step reading h caller (Some (OnChange m command)) n before e = asked_stays reading h caller (asked_of (OnChange m command)) n before ∙ e
 there_step reading h caller _ n before e = e
 

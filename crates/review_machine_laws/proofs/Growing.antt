@@ -1,4 +1,5 @@
 -- Lines of projects that end, and what a new file makes of the files along them.
+use Rattle.std.proofs.lemmas.Bool.{and_parts}
 use Rattle.std.proofs.lemmas.Bool.{and_from}
 use Rattle.std.proofs.lemmas.Bool.{not_from_false}
 use Rattle.std.proofs.lemmas.Bool.{not-true}
@@ -119,14 +120,6 @@ abbrev pub avoids : Files → List ℕ → ℕ → List ℕ → Bool
 avoids own x zero project = true
 avoids own x (suc n) project = not (bytes_eq x project) && option_map_or (avoids own x n) (option_and_then (λ f. f.parent) (own project)) true
 
-pub left_true : (a b : Bool) → (a && b) ≡ true → a ≡ true
-left_true true b h = refl
-left_true false b h = h
-
-pub right_true : (a b : Bool) → (a && b) ≡ true → b ≡ true
-right_true true b h = h
-right_true false b h = absurd (let none : false ≡ true = h in cc)
-
 -- where two tests differ at two projects, these are two
 two : (own : Files) (n : ℕ) (x project : List ℕ) → ends own n project ≡ true → ends own n x ≡ false → bytes_eq x project ≡ false
 two own n x project h g = by (bytes_eq x project) refl
@@ -169,8 +162,8 @@ SameBut x own new = (q : List ℕ) → bytes_eq x q ≡ false → new q ≡ own 
 pub line_spared : (own new : Files) (x : List ℕ) → SameBut x own new → (n : ℕ) (project : List ℕ) → avoids own x n project ≡ true → line_of new n project ≡ line_of own n project
 line_spared own new x same zero project h = refl
 line_spared own new x same (suc n) project h =
-    ap (λ o. with_above o (line_of new n)) (same project (not-true (bytes_eq x project) (left_true (not (bytes_eq x project)) (option_map_or (avoids own x n) (option_and_then (λ f. f.parent) (own project)) true) h)))
-    ∙ by (own project) (λ q e. line_spared own new x same n q e) (right_true (not (bytes_eq x project)) (option_map_or (avoids own x n) (option_and_then (λ f. f.parent) (own project)) true) h)
+    ap (λ o. with_above o (line_of new n)) (same project (not-true (bytes_eq x project) ((and_parts (not (bytes_eq x project)) (option_map_or (avoids own x n) (option_and_then (λ f. f.parent) (own project)) true) h).0)))
+    ∙ by (own project) (λ q e. line_spared own new x same n q e) ((and_parts (not (bytes_eq x project)) (option_map_or (avoids own x n) (option_and_then (λ f. f.parent) (own project)) true) h).1)
   where
     above : (p : Option (List ℕ)) → ((q : List ℕ) → avoids own x n q ≡ true → line_of new n q ≡ line_of own n q) → option_map_or (avoids own x n) p true ≡ true →
         option_map_or (line_of new n) p [] ≡ option_map_or (line_of own n) p []
@@ -184,8 +177,8 @@ line_spared own new x same (suc n) project h =
 pub ends_spared : (own new : Files) (x : List ℕ) → SameBut x own new → (n : ℕ) (project : List ℕ) → avoids own x n project ≡ true → ends new n project ≡ ends own n project
 ends_spared own new x same zero project h = refl
 ends_spared own new x same (suc n) project h =
-    ap (λ o. ends_by o (ends new n)) (same project (not-true (bytes_eq x project) (left_true (not (bytes_eq x project)) (option_map_or (avoids own x n) (option_and_then (λ f. f.parent) (own project)) true) h)))
-    ∙ by (own project) (λ q e. ends_spared own new x same n q e) (right_true (not (bytes_eq x project)) (option_map_or (avoids own x n) (option_and_then (λ f. f.parent) (own project)) true) h)
+    ap (λ o. ends_by o (ends new n)) (same project (not-true (bytes_eq x project) ((and_parts (not (bytes_eq x project)) (option_map_or (avoids own x n) (option_and_then (λ f. f.parent) (own project)) true) h).0)))
+    ∙ by (own project) (λ q e. ends_spared own new x same n q e) ((and_parts (not (bytes_eq x project)) (option_map_or (avoids own x n) (option_and_then (λ f. f.parent) (own project)) true) h).1)
   where
     above : (p : Option (List ℕ)) → ((q : List ℕ) → avoids own x n q ≡ true → ends new n q ≡ ends own n q) → option_map_or (avoids own x n) p true ≡ true → ends_above p (ends new n) ≡ ends_above p (ends own n)
     above None later e = refl

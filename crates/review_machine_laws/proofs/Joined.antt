@@ -1,4 +1,5 @@
 -- Which changes joined a branch, and at which places.
+use Rattle.std.proofs.lemmas.Map.Made.{option_or-none}
 use Rattle.review_machine_rows.proofs.Readings.{not_refused}
 use Rattle.std.proofs.Common.{◌≡◌, ℕ, List, ◌∷◌, Option, Some, None, refl, subst, inl, inr, MatchOption, ◌⊎◌, ◌+◌, ◌==◌, [], ◌++◌, length, Bool, true, false, cond, ◌&&◌, sym, ap, ◌∙◌, ⊎_elim, arith, eqb-true, append-nil, is_some, option_map, bytes_eq, ◌<◌, ◌≤◌, leb-true, All, Contains, nat_le, ◌||◌}
 use Rattle.std.proofs.lemmas.Bool.{not-true, and_right, and_parts, and_from, Decides.nat_tests}
@@ -140,10 +141,6 @@ same_branches project branch c x e =
     let to = for_branch c.project c.branch x e in
     λ i. bytes_eq (sym to.0 i) project && bytes_eq (sym to.1 i) branch
 
-or_none : (o : Option ℕ) → option_or o None ≡ o
-or_none None = refl
-or_none (Some k) = refl
-
 placed_at : (h : List Entry) (project branch : List ℕ) (x : Change) (chain : List ℕ) (n k : ℕ) (b : Bool) → is_for project branch x ≡ b → place_in chain n ≡ Some k →
     option_map (λ j. length (joined h project branch) + j) (place_in (cond b chain []) n) ≡ cond (b && true) (Some (length (joined h x.project x.branch) + k)) None
 placed_at h project branch x chain n k true same is =
@@ -169,7 +166,7 @@ submit_places reading h m a s project branch n before = by (place_in s.chain n) 
     by None none =
         behind
         ∙ (ap (λ o. option_or (place_in (joined h project branch) n) (option_map (λ j. length (joined h project branch) + j) o)) (none_either (is_made_for h project branch m) none)
-        ∙ (or_none (place_in (joined h project branch) n) ∙ (before ∙ ap (λ o. place_of project branch (joining_at h o (change reading h n))) (sym none))))
+        ∙ (option_or-none (place_in (joined h project branch) n) ∙ (before ∙ ap (λ o. place_of project branch (joining_at h o (change reading h n))) (sym none))))
     by (Some k) some =
         let u = unmerged reading h m a s n k some in
         let same = made_for reading h m s.of project branch s.there ∙ same_branches project branch s.of u.of u.is_for_it in

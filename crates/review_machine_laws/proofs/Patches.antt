@@ -1,4 +1,5 @@
 -- Patch sets and bases of a branch: what adds to them, that they stay, and that each has a commit of its own.
+use Rattle.std.proofs.lemmas.Bool.{or_cases}
 use Rattle.review_machine_laws.proofs.Joined.{past}
 use Rattle.std.proofs.Math.Bool.{or-true}
 use Rattle.std.proofs.lemmas.Bool.{not-true}
@@ -259,14 +260,9 @@ with_base_keeps _ project branch xs x is = is
 
 -- ---- what is known stays known
 
--- a known commit is a base, or was sent
-pub known_parts : (a b : Bool) → (a || b) ≡ true → (a ≡ true) ⊎ (b ≡ true)
-known_parts true b e = inl refl
-known_parts false b e = inr e
-
 -- one entry more makes nothing unknown
 pub known_stays : (reading : Reading) (e : Entry) (h : List Entry) (project branch x : List ℕ) → is_known reading h project branch x ≡ true → is_known reading (e ∷ h) project branch x ≡ true
-known_stays reading e h project branch x is = by (known_parts (is_base h project branch x) (is_sent reading h project branch x) is)
+known_stays reading e h project branch x is = by (or_cases (is_base h project branch x) (is_sent reading h project branch x) is)
   where
     by : (is_base h project branch x ≡ true) ⊎ (is_sent reading h project branch x ≡ true) → is_known reading (e ∷ h) project branch x ≡ true
     by (inl based) = ap (λ b. b || is_sent reading (e ∷ h) project branch x) (with_base_keeps (accepted e) project branch (bases h project branch) x based)
@@ -320,7 +316,7 @@ BaseCame reading h o project branch x = (is_base h project branch x ≡ true) �
 base_done : (reading : Reading) (h : List Entry) (caller : ℕ) (project branch x : List ℕ) (command : Command) (a : Answer) → IsAnswerBy reading h caller command (Done a) →
     list_any (λ base. bytes_eq base x) (with_base (Some command) project branch (bases h project branch)) ≡ true → BaseCame reading h (Some command) project branch x
 base_done reading h caller project branch x (RecordBase named in_branch commit) a answer is =
-    by (known_parts (is_base h project branch x) ((bytes_eq named project && bytes_eq in_branch branch) && bytes_eq commit x)
+    by (or_cases (is_base h project branch x) ((bytes_eq named project && bytes_eq in_branch branch) && bytes_eq commit x)
     (sym (one_more_base (bytes_eq named project && bytes_eq in_branch branch) (bases h project branch) commit x) ∙ is))
   where
     by : (is_base h project branch x ≡ true) ⊎ (((bytes_eq named project && bytes_eq in_branch branch) && bytes_eq commit x) ≡ true) → BaseCame reading h (Some (RecordBase named in_branch commit)) project branch x

@@ -1,4 +1,5 @@
 -- Lists: their items by number, by place, and in order.
+use Rattle.review_table.proofs.Plain.{all_at}
 use Rattle.std.proofs.Common.{◌≡◌, ℕ, zero, suc, ◌+◌, ◌<◌, ◌≤◌, List, [], ◌∷◌, ◌++◌, length, Some, None, ◌⊎◌, inl, inr, ap, refl, arith, slice_get, sym, ◌∙◌, ⊎_elim, ◌==◌, Option, Bool, true, false, cond, ◌||◌, subst, eqb-true, eq-eqb, All, Contains, option_map}
 use Rattle.std.proofs.lemmas.{Bool.cases_lt, List.Elements.recursion_from_All}
 use Rattle.std.proofs.lemmas.Map.Keys.{IsDistinct-head, IsDistinct-tail, IsDistinct-cons}
@@ -170,18 +171,12 @@ placed_get (x ∷ xs) n place is = by (λ j at. placed_get xs n j at) (x == n) r
         let behind : place ≡ j.0 + 1 = j.2 in
         (suc k.0, k.1, omega arith)
 
--- what holds of all in a list holds of one that stands in it
-pub at_get : (P : ℕ → Type 0) (xs : List ℕ) (k n : ℕ) → AllByRecursion P xs → slice_get xs k ≡ Some n → P n
-at_get P [] k n all is = absurd (cc)
-at_get P (x ∷ xs) zero n all is = let same : x ≡ n = cc in subst P same all.0
-at_get P (x ∷ xs) (suc k) n all is = at_get P xs k n all.1 is
-
 -- who stands in a list without repetitions has its place there
 pub get_placed : (xs : List ℕ) (k n : ℕ) → IsDistinct ◌==◌ xs → slice_get xs k ≡ Some n → place_in xs n ≡ Some (k + 1)
 get_placed [] k n distinct is = absurd (cc)
 get_placed (x ∷ xs) zero n distinct is = let same : x ≡ n = cc in ap (λ b. cond b (Some 1) (option_map (λ j. j + 1) (place_in xs n))) (eq-eqb x n same)
 get_placed (x ∷ xs) (suc k) n distinct is =
-    let other : (x == n) ≡ false = at_get (λ y. (x == y) ≡ false) xs k n (IsDistinct-head ◌==◌ x xs distinct) is in
+    let other : (x == n) ≡ false = all_at (λ y. (x == y) ≡ false) xs k n (IsDistinct-head ◌==◌ x xs distinct) is in
     let more : (k + 1) + 1 ≡ suc k + 1 = omega arith in
     ap (λ b. cond b (Some 1) (option_map (λ j. j + 1) (place_in xs n))) other
     ∙ (ap (option_map (λ j. j + 1)) (get_placed xs k n (IsDistinct-tail ◌==◌ x xs distinct) is) ∙ ap Some more)
@@ -201,7 +196,7 @@ all_placed P (x ∷ xs) each =
 
 -- what holds of all in a list holds of one that has a place there
 pub at_place : (P : ℕ → Type 0) (xs : List ℕ) (n k : ℕ) → All P xs → place_in xs n ≡ Some k → P n
-at_place P xs n k all is = let at = placed_get xs n k is in at_get P xs at.0 n (recursion_from_All P xs all) at.1
+at_place P xs n k all is = let at = placed_get xs n k is in all_at P xs at.0 n (recursion_from_All P xs all) at.1
 
 placed_apart : (x : ℕ) (xs : List ℕ) (n : ℕ) → place_in (x ∷ xs) n ≡ None → ((x == n) ≡ false) × (place_in xs n ≡ None)
 placed_apart x xs n none = by (x == n) refl none

@@ -1,4 +1,6 @@
 -- What the rows of changes tell.
+use Rattle.review_machine_rows.proofs.Joins.{unsent_from}
+use Rattle.review_core_rules.proofs.Stays.{zero_of}
 use Rattle.review_machine_laws.proofs.Places.{none_past}
 use Rattle.std.proofs.Common.{◌≡◌, ℕ, ◌+◌, ◌==◌, List, [], ◌∷◌, length, Option, Some, None, Bool, true, false, cond, refl, sym, ap, subst, ◌∙◌, eqb-true, option_map, ℤ, pos, suc, not, ⊎_elim, int_eq, slice_get, ◌-◌, ◌<◌, ◌≤◌, arith, AllPairs, map, slice_index_or}
 use Rattle.std.proofs.lemmas.{Bool.cases_Bool, Bool.cases_lt, Bool.Decides.Decides-int_eq, List.Elements.All-get_or}
@@ -100,13 +102,6 @@ same_lists (x ∷ xs) (y ∷ ys) same =
     let rest = same_lists xs ys (λ n. same (suc n)) in
     λ i. first i ∷ rest i
 
-not_voted : (v : ℤ) → voted v ≡ false → v ≡ pos 0
-not_voted v none = (Decides-int_eq v (pos 0)).0 (from_not (int_eq v (pos 0)) none)
-  where
-    from_not : (b : Bool) → not b ≡ false → b ≡ true
-    from_not true e = refl
-    from_not false e = absurd (cc)
-
 same_votes : (v w : ℤ) → cond (voted v) (Some (AVote v)) None ≡ cond (voted w) (Some (AVote w)) None → v ≡ w
 same_votes v w e =
     ⊎_elim
@@ -120,7 +115,7 @@ same_votes v w e =
     (λ (a : voted v ≡ false). ⊎_elim
     (λ (b : voted w ≡ true).
     let is : None ≡ Some (AVote w) = sym (ap (λ t. cond t (Some (AVote v)) None) a) ∙ (e ∙ ap (λ t. cond t (Some (AVote w)) None) b) in absurd (cc))
-    (λ (b : voted w ≡ false). not_voted v a ∙ sym (not_voted w b))
+    (λ (b : voted w ≡ false). zero_of v a ∙ sym (zero_of w b))
     (cases_Bool (voted w)))
     (cases_Bool (voted v))
 
@@ -231,10 +226,6 @@ last_joined_is reading h key last history reads l =
 pub sent_from : (o : Option PatchRow) (p : PatchRow) → option_map APart (option_map APatch o) ≡ Some (APart (APatch p)) → o ≡ Some p
 sent_from None p e = absurd (cc)
 sent_from (Some x) p e = let same : x ≡ p = cc in ap Some same
-
-pub unsent_from : (o : Option PatchRow) → option_map APart (option_map APatch o) ≡ None → o ≡ None
-unsent_from None e = refl
-unsent_from (Some x) e = absurd (cc)
 
 -- the patch set that rows tell as current is the change's current one
 current_is : (reading : Reading) (h : List Entry) (n : ℕ) (c : Change) (p : PatchRow) → change reading h n ≡ Some c → IsCurrent (fact reading h) n p → of_number c.patches (length c.patches) ≡ Some p

@@ -1,4 +1,5 @@
 -- Commits and the patch sets that have them.
+use Rattle.std.proofs.lemmas.Option.{same_Some}
 use Rattle.review_machine_laws.proofs.Rows.{header_from}
 use Rattle.review_machine_laws.proofs.Patches.{sent_at}
 use Rattle.review_machine_laws.proofs.Patches.{sent_from}
@@ -55,9 +56,6 @@ abbrev pub FoundFor : List ℕ → List ℕ → List ℕ → Option Change → O
 FoundFor project branch x o None = (k : ℕ) (p : PatchRow) → HasPatch project branch k p o → p.commit ≡ x → ⊥
 FoundFor project branch x o (Some k) = (p : PatchRow) × HasPatch project branch k p o × (p.commit ≡ x)
 
-pub same_change : (c d : Change) → Some c ≡ Some d → c ≡ d
-same_change c d e = cc
-
 -- what is found among the patch sets of a change for the branch is found in it
 found_of : (project branch x : List ℕ) (c : Change) (o : Option ℕ) → is_for project branch c ≡ true → FoundIn 0 c.patches x o → FoundFor project branch x (Some c) o
 found_of project branch x c (Some k) for found =
@@ -68,7 +66,7 @@ found_of project branch x c None for none = by
   where
     by : FoundFor project branch x (Some c) None
     by zero p has same = let bad : None ≡ Some p = has.sent in absurd (cc)
-    by (suc j) p has same = none j p (ap (λ (d : Change). slice_get d.patches j) (same_change c has.of has.is) ∙ has.sent) same
+    by (suc j) p has same = none j p (ap (λ (d : Change). slice_get d.patches j) (same_Some c has.of has.is) ∙ has.sent) same
 
 -- the definition's look at one change finds so
 found_for : (project branch x : List ℕ) (o : Option Change) → FoundFor project branch x o (patch_for project branch x o)
@@ -83,7 +81,7 @@ found_for project branch x (Some c) =
   where
     not_for : is_for project branch c ≡ false → {k : ℕ} {p : PatchRow} → HasPatch project branch k p (Some c) → ⊥
     not_for f has =
-        let bad : true ≡ false = sym has.is_for_it ∙ (ap (is_for project branch) (sym (same_change c has.of has.is)) ∙ f) in
+        let bad : true ≡ false = sym has.is_for_it ∙ (ap (is_for project branch) (sym (same_Some c has.of has.is)) ∙ f) in
         absurd (cc)
 
 -- What is found of a commit among the changes up to a number: a patch set for the branch that has it, or that none has.

@@ -1,7 +1,10 @@
 -- What rows show of a branch.
+use Rattle.review_machine_rows.proofs.Puts.{based_from}
+use Rattle.review_machine_rows.proofs.Joins.{unsent_from}
+use Rattle.std.proofs.lemmas.Option.{same_Some}
+use Rattle.std.proofs.lemmas.Bool.{or_cases}
 use Rattle.review_machine_laws.proofs.Joined.{state_merged}
 use Rattle.review_machine_laws.proofs.Rows.{sent_from}
-use Rattle.review_machine_laws.proofs.Rows.{unsent_from}
 use Rattle.review_machine_laws.proofs.Rows.{header_from}
 use Rattle.std.proofs.Math.Bool.{or-true}
 use Rattle.std.proofs.Common.{◌≡◌, ℕ, zero, suc, ◌<◌, ◌≤◌, List, [], ◌∷◌, length, Option, Some, None, true, false, cond, ◌&&◌, ◌||◌, refl, sym, ap, ◌∙◌, ⊎_elim, ◌⊎◌, inl, inr, arith, option_map, bytes_eq, ◌≢◌, Bool, subst, IsSome, is_some, option_and_then}
@@ -25,9 +28,9 @@ use Rattle.review_machine_rows.specs.{Rows.APart, Rows.BaseRow, Rows.PartKey, St
 use Rattle.review_machine_rows.specs.Submits.{is_in_branch, is_merged, is_merged_commit, sent_up_to, standing_of, branch_after}
 use Rattle.review_machine_rows.specs.{View.fact, View.view, declared.rows.Base.Base, declared.rows.Rows.Rows}
 use Rattle.review_machine_laws.proofs.Changes.{one_passing, some_passes, within_count}
-use Rattle.review_machine_laws.proofs.Patches.{commits_apart, current_there, parents_known, known_parts, IsSent, sent_patch}
+use Rattle.review_machine_laws.proofs.Patches.{commits_apart, current_there, parents_known, IsSent, sent_patch}
 use Rattle.review_machine_laws.proofs.Places.{last_of, none_past, number_within}
-use Rattle.review_machine_laws.proofs.{Rows.rows_tell, Sent.FoundUpTo, Sent.found_up_to, Sent.same_change}
+use Rattle.review_machine_laws.proofs.{Rows.rows_tell, Sent.FoundUpTo, Sent.found_up_to}
 use Rattle.review_machine_laws.specs.Patches.{HasPatch}
 use Rattle.review_machine_rows.specs.declared.rows.Want.TheVariants as want
 
@@ -121,10 +124,6 @@ placed_at (b ∷ bs) x e =
     (λ (f : bytes_eq b x ≡ false). let r = placed_at bs x (sym (ap (λ t. t || list_any (λ c. bytes_eq c x) bs) f) ∙ e) in (suc r.0, r.1))
     (cases_Bool (bytes_eq b x))
 
-pub based_from : (o : Option (List ℕ)) (x : List ℕ) → option_map BaseRow o ≡ Some (BaseRow x) → o ≡ Some x
-based_from None x e = absurd (cc)
-based_from (Some c) x e = let same : c ≡ x = cc in ap Some same
-
 -- a change that rows show merged with a commit has it as its current one
 merged_with : (reading : Reading) (h : List Entry) (project branch x : List ℕ) (n : ℕ) → IsMergedWith (fact reading h) (base_of project branch x) n →
     (c : Change) × (change reading h n ≡ Some c) × (is_merged_commit project branch x c ≡ true)
@@ -167,7 +166,7 @@ with_merged reading h project branch x n c is merged =
 
 -- what is in a branch rows show in it
 pub is_in_shown : (reading : Reading) (h : List Entry) (project branch x : List ℕ) → is_in_branch reading h project branch x ≡ true → IsInBranch (fact reading h) (base_of project branch x)
-is_in_shown reading h project branch x is = by (known_parts (is_base h project branch x) (some_change reading h (is_merged_commit project branch x) (change_count h)) is)
+is_in_shown reading h project branch x is = by (or_cases (is_base h project branch x) (some_change reading h (is_merged_commit project branch x) (change_count h)) is)
   where
     by : (is_base h project branch x ≡ true) ⊎ (some_change reading h (is_merged_commit project branch x) (change_count h) ≡ true) → IsInBranch (fact reading h) (base_of project branch x)
     by (inl based) = let r = placed_at (bases h project branch) x based in inl (suc r.0, ap (option_map BaseRow) r.1)
@@ -267,9 +266,6 @@ not_based : (a b c : Bool) → (a || b) ≡ false → (a || c) ≡ true → c �
 not_based true b c none is = absurd (cc)
 not_based false b c none is = is
 
-same_some : (s t : Standing) → Some s ≡ Some t → s ≡ t
-same_some s t e = cc
-
 -- a commit is in the branch, or it stands as it was sent
 stands : (reading : Reading) (h : List Entry) (project branch x : List ℕ) (s : Standing) → standing_of reading h project branch x ≡ s → (s ≡ InBranch → ⊥) →
     (is_in_branch reading h project branch x ≡ false) × (sent_as reading h project branch x ≡ s)
@@ -306,11 +302,11 @@ link_based reading h project branch n l history reads o =
 merged : (reading : Reading) (h : List Entry) (project branch x : List ℕ) (d k : ℕ) (l : Link) → (branch_after reading h project branch).standing x ≡ Some (PatchSet d k) →
     (branch_after reading h project branch).link d ≡ Some l → l.state ≡ Merged → k ≢ l.patch
 merged reading h project branch x d k l is link_is state_is same =
-    let s = stands reading h project branch x (PatchSet d k) (same_some (standing_of reading h project branch x) (PatchSet d k) is) (λ e. absurd (cc)) in
+    let s = stands reading h project branch x (PatchSet d k) (same_Some (standing_of reading h project branch x) (PatchSet d k) is) (λ e. absurd (cc)) in
     let o = linked project branch (change reading h d) l link_is in
     let found = subst (FoundUpTo reading h project branch x (change_count h)) s.1 (found_up_to reading h project branch x (change_count h)) in
     let c = o.of in
-    let one : found.1.of ≡ c = same_change found.1.of c (sym found.1.is ∙ o.is) in
+    let one : found.1.of ≡ c = same_Some found.1.of c (sym found.1.is ∙ o.is) in
     let last : k ≡ current c = same ∙ ap (λ (y : Link). y.patch) o.link_is in
     let sent : current_patch c ≡ Some found.0 = (λ i. of_number (sym one i).patches (sym last i)) ∙ found.1.sent in
     let commit_is : commit c ≡ x = ap (λ o. option_map_or (λ (p : PatchRow). p.commit) o []) sent ∙ found.2 in

@@ -1,4 +1,5 @@
 -- Projects of a history are sound, and each vote stands by the file of its project.
+use Rattle.review_core_rules.proofs.Stays.{some_put}
 use Rattle.review_machine_laws.proofs.Rows.{made_holds}
 use Rattle.review_machine_laws.proofs.Rows.{named_holds}
 use Rattle.std.proofs.Math.Bool.{and-true}
@@ -26,10 +27,6 @@ use Rattle.review_machine_laws.specs.SoundProjects.{AreOfLabels, AreSoundProject
 use Rattle.review_words.specs.declared.command.ChangeCommand.TheVariants as on
 
 -- ==== the project of a change has a file
-
-some_put : (b : Bool) (text : List ℕ) (before : Option (List ℕ)) → is_some before ≡ true → is_some (cond b (Some text) before) ≡ true
-some_put true text before some = refl
-some_put false text before some = some
 
 -- a project that is there stays there
 pub text_stays : (o : Option Command) (project : List ℕ) (before : Option (List ℕ)) → is_some before ≡ true → is_some (text_put o project before) ≡ true

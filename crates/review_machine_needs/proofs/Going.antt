@@ -1,4 +1,5 @@
 -- Asking that goes on: look-ups, steps, and the texts of a line.
+use Rattle.std.proofs.Common.{append_assoc}
 use native.Mathlib.Numerals.{unary_clauses}
 use Rattle.std.proofs.Common.{◌≡◌, ℕ, ◌+◌, ◌<◌, List, [], ◌∷◌, ◌++◌, length, map, take, get_or, sym, ap, ◌∙◌, Option, Some, None, refl, subst, zero, suc, ◌≤◌, ◌-◌, true, false, cond, not, is_some, option_and_then, inl, inr, arith}
 use Rattle.std.{proofs.lemmas.List.take_more, proofs.lemmas.List.map-append, specs.Option.option_map_or}
@@ -142,13 +143,9 @@ more rows (suc n) p f above is = simp unary_clauses (ap (λ o. with_above o (lin
 pub texts_more : (rows : Rows) (n : ℕ) (next : Option (List ℕ)) (p : List ℕ) (f : StoredFile) → 0 < n → next ≡ Some p → own_in rows p ≡ Some f → texts_from rows n next ≡ f.text ∷ texts_from rows (n - 1) f.parent
 texts_more rows n next p f above is there = ap (texts_from rows n) is ∙ more rows n p f above there
 
-assoc : (xs ys zs : List (List ℕ)) → (xs ++ ys) ++ zs ≡ xs ++ (ys ++ zs)
-assoc [] ys zs = refl
-assoc (x ∷ xs) ys zs = ap (λ l. x ∷ l) (assoc xs ys zs)
-
 -- one more text is taken
 pub taken_more : (taken now : List (List ℕ)) (text : List ℕ) (rest all left : List (List ℕ)) → now ≡ taken ++ text ∷ [] → left ≡ text ∷ rest → taken ++ left ≡ all → now ++ rest ≡ all
-taken_more taken now text rest all left is next so = ap (λ l. l ++ rest) is ∙ (assoc taken (text ∷ []) rest ∙ (sym (ap (λ l. taken ++ l) next) ∙ so))
+taken_more taken now text rest all left is next so = ap (λ l. l ++ rest) is ∙ (append_assoc taken (text ∷ []) rest ∙ (sym (ap (λ l. taken ++ l) next) ∙ so))
 
 some_pattern : (texts : List (List ℕ)) (k : ℕ) (t : List ℕ) → k < length texts → get_or texts k t ≡ t → HasPattern t → SomePattern texts
 some_pattern [] k t below is pattern = absurd (omega arith)

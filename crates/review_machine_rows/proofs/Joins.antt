@@ -1,4 +1,6 @@
 -- Lists by their places, and the place at which a change joined.
+use Rattle.review_core_rules.specs.Parts.{PartRow}
+use Rattle.std.proofs.Common.{option_map}
 use Rattle.std.proofs.Common.{◌≡◌, ℕ, ◌+◌, ◌<◌, ◌≤◌, ◌==◌, zero, suc, true, false, cond, List, [], ◌∷◌, ◌++◌, length, Some, None, refl, sym, ap, ◌∙◌, ⊎_elim, eqb-true, eq-eqb, arith, is_some, Option, subst}
 use Rattle.std.proofs.lemmas.Bool.{cases_Bool, cases_lt}
 use Rattle.review_words.specs.declared.shown.JoinedChange.{JoinedChange}
@@ -84,3 +86,14 @@ module _ (row : Key → Option Row) (key : Branch) where
       let patch = one_patch k.change a.patch b.patch (subst (λ n. IsCurrent row n a.patch) same a.current) b.current in
       let commit = sym a.commit ∙ ap (λ (x : PatchRow). x.commit) patch ∙ b.commit in
       λ i. record { change = same i; commit = commit i }
+
+-- ==== what the row of a part says
+
+pub unsent_from : (o : Option PatchRow) → option_map APart (option_map APatch o) ≡ None → o ≡ None
+unsent_from None e = refl
+unsent_from (Some x) e = absurd (cc)
+
+pub part_from : (o p : Option PartRow) → option_map APart o ≡ option_map APart p → o ≡ p
+part_from None None e = refl
+part_from (Some x) (Some y) e = let same : x ≡ y = cc in ap Some same
+part_from _ _ e = absurd (cc)

@@ -1,4 +1,5 @@
 -- Rows that learn what a look-up finds.
+use Rattle.std.proofs.lemmas.Map.Lookups.{both_Equal}
 use denote.Enum.Declared.{values_one}
 use Rattle.std.proofs.Common.{◌≡◌, ◌⊎◌, ℕ, List, Option, Some, None, true, false, cond, refl, sym, ap, ◌∙◌, inl, inr, ⊎_elim}
 use Rattle.std.proofs.lemmas.{Bool.cases_Bool, Cmp.then_total, Cmp.on_total, Cmp.nat_list_cmp_total, Cmp.tied_itself}
@@ -6,7 +7,7 @@ use Rattle.std.proofs.lemmas.Map.Lookups.{CmpEqualImpliesEq, exact_unsigned, exa
 use Rattle.std.{proofs.lemmas.Map.Views.tells_apart, specs.BTreeMap.is_at, specs.Cmp.IsTotalOrder}
 use Rattle.std.specs.{Cmp.Lexicographic.slice_cmp, Ordering.nat_cmp, Ordering.ordering_then, Ordering.is_eq}
 use Rattle.std.specs.{Prelude.option_map, declared.cmp.Ordering.Ordering, declared.cmp.Ordering.TheVariants.Equal}
-use Rattle.review_table.proofs.Places.{both_equal, exact_by_parts, by_exact}
+use Rattle.review_table.proofs.Places.{exact_by_parts, by_exact}
 use Rattle.review_table.specs.Rows.{row_in, rows_of}
 use Rattle.review_machine_rows.specs.Known.{Found, Members, known, known_by, group_of, held, meaning, want_cmp, Learns}
 use Rattle.review_machine_rows.specs.Rows.{member_cmp, branch_cmp, base_cmp}
@@ -30,11 +31,11 @@ abbrev by_parts : Base → Base → Ordering
 by_parts a b = ordering_then (slice_cmp nat_cmp a.branch b.branch) (slice_cmp nat_cmp a.commit b.commit)
 
 exact_parts : (x y : Base) → by_parts x y ≡ Equal → (x.branch ≡ y.branch) × (x.commit ≡ y.commit)
-exact_parts x y e = let both = both_equal (slice_cmp nat_cmp x.branch y.branch) (slice_cmp nat_cmp x.commit y.commit) e in (exact_bytes x.branch y.branch both.0, exact_bytes x.commit y.commit both.1)
+exact_parts x y e = let both = both_Equal (slice_cmp nat_cmp x.branch y.branch) (slice_cmp nat_cmp x.commit y.commit) e in (exact_bytes x.branch y.branch both.0, exact_bytes x.commit y.commit both.1)
 
 pub exact_base : CmpEqualImpliesEq base_cmp
 exact_base x y e =
-    let both = both_equal (slice_cmp nat_cmp x.project y.project) (by_parts x y) e in
+    let both = both_Equal (slice_cmp nat_cmp x.project y.project) (by_parts x y) e in
     let project = exact_bytes x.project y.project both.0 in
     let rest = exact_parts x y both.1 in
     λ i. record { project = project i; branch = rest.0 i; commit = rest.1 i }

@@ -1,5 +1,7 @@
 -- What a file or a base that is put leaves, and what a delta without one does.
-use Rattle.review_table.proofs.Places.{both_equal}
+use Rattle.std.proofs.Common.{Some}
+use Rattle.std.proofs.Common.{option_map}
+use Rattle.std.proofs.lemmas.Map.Lookups.{both_Equal}
 use Rattle.std.proofs.Common.{◌≡◌, ◌∙◌, ◌&&◌, ◌==◌, ℕ, List, Option, None, true, refl, ap, is_eq, nat_cmp, bytes_eq}
 use Rattle.std.proofs.lemmas.Cmp.{then_total, on_total, nat_cmp_total, nat_list_cmp_total}
 use Rattle.std.proofs.lemmas.Map.Lookups.{CmpEqualImpliesEq, exact_unsigned, exact_bytes}
@@ -24,8 +26,8 @@ at_place_of k p b n =
 
 pub exact_place : CmpEqualImpliesEq place_cmp
 exact_place x y e =
-    let one = both_equal (slice_cmp nat_cmp x.project y.project) (ordering_then (slice_cmp nat_cmp x.branch y.branch) (nat_cmp x.place y.place)) e in
-    let two = both_equal (slice_cmp nat_cmp x.branch y.branch) (nat_cmp x.place y.place) one.1 in
+    let one = both_Equal (slice_cmp nat_cmp x.project y.project) (ordering_then (slice_cmp nat_cmp x.branch y.branch) (nat_cmp x.place y.place)) e in
+    let two = both_Equal (slice_cmp nat_cmp x.branch y.branch) (nat_cmp x.place y.place) one.1 in
     let p = exact_bytes x.project y.project one.0 in
     let b = exact_bytes x.branch y.branch two.0 in
     let n = exact_unsigned x.place y.place two.1 in
@@ -50,3 +52,8 @@ module _ (delta : Delta) where
 
   pub no_base_more : delta.base ≡ None → (row : Key → Option Row) (project : List ℕ) (n : ℕ) → count_after delta row (BasesOf project) n ≡ n
   no_base_more none row project n = ap (λ o. count_put (λ (k : PlaceKey). bytes_eq k.project project) o (λ (k : PlaceKey). row (BaseKey k.project k.branch k.place)) n) none
+
+-- what the row of a base says
+pub based_from : (o : Option (List ℕ)) (commit : List ℕ) → option_map BaseRow o ≡ Some (BaseRow commit) → o ≡ Some commit
+based_from None commit e = absurd (cc)
+based_from (Some x) commit e = let same : x ≡ commit = cc in ap Some same

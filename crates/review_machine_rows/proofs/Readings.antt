@@ -1,4 +1,7 @@
 -- What is read of a history, and what is known of an accepted command.
+use Rattle.review_machine_rows.specs.Answer.{most_requests}
+use Rattle.std.proofs.Common.{◌≤◌}
+use Rattle.std.proofs.Common.{length}
 use Rattle.std.proofs.Common.{◌≡◌, ℕ, List, [], ◌∷◌, Option, Some, None, Bool, true, false, refl, arith, MatchOption, nat_le, nat_lt, ◌⊎◌, inl, inr, ◌∙◌, cond, sym, ap, subst, ⊎_elim, MatchBool, ◌&&◌, bytes_eq}
 use Rattle.std.proofs.lemmas.{Bool.cases_Bool, Bool.Decides.nat_tests, Slice.Eq.bytes_eq-Decides}
 use Rattle.review_words.specs.History.{Entry, is_closed, least_open, raised, accepted, if_done, Asking, asking_of, file_text, text_put}
@@ -163,3 +166,8 @@ read_by reading _ project text before right later is = later is
 pub read_of : (reading : Reading) (h : List Entry) (project text : List ℕ) → Reads reading h → file_text h project ≡ Some text → IsRead text (reading text)
 read_of reading [] project text reads is = absurd (cc)
 read_of reading (e ∷ h) project text reads is = read_by reading (accepted e) project text (file_text h project) reads.0 (λ before. read_of reading h project text reads.1 before) is
+
+-- a history has no more requests than may be
+pub history_length : (h : List Entry) → IsHistory h → length h ≤ most_requests
+history_length [] history = omega arith
+history_length (e ∷ h) history = let below = history.2 in omega arith

@@ -1,4 +1,5 @@
 -- The tables after changes, and the orders of their keys.
+use Rattle.review_table.proofs.Plain.{some_mapped}
 use Rattle.review_machine_rows.proofs.Puts.{is_eq-then}
 use Rattle.std.proofs.Common.{◌≡◌, ℕ, true, false, cond, ◌&&◌, not, ◌==◌, List, Option, Some, None, refl, ◌∙◌, ap, arith, is_eq, is_le, is_lt, nat_cmp, bytes_eq, Bool, option_map, IsSome, ◌+◌, ◌≤◌, [], ◌∷◌, ◌++◌, Result, Ok, Err, length, ⊎_elim, sym, subst, ◌⊎◌, inl, inr, All, Contains, IfSome, is_some, OnOk, OnErr}
 use Rattle.std.proofs.lemmas.Cmp.{then_total, on_total, nat_cmp_total, nat_list_cmp_total, tied_itself}
@@ -171,10 +172,6 @@ part_after : (change : Option (Option PartRow)) (was : Option PartRow) → optio
 part_after None was = refl
 part_after (Some row) was = refl
 
-some_based : (o : Option (List ℕ)) → is_some (option_map BaseRow o) ≡ is_some o
-some_based None = refl
-some_based (Some c) = refl
-
 -- the rows of projects and those of bases, each by its key
 abbrev files_of : (Key → Option Row) → List ℕ → Option Row
 files_of row p = row (FileKey p)
@@ -188,7 +185,7 @@ total_after None old new same p = ap (λ (v : BranchesView). total_in v.totals p
 total_after (Some base) old new put p =
     put.totals p
     ∙ ap (λ t. cond (bytes_eq base.key.project p) (cond t (total_in old.branches.totals p) (total_in old.branches.totals p + 1)) (total_in old.branches.totals p))
-    (sym (some_based (row_in place_cmp old.branches.bases base.key)))
+    (sym (some_mapped BaseRow (row_in place_cmp old.branches.bases base.key)))
 
 pub committed : (delta : Delta) (kept : Kept) (changes : Changes) (projects : ℕ) (answer : Put AnswerKey StoredAnswer) (old new : Desk) → AreChangesOf delta changes → ArePrepared old.changes delta.changes.items changes.edits →
     PutsAnswer kept answer → AreApplied old changes projects new → IsWithBase delta.base old.branches new.branches → IsStored answer old.answers new.answers → projects ≡ count_put (λ p. true) delta.file (files_of (row_of old)) old.projects →

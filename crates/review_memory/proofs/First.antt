@@ -1,4 +1,6 @@
 -- Desks of histories: that of no request, and what is on no desk.
+use Rattle.review_machine_rows.proofs.Readings.{history_length}
+use Rattle.std.proofs.lemmas.Option.{cond_some}
 use Rattle.std.proofs.Common.{◌≡◌, ℕ, ◌+◌, ◌<◌, ◌⊎◌, inl, inr, Bool, true, false, cond, List, [], ◌∷◌, ◌++◌, length, get_or, take, Option, Some, None, ap, sym, ◌∙◌, subst, refl, ⊎_elim, Contains, nat_cmp, is_eq, ◌&&◌, ◌==◌, arith, option_map, nat_lt, bytes_eq, Result, Ok, Err, IfErr, IsErr, IsErrAnd, ◌≤◌}
 use Rattle.std.proofs.lemmas.{Bool.cases_Bool, Cmp.tied_itself, Cmp.nat_eq_equiv, List.take_more}
 use Rattle.std.proofs.lemmas.List.Elements.{Contains-append_left, Contains-push}
@@ -70,16 +72,12 @@ put_only first old new keys i key below is with only q there =
 
 -- ==== the desk of no request
 
-if_there : {X : Type 0} (b : Bool) (x y : X) → cond b (Some x) None ≡ Some y → (b ≡ true) × (x ≡ y)
-if_there true x y is = (refl, same_Some x y is)
-if_there false x y is = absurd (cc)
-
 one_number : IsNumber 1
 one_number = (omega arith, omega arith)
 
 pub first_indexed : (accounts : List (ℕ × List ℕ)) (names : List (NameKey × Unit {0})) → HasAccount accounts → HasName names → IsIndexed accounts names
 first_indexed accounts names account named number name is =
-    let there = if_there (is_at (nat_cmp 1) number) admin_name name (sym (account number) ∙ is) in
+    let there = cond_some (is_at (nat_cmp 1) number) admin_name name (sym (account number) ∙ is) in
     let same = tells_apart exact_unsigned 1 number there.0 in (
       subst IsNumber same one_number,
       subst (λ k. row_in name_cmp names k ≡ Some tt) (λ i. record { name = there.1 i; account = same i }) (named first_name ∙ ap (λ b. cond b (Some tt) None) (at_itself first_name)),
@@ -87,12 +85,12 @@ first_indexed accounts names account named number name is =
 
 pub first_in_use : (accounts : List (ℕ × List ℕ)) (names : List (NameKey × Unit {0})) → HasAccount accounts → HasName names → AreInUse accounts names
 first_in_use accounts names account named k is =
-    let there = if_there (is_at (name_cmp first_name) k) tt tt (sym (named k) ∙ is) in
+    let there = cond_some (is_at (name_cmp first_name) k) tt tt (sym (named k) ∙ is) in
     subst (λ (q : NameKey). row_in nat_cmp accounts q.account ≡ Some q.name) (tells_apart exact_name first_name k there.0) (account 1)
 
 pub first_numbered : (members : List (Member × Unit {0})) → HasMember members → IsNumbered members
 first_numbered members member k is =
-    let there = if_there (is_at (member_cmp first_member) k) tt tt (sym (member k) ∙ is) in
+    let there = cond_some (is_at (member_cmp first_member) k) tt tt (sym (member k) ∙ is) in
     subst (λ (m : Member). IsNumber m.account) (tells_apart exact_member first_member k there.0) one_number
 
 member_fact : (b t : Bool) (p : ℕ → Bool) → p 1 ≡ t → member_row (cond (b && t) (Some tt) None) ≡ cond (list_any p (cond b (1 ∷ []) [])) (Some MemberRow) None
@@ -149,10 +147,6 @@ passed_on t of f (Ok x) e unread = tt
 passed_on t of f (Err x) e unread = subst (IsUnread t) (sym e.1) unread
 
 -- ==== no history is as long as the greatest count of requests
-
-pub history_length : (h : List Entry) → IsHistory h → length h ≤ most_requests
-history_length [] hist = omega arith
-history_length (e ∷ h) hist = let below = hist.2 in omega arith
 
 -- nor do its tables count more requests
 pub view_length : (h : List Entry) (t : Tables) → IsHistory h → IsView h t → t.requests ≤ most_requests

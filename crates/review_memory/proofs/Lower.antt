@@ -1,4 +1,5 @@
 -- What is given up, and the places that it leaves.
+use Rattle.std.proofs.lemmas.Bool.{or_parts}
 use Rattle.std.proofs.Common.{ℕ, ◌≤◌, List, length, take, sym, take_all, All, ◌≡◌, Bool, true, false, cond, ◌||◌, Option, Some, None, refl, ap, ◌∙◌, subst, ⊎_elim, nat_lt, option_map, unwrap_or, [], ◌∷◌, Result, Ok, Err, arith, drop, length-drop, is_some, nat_cmp, OnErr, OnOk}
 use Rattle.std.proofs.lemmas.{Bool.cases_Bool, List.Elements.All-same, List.Folds.list_any-append}
 use Rattle.std.proofs.lemmas.Map.Views.{tells_apart}
@@ -10,7 +11,7 @@ use Rattle.review_machine_rows.specs.Rows.{Key, AccountKey, Row, Count, Projects
 use Rattle.review_machine_rows.specs.Shelf.{IsCommitted}
 use Rattle.review_machine_rows.specs.declared.rows.{Delta.Delta, Kept.Kept, Put.Put, StoredFile.StoredFile}
 use Rattle.review_memory_rows.proofs.Based.{none_spare}
-use Rattle.review_memory_rows.proofs.Dropped.{among_lower, among_own, not_lower, not_own, or_parts, at_answer, exact_answer}
+use Rattle.review_memory_rows.proofs.Dropped.{among_lower, among_own, not_lower, not_own, at_answer, exact_answer}
 use Rattle.review_memory_rows.specs.Answers.{answer_cmp, key_of, is_among, if_lower, lower, lower_of}
 use Rattle.review_memory_rows.specs.Kept.{KeptView, IsFull, IsFullBut, place_cmp, sent_cmp}
 use Rattle.review_memory_rows.specs.declared.answer_keys.{AnswerKey.AnswerKey, StoredAnswer.StoredAnswer}

@@ -1,6 +1,7 @@
 -- Keys of answers: their order, and which of them are dropped.
+use Rattle.std.proofs.lemmas.Grind.{flat_map-append}
+use Rattle.std.proofs.lemmas.Map.Lookups.{both_Equal}
 use Rattle.review_machine_rows.proofs.Puts.{is_eq-then}
-use Rattle.review_table.proofs.Places.{both_equal}
 use Rattle.std.proofs.lemmas.Bool.{or_right}
 use Rattle.std.proofs.Common.{◌≡◌, ℕ, Bool, true, false, ◌&&◌, ◌==◌, refl, sym, ◌∙◌, is_eq, nat_cmp, bytes_eq, Option, Some, None, Bor, option_map, option_copied, is_some, cond, List, ◌∷◌, subst, [], ap, ◌+◌, ◌<◌, ◌||◌, ◌++◌, length, get_or, take, map, ⊎_elim, append_assoc, append-nil, flat_map, nat_lt}
 use Rattle.std.proofs.lemmas.Bool.{cases_Bool}
@@ -20,8 +21,8 @@ use Rattle.review_memory_rows.specs.declared.answer_keys.{AnswerKey.AnswerKey, S
 
 pub exact_answer : CmpEqualImpliesEq answer_cmp
 exact_answer x y e =
-    let one = both_equal (nat_cmp x.epoch y.epoch) (ordering_then (nat_cmp x.caller y.caller) (slice_cmp nat_cmp x.id y.id)) e in
-    let two = both_equal (nat_cmp x.caller y.caller) (slice_cmp nat_cmp x.id y.id) one.1 in
+    let one = both_Equal (nat_cmp x.epoch y.epoch) (ordering_then (nat_cmp x.caller y.caller) (slice_cmp nat_cmp x.id y.id)) e in
+    let two = both_Equal (nat_cmp x.caller y.caller) (slice_cmp nat_cmp x.id y.id) one.1 in
     let epoch = exact_unsigned x.epoch y.epoch one.0 in
     let caller = exact_unsigned x.caller y.caller two.0 in
     let id = exact_bytes x.id y.id two.1 in
@@ -51,10 +52,6 @@ pub copied_some : {X : Type 0} (o : Option (Bor X)) → is_some (option_copied o
 copied_some None = refl
 copied_some (Some x) = refl
 
-pub some_mapped_is : {X Y : Type 0} (f : X → Y) (o : Option X) → is_some (option_map f o) ≡ is_some o
-some_mapped_is f None = refl
-some_mapped_is f (Some x) = refl
-
 -- ==== keys that are left once one is looked at
 
 -- a key for which something holds is not missed where it doesn't hold for the one that was looked at
@@ -80,10 +77,6 @@ pub only_for : {K X Y : Type 0} (R : K → K → Ordering) (t : List (K × Optio
 only_for R t cs items is only = subst (λ xs. HasEmptyOnly R (is_named R xs) t) is only
 
 -- ==== which keys are those of lower epochs, and what stands without them
-
-flat_map-append : {A B : Type 0} (f : A → List B) (xs ys : List A) → flat_map f (xs ++ ys) ≡ flat_map f xs ++ flat_map f ys
-flat_map-append f [] ys = refl
-flat_map-append f (x ∷ xs) ys = ap (λ l. f x ++ l) (flat_map-append f xs ys) ∙ sym (append_assoc (f x) (flat_map f xs) (flat_map f ys))
 
 one_more : (least : ℕ) (e : AnswerKey × StoredAnswer) → lower least (e ∷ []) ≡ if_lower least e.0
 one_more least e = append-nil (if_lower least e.0)
@@ -148,7 +141,3 @@ pub not_lower : (least : ℕ) (rows : List (AnswerKey × StoredAnswer)) (q : Ans
 not_lower least [] q above = refl
 not_lower least (e ∷ rows) q above =
     list_any-append (λ x. is_at (answer_cmp x) q) (if_lower least e.0) (lower least rows) ∙ (λ i. not_own least e.0 q above i || not_lower least rows q above i)
-
-pub or_parts : (a b : Bool) → (a || b) ≡ false → (a ≡ false) × (b ≡ false)
-or_parts true b e = absurd (cc)
-or_parts false b e = (refl, e)

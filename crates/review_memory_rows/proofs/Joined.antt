@@ -1,5 +1,5 @@
 -- Changes that joined a branch, by the index of their places.
-use Rattle.review_table.proofs.Places.{both_equal}
+use Rattle.std.proofs.lemmas.Map.Lookups.{both_Equal}
 use Rattle.std.proofs.Common.{◌≡◌, ℕ, ◌<◌, ◌==◌, List, [], ◌∷◌, ◌++◌, Option, Some, None, Bool, true, false, cond, refl, sym, ap, ◌∙◌, subst, eqb-true, arith, nat_cmp, flat_map, ◌≤◌, ◌⊎◌, inl, inr, ⊎_elim, ◌&&◌, not, max, eq-eqb, option_map, is_le, is_lt, bytes_eq, zero, suc, get_or, All, Contains, filter, AllPairs, option_to_list}
 use Rattle.std.proofs.lemmas.Bool.{and_parts, Decides.nat_tests}
 use Rattle.std.proofs.lemmas.Cmp.{then_total, on_total, nat_cmp_total, tied_itself, ranked}
@@ -30,8 +30,8 @@ use Rattle.review_memory_rows.specs.declared.places.PlaceKey.{PlaceKey}
 
 pub exact_place : CmpEqualImpliesEq place_cmp
 exact_place x y e =
-    let one = both_equal (branch_cmp x.branch y.branch) (ordering_then (nat_cmp x.place y.place) (nat_cmp x.change y.change)) e in
-    let two = both_equal (nat_cmp x.place y.place) (nat_cmp x.change y.change) one.1 in
+    let one = both_Equal (branch_cmp x.branch y.branch) (ordering_then (nat_cmp x.place y.place) (nat_cmp x.change y.change)) e in
+    let two = both_Equal (nat_cmp x.place y.place) (nat_cmp x.change y.change) one.1 in
     let b = exact_branch x.branch y.branch one.0 in
     let p = exact_unsigned x.place y.place two.0 in
     let n = exact_unsigned x.change y.change two.1 in

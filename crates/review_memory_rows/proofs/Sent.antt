@@ -1,5 +1,6 @@
 -- Patch sets by their commits.
-use Rattle.review_table.proofs.Places.{both_equal}
+use Rattle.review_machine_rows.proofs.Joins.{unsent_from}
+use Rattle.std.proofs.lemmas.Map.Lookups.{both_Equal}
 use Rattle.std.proofs.Common.{◌≡◌, List, [], ◌∷◌, ◌++◌, Option, Some, None, Bool, true, false, cond, refl, sym, ap, ◌∙◌, subst, All, is_some, is_eq, IsSome, ℕ, ◌==◌, eqb-true, option_map, nat_cmp, ◌≤◌, ◌&&◌, not, arith, is_le, is_lt, bytes_eq, Result, Ok, Err, IfOk, MatchBool}
 use Rattle.std.proofs.lemmas.Bool.{and_parts}
 use Rattle.std.proofs.lemmas.Cmp.{tied_itself, then_total, on_total, nat_cmp_total, nat_list_cmp_total}
@@ -110,8 +111,8 @@ all_put {K} cs all puts is = subst (All (λ (c : RowEdit K (Unit {0})). IsSome c
 
 pub exact_sent : CmpEqualImpliesEq sent_cmp
 exact_sent x y e =
-    let one = both_equal (slice_cmp nat_cmp x.commit y.commit) (ordering_then (nat_cmp x.change y.change) (nat_cmp x.patch y.patch)) e in
-    let two = both_equal (nat_cmp x.change y.change) (nat_cmp x.patch y.patch) one.1 in
+    let one = both_Equal (slice_cmp nat_cmp x.commit y.commit) (ordering_then (nat_cmp x.change y.change) (nat_cmp x.patch y.patch)) e in
+    let two = both_Equal (nat_cmp x.change y.change) (nat_cmp x.patch y.patch) one.1 in
     let c = exact_bytes x.commit y.commit one.0 in
     let n = exact_unsigned x.change y.change two.0 in
     let p = exact_unsigned x.patch y.patch two.1 in
@@ -327,10 +328,6 @@ pub sent_patch_by : (kept : List (ℕ × ChangeTables)) (base : Base) (r : Resul
 sent_patch_by kept base (Ok found) is = sent_patch kept base found is
 sent_patch_by kept base (Err error) none = none
 
-none_patch : (o : Option PatchRow) → option_map APart (option_map APatch o) ≡ None → o ≡ None
-none_patch None is = refl
-none_patch (Some x) is = absurd (cc)
-
 -- the current patch set of a change
 pub current_is : (kept : List (ℕ × ChangeTables)) (n : ℕ) (t : ChangeTables) (p : ℕ) (patch : PatchRow) → row_in nat_cmp kept n ≡ Some t → row_in nat_cmp (rows_of t.patches) p ≡ Some patch → IsLastOf (rows_of t.patches) p →
     IsCurrent (row_of kept) n patch
@@ -341,7 +338,7 @@ current_is kept n t p patch is sent last = record {
 }
 
 pub last_of : (kept : List (ℕ × ChangeTables)) (n : ℕ) (t : ChangeTables) (patch : PatchRow) → row_in nat_cmp kept n ≡ Some t → (c : IsCurrent (row_of kept) n patch) → IsLastOf (rows_of t.patches) c.number
-last_of kept n t patch is c m less = none_patch (row_in nat_cmp (rows_of t.patches) m) (sym (ap (λ o. option_map APart (part_where o (PatchOf m))) is) ∙ c.later m less)
+last_of kept n t patch is c m less = unsent_from (row_in nat_cmp (rows_of t.patches) m) (sym (ap (λ o. option_map APart (part_where o (PatchOf m))) is) ∙ c.later m less)
 
 module _ (kept : List (ℕ × ChangeTables)) (base : Base) (n : ℕ) where
   merged_by : (p : ℕ) (o : Option ChangeTables) → row_in nat_cmp kept n ≡ o → IsSentAs true o base p → IsMergedWith (row_of kept) base n

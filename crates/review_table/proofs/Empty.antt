@@ -1,4 +1,5 @@
 -- Which places have no row.
+use Rattle.review_table.proofs.Plain.{some_or}
 use Rattle.std.proofs.Common.{◌≡◌, ℕ, ◌+◌, ◌<◌, suc, List, [], ◌∷◌, ◌++◌, Option, Some, None, IfSome, Bool, true, false, cond, ◌||◌, refl, ap, sym, ◌∙◌, length, take, drop, get_or}
 use Rattle.std.proofs.Math.Bool.{or_assoc, or-false}
 use Rattle.std.proofs.lemmas.{Bool.or_left, Bool.or_parts, Cmp.tied_itself}
@@ -23,10 +24,6 @@ reserved true row was now is full empty = refl
 reserved false row was now is full empty = absurd (full (sym is ∙ empty))
 
 -- ---- keys that edits name
-
-some_or : {X : Type 0} (b : Bool) (x : X) (o : Option X) → is_some (cond b (Some x) o) ≡ b || is_some o
-some_or true x o = refl
-some_or false x o = refl
 
 pub named_append : {K X : Type 0} (cmp : K → K → Ordering) (cs ds : List (RowEdit K X)) (q : K) → is_named cmp (cs ++ ds) q ≡ is_named cmp cs q || is_named cmp ds q
 named_append cmp [] ds q = refl

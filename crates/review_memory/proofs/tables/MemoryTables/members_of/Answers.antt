@@ -1,3 +1,4 @@
+use Rattle.std.proofs.lemmas.Map.Made.{option_or-none}
 use Rattle.std.proofs.Common.{◌≡◌, ◌∙◌, ap, sym, cond, Option, Some, None, Bool, true, false, map, not, ◌&&◌, refl, nat_cmp, is_eq, is_le, is_lt}
 use Rattle.std.proofs.lemmas.Cmp.{nat_cmp_total, nat_list_cmp_total, nat_list_eq_equiv, tied_itself}
 use Rattle.std.{proofs.lemmas.Slice.Eq.bytes_eq-Decides, specs.BTreeMap.is_at, specs.Cmp.eq_by_cmp_equiv}
@@ -6,10 +7,6 @@ use Rattle.review_table.specs.Rows.{row_in, rows_of}
 use Rattle.review_machine_rows.specs.{Rows.member_cmp, declared.rows.MemberKey.MemberKey}
 use Rattle.review_memory.proofs.Applied.{member_total, row_between_numbers, taken_over}
 use Rattle.review_memory.proofs.tables.MemoryTables.members_of.Goals as goal
-
-or_none : {X : Type 0} (o : Option X) → option_or o None ≡ o
-or_none None = refl
-or_none (Some x) = refl
 
 if_row : {X : Type 0} (b : Bool) (o : Option X) (x : X) → cond b o None ≡ Some x → b ≡ true
 if_row true o x is = refl
@@ -32,7 +29,7 @@ loop-key-init c = record {
       ∙ row_between_numbers c.args.group.now q.group q.account all (λ _ is. c.requires q is)
       ∙ ap (λ b. cond b all None) (nat_list_eq_equiv.refl q.group))
       ∙ ap (λ t. option_or all (row_in nat_cmp (rows_of t) n)) c.new-members.ensures
-      ∙ or_none all;
+      ∙ option_or-none all;
   own = λ q is.
       let all = row_in member_cmp (rows_of c.args.self.now.members) q in
       let there =

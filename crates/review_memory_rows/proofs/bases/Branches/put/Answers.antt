@@ -1,10 +1,10 @@
+use Rattle.review_table.proofs.Plain.{some_mapped}
 use Rattle.std.proofs.Common.{◌≡◌, ◌≤◌, ◌+◌, ◌∙◌, ◌∷◌, [], List, ℕ, Some, None, cond, ap, ◌<◌, sym, subst, arith, All, is_some, option_map, IsSome, nat_cmp}
 use Rattle.std.specs.Cmp.Lexicographic.{slice_cmp}
 use Rattle.review_table.specs.{Rows.rows_of, Rows.row_in, Rows.changed, declared.table.RowEdit.RowEdit}
 use Rattle.review_machine_rows.specs.Rows.{branch_cmp, place_cmp}
 use Rattle.review_machine_rows.specs.declared.rows.{BranchKey.BranchKey, PlaceKey.PlaceKey, Put.Put}
 use Rattle.review_memory_rows.proofs.Based.{WithRow, IsGreater, with_row, last_more, last_unique, greater_of, still_last, total_more, total_is, one_has, listed_alike, listed_more, stood_before}
-use Rattle.review_memory_rows.proofs.Dropped.{some_mapped_is}
 use Rattle.review_memory_rows.specs.Bases.{BranchesView, IsPut, IsLastPlace, commit_cmp, commit_at, has_commit, last_in, total_in, greatest_place}
 use Rattle.review_memory_rows.specs.declared.keys.CommitKey.{CommitKey}
 use Rattle.review_memory_rows.proofs.bases.Branches.put.Goals as goal
@@ -90,7 +90,7 @@ returns-in-Ok-clause-put c =
       bases = put_there c;
       totals = total_more base known total totals after
           (total_is known c.is_some-known.result c.total.result c.from.result (total_in totals base.key.project)
-          (c.is_some-known.ensures ∙ ap is_some c.in_ok-before.ensures ∙ some_mapped_is (commit_at base.key) (row_in place_cmp c.args.self.now.bases base.key)
+          (c.is_some-known.ensures ∙ ap is_some c.in_ok-before.ensures ∙ some_mapped (commit_at base.key) (row_in place_cmp c.args.self.now.bases base.key)
           ∙ ap (λ (v : BranchesView). is_some (row_in place_cmp v.bases base.key)) (sym c.self.view_is))
           c.from.ensures
           (c.total.ensures ∙ ap (λ (v : BranchesView). total_in v.totals base.key.project) (sym c.self.view_is)))
