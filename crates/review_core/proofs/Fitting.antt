@@ -1,12 +1,11 @@
 -- Rows that fit together.
-use Rattle.review_core_rules.proofs.Stays.{zero_of}
-use Rattle.std.proofs.Common.{◌≡◌, List, [], ◌∷◌, Option, Some, None, Bool, true, false, refl, sym, ap, ◌∙◌, unwrap_or, if◌then◌else◌, ℕ, ℤ, not, ◌&&◌, ◌||◌, eq-eqb, eqb-true, length, nat_le, nat_cmp, ◌==◌, is_some, ◌+◌, pos, arith, int_eq}
-use Rattle.std.proofs.lemmas.Bool.{and_parts, and_from, false_from_ne_true, Decides.Decides-int_eq}
+use Rattle.std.proofs.Common.{◌≡◌, List, [], ◌∷◌, Option, Some, None, Bool, true, false, refl, sym, ap, ◌∙◌, unwrap_or, if◌then◌else◌, ℕ, ℤ, not, ◌&&◌, ◌||◌, eq-eqb, eqb-true, length, nat_le, nat_cmp, ◌==◌, is_some, ◌+◌, pos, arith}
+use Rattle.std.proofs.lemmas.Bool.{and_parts, and_from, false_from_ne_true}
 use Rattle.std.specs.{BTreeMap.is_at, List.list_all, List.Sorted.IsStrictlySortedBy, Map.keys_of}
 use Rattle.std.specs.declared.cmp.Ordering.{Ordering}
 use Rattle.review_names.specs.Forms.{is_within, most_comments, most_patches}
 use Rattle.review_table.specs.Rows.{row_in, rows_of}
-use Rattle.review_core_rules.proofs.Stays.{within_parts}
+use Rattle.review_core_rules.proofs.Stays.{zero_of, within_parts}
 use Rattle.review_core_rules.specs.Change.{current, uploader, Change}
 use Rattle.review_core_rules.specs.Seen.{of_account, seen, value_of, vote_cmp, vote_in}
 use Rattle.review_core_rules.specs.{Sound.IsSound, Sound.are_in_order, Votes.voted}

@@ -1,11 +1,8 @@
 -- A request keeps a change sound.
-use Rattle.std.proofs.Common.{int_eq}
-use Rattle.std.proofs.lemmas.Bool.Decides.{Decides-int_eq}
-use Rattle.std.proofs.lemmas.Bool.{not-false}
-use Rattle.std.proofs.lemmas.Bool.{and_right}
 use lib.ListN.{length-map}
-use Rattle.std.proofs.Common.{◌≡◌, ◌≤◌, ℕ, ◌+◌, true, nat_lt, arith, ◌&&◌, List, [], ◌∷◌, ◌++◌, length, map, Option, Some, None, refl, ℤ, Bool, false, sym, ◌∙◌, bytes_eq, if◌then◌else◌, is_some, not, ◌||◌, ap, eqb-true, ⊎_elim, ◌==◌, is_none, pos, eq-eqb, nat_le, lt-ltb, length-append}
-use Rattle.std.proofs.lemmas.Bool.{and_parts, and_from, or_parts, cases_Bool, Decides.nat_tests}
+use Rattle.std.proofs.Common.{int_eq, ◌≡◌, ◌≤◌, ℕ, ◌+◌, true, nat_lt, arith, ◌&&◌, List, [], ◌∷◌, ◌++◌, length, map, Option, Some, None, refl, ℤ, Bool, false, sym, ◌∙◌, bytes_eq, if◌then◌else◌, is_some, not, ◌||◌, ap, eqb-true, ⊎_elim, ◌==◌, is_none, pos, eq-eqb, nat_le, lt-ltb, length-append}
+use Rattle.std.proofs.lemmas.Bool.{not-false, and_right, and_parts, and_from, or_parts, cases_Bool}
+use Rattle.std.proofs.lemmas.Bool.Decides.{Decides-int_eq, nat_tests}
 use Rattle.std.specs.{List.list_any, Option.option_map_or}
 use Rattle.review_names.specs.Forms.{is_within, most_patches, most_comments}
 use Rattle.review_words.specs.declared.changes.{Given.Given, NewChange.NewChange, NewComment.NewComment}

@@ -1,11 +1,9 @@
 -- Comments in threads, and which threads are unresolved.
-use Rattle.std.proofs.lemmas.Bool.{both_ways}
-use Rattle.review_table.proofs.Plain.{all_at}
-use Rattle.std.proofs.Math.Bool.{or-true}
 use Rattle.std.proofs.Common.{◌≡◌, List, [], ◌∷◌, ◌++◌, Bool, true, false, not, ◌&&◌, ◌||◌, ◌==◌, refl, ap, ◌∙◌, ℕ, zero, suc, ◌+◌, ◌≤◌, length, map, Option, Some, None, cond, sym, subst, eq-eqb, arith, unwrap_or, ◌<◌, get_or, set, append-nil, append_assoc, length-append, filter, option_map, slice_get, eqb-true, ⊎_elim}
-use Rattle.std.proofs.lemmas.Bool.{cases_Bool, Decides.nat_tests}
-use Rattle.std.proofs.lemmas.{List.length-map, List.map-append, Option.slice_get-map}
+use Rattle.std.proofs.{Math.Bool.or-true, lemmas.Bool.both_ways, lemmas.Bool.cases_Bool}
+use Rattle.std.proofs.lemmas.{Bool.Decides.nat_tests, List.length-map, List.map-append, Option.slice_get-map}
 use Rattle.std.specs.{List.list_any, List.AllByRecursion, Option.option_map_or}
+use Rattle.review_table.proofs.Plain.{all_at}
 use Rattle.review_words.specs.declared.shown.{ShownComment.ShownComment, Thread.Thread}
 use Rattle.review_core_rules.specs.Change.{has_unresolved, of_number, root_of, threaded, posts}
 use Rattle.review_core_rules.specs.Threads.{Rooted, last_unresolved, of_root, rooted, rooted_after, roots, shown_comment, thread_of, threads}
@@ -385,8 +383,7 @@ open_ends : (rs : List Rooted) (s : ℕ) → is_open rs s ≡ true → ends_open
 open_ends [] s is = absurd (cc)
 open_ends (r ∷ rs) s is = ⊎_elim
     (λ (e : (r.root == s) ≡ true).
-    let now : last_unresolved r.comment.unresolved (of_root rs s) ≡ true = sym (ap (last_unresolved false) (of_here r rs s e)) ∙ is in
-    ⊎_elim
+    let now : last_unresolved r.comment.unresolved (of_root rs s) ≡ true = sym (ap (last_unresolved false) (of_here r rs s e)) ∙ is in ⊎_elim
     (λ (some : has_root rs s ≡ true). others_end r rs (open_ends rs s (some_of rs s false r.comment.unresolved some ∙ now)))
     (λ (none : has_root rs s ≡ false).
     first_ends r rs (sym (ap (last_unresolved r.comment.unresolved) (none_of rs s none)) ∙ now) (ap (has_root rs) (eqb-true r.root s e) ∙ none))
@@ -446,8 +443,7 @@ any_at p (x ∷ xs) s among is =
 
 some_at : (p : ℕ → Bool) (xs : List ℕ) → list_any p xs ≡ true → (s : ℕ) × (p s ≡ true)
 some_at p [] is = absurd (cc)
-some_at p (x ∷ xs) is =
-    ⊎_elim (λ (e : p x ≡ true). (x, e)) (λ (e : p x ≡ false). some_at p xs (sym (ap (λ b. b || list_any p xs) e) ∙ is)) (cases_Bool (p x))
+some_at p (x ∷ xs) is = ⊎_elim (λ (e : p x ≡ true). (x, e)) (λ (e : p x ≡ false). some_at p xs (sym (ap (λ b. b || list_any p xs) e) ∙ is)) (cases_Bool (p x))
 
 any_thread : (rs : List Rooted) (xs : List ℕ) → list_any (λ t. t.unresolved) (map (thread_of rs) xs) ≡ list_any (is_open rs) xs
 any_thread rs [] = refl

@@ -263,8 +263,7 @@ none_or (Some x) p e = absurd (cc)
 pub range_new : (old new : BTreeMap (List ℕ) ValueRange) (name : List ℕ) (r : ValueRange) → is_some (get (slice_cmp nat_cmp) old name) ≡ false →
     ((l : List ℕ) → get (slice_cmp nat_cmp) new l ≡ cond (is_at (slice_cmp nat_cmp name) l) (Some r) (get (slice_cmp nat_cmp) old l)) → (l : List ℕ) →
     get (slice_cmp nat_cmp) new l ≡ option_or (get (slice_cmp nat_cmp) old l) (cond (bytes_eq name l) (Some r) None)
-range_new old new name r none is l =
-    ⊎_elim
+range_new old new name r none is l = ⊎_elim
     (λ (e : bytes_eq name l ≡ true).
     is l ∙ (ap (λ b. cond b (Some r) (get (slice_cmp nat_cmp) old l)) (is_eq-slice_cmp name l ∙ e)
     ∙ (none_or (get (slice_cmp nat_cmp) old l) (Some r) (sym (ap (λ x. is_some (get (slice_cmp nat_cmp) old x)) ((bytes_eq-Decides name l).0 e)) ∙ none)

@@ -1,10 +1,9 @@
 -- Rows by account, and who is in a group.
-use Rattle.review_table.proofs.Plain.{some_or}
 use Rattle.std.proofs.Common.{◌≡◌, ℕ, List, [], ◌∷◌, map, Option, Some, None, Bool, true, false, not, ◌&&◌, ◌||◌, refl, sym, ap, ◌∙◌, eqb-true, eq-eqb, arith, filter, nat_cmp, ◌==◌, if◌then◌else◌, is_some, unwrap_or, option_map, bytes_eq}
 use Rattle.std.{proofs.lemmas.Bool.Decides.nat_tests, proofs.lemmas.Map.Made.lookup-map_values, specs.BTreeMap.is_at}
 use Rattle.std.specs.{Cmp.unsigned_tied, Cmp.Lexicographic.slice_cmp, List.list_any, Map.keys_of, Option.option_map_or}
 use Rattle.review_names.specs.{Groups.has_account, Names.registered_users}
-use Rattle.review_table.specs.Rows.{row_in, rows_of}
+use Rattle.review_table.{proofs.Plain.some_or, specs.Rows.row_in, specs.Rows.rows_of}
 use Rattle.review_core_rules.specs.{Change.kept_or, declared.rows.AttentionEntry.AttentionEntry, declared.rows.Why.Why}
 use Rattle.review_core_tables.proofs.Copied.{Tells, at_sym, any_kept}
 use Rattle.review_core_tables.specs.Copies.{GroupTable, group_list}

@@ -1,14 +1,12 @@
 -- Votes by their keys: copied to a new patch set, and counted.
-use Rattle.review_core_rules.proofs.Stays.{zero_of}
-use Rattle.std.proofs.Math.Bool.{and_assoc}
 use Rattle.std.proofs.Common.{◌≡◌, List, [], ◌∷◌, Option, Some, None, Bool, true, false, refl, sym, ap, ◌∙◌, ⊎_elim, subst, filter, is_eq, if◌then◌else◌, ℕ, ℤ, pos, not, ◌&&◌, ◌||◌, eqb-true, eq-eqb, int_eq, IsSome, nat_cmp, ◌==◌, bytes_eq, Bor, ◌<◌, ◌+◌, length, drop, get_or, map, append_assoc, ◌++◌, suc}
-use Rattle.std.proofs.lemmas.Bool.{cases_Bool, and_parts, and_from, Decides.Decides-int_eq}
-use Rattle.std.proofs.lemmas.{List.at_drop_more, Map.Text.is_eq-slice_cmp, Slice.Eq.bytes_eq-Decides}
-use Rattle.std.specs.{BTreeMap.is_at, Cmp.tied_then, Cmp.unsigned_tied, Cmp.Lexicographic.slice_cmp}
-use Rattle.std.specs.List.{AllByRecursion, list_any, Sorted.IsStrictlySortedBy}
-use Rattle.std.specs.{Map.keys_of, Map.Iter.deref_pair, Ordering.ordering_then}
+use Rattle.std.proofs.{Math.Bool.and_assoc, lemmas.Bool.cases_Bool, lemmas.Bool.and_parts, lemmas.Bool.and_from}
+use Rattle.std.proofs.lemmas.{Bool.Decides.Decides-int_eq, List.at_drop_more, Map.Text.is_eq-slice_cmp}
+use Rattle.std.{proofs.lemmas.Slice.Eq.bytes_eq-Decides, specs.BTreeMap.is_at}
+use Rattle.std.specs.{Cmp.tied_then, Cmp.unsigned_tied, Cmp.Lexicographic.slice_cmp, List.AllByRecursion, List.list_any}
+use Rattle.std.specs.{List.Sorted.IsStrictlySortedBy, Map.keys_of, Map.Iter.deref_pair, Ordering.ordering_then}
 use Rattle.std.specs.declared.cmp.Ordering.{Ordering, TheVariants.Less}
-use Rattle.review_table.specs.Rows.{row_in, rows_of}
+use Rattle.{review_table.specs.Rows.row_in, review_table.specs.Rows.rows_of, review_core_rules.proofs.Stays.zero_of}
 use Rattle.review_core_rules.specs.Seen.{vote_cmp, value_of, Votes, vote_in}
 use Rattle.review_core_rules.specs.{Votes.voted, declared.rows.VoteKey.VoteKey}
 use Rattle.review_core_tables.specs.Copies.{Copies, has_lost, copied_rows, lost_rows, AreApart, AreMany}
@@ -22,8 +20,7 @@ pub record Tells {K : Type 0} (R : K → K → Ordering) : Type 0 where
   pub self : (k : K) → is_at (R k) k ≡ true
 
 pub at_sym : {K : Type 0} {R : K → K → Ordering} → Tells R → (j k : K) → is_at (R j) k ≡ is_at (R k) j
-at_sym {R = R} t j k =
-    ⊎_elim
+at_sym {R = R} t j k = ⊎_elim
     (λ (y : is_at (R j) k ≡ true). y ∙ sym (subst (λ x. is_at (R k) x ≡ true) (sym (t.same j k y)) (t.self k)))
     (λ (f : is_at (R j) k ≡ false). ⊎_elim
     (λ (y : is_at (R k) j ≡ true). let e = subst (λ x. is_at (R j) x ≡ true) (sym (t.same k j y)) (t.self j) in absurd (cc))

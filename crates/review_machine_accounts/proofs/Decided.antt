@@ -1,9 +1,8 @@
 -- Commands that are decided, and what closes epochs.
-use Rattle.review_machine_accounts.proofs.Members.{eq_sym}
-use Rattle.std.proofs.Common.{◌≡◌, ℕ, List, refl, ◌+◌, ◌==◌, [], ◌∷◌, ◌++◌, Option, Some, None, Bool, true, false, cond, not, ◌&&◌, sym, ap, ◌∙◌, subst, ⊎_elim, length, map, arith, nat_cmp, is_some, nat_lt, option_map, unwrap_or, MatchOption, bytes_eq, nat_le}
-use Rattle.std.proofs.lemmas.{Bool.cases_Bool, Bool.Decides.nat_tests, Map.Text.is_eq-slice_cmp}
-use Rattle.std.{proofs.lemmas.Slice.Eq.bytes_eq-Decides, specs.BTreeMap.is_at}
-use Rattle.std.specs.{Cmp.unsigned_tied, Cmp.Lexicographic.slice_cmp, List.AllByRecursion, List.list_all}
+use Rattle.std.proofs.Common.{◌≡◌, ℕ, List, refl, ◌+◌, ◌==◌, [], ◌∷◌, ◌++◌, Option, Some, None, Bool, true, false, cond, not, ◌&&◌, sym, ap, ◌∙◌, subst, ⊎_elim, length, map, nat_cmp, is_some, nat_lt, option_map, unwrap_or, MatchOption, bytes_eq, nat_le}
+use Rattle.std.proofs.lemmas.{Bool.cases_Bool, Map.Text.is_eq-slice_cmp, Slice.Eq.bytes_eq-Decides}
+use Rattle.std.specs.{BTreeMap.is_at, Cmp.unsigned_tied, Cmp.Lexicographic.slice_cmp}
+use Rattle.std.specs.List.{AllByRecursion, list_all}
 use Rattle.review_names.specs.Names.{administrators, registered_users}
 use Rattle.review_table.specs.Rows.{row_edit_of, after_row_edit}
 use Rattle.review_words.specs.History.{Entry, entry_of, account_count, name_of, name_taken, is_account, is_admin, is_listed, listed_members, file_text, is_project, project_count, bases, base_count, least_open}
@@ -23,7 +22,8 @@ use Rattle.review_machine_rows.specs.Rows.{Key, AccountKey, MemberKey, FileKey, 
 use Rattle.review_machine_rows.specs.Steps.{OfCommand, command_wants}
 use Rattle.review_machine_rows.specs.View.{view, fact, counted, AreEnough, IsDecided, IsDecidedAt}
 use Rattle.review_machine_rows.specs.declared.rows.{Delta.Delta, PlaceKey.PlaceKey, Rows.Rows, StoredFile.StoredFile}
-use Rattle.review_machine_accounts.proofs.{Members.members_after, Told.account_told, Told.member_told, Told.held_told}
+use Rattle.review_machine_accounts.proofs.Members.{eq_sym, members_after}
+use Rattle.review_machine_accounts.proofs.Told.{account_told, member_told, held_told}
 use Rattle.review_machine_accounts.specs.Decisions.{IsEmpty}
 use Rattle.review_machine_accounts.specs.inner.Words.{added, dropped, is_held, member_of}
 use Rattle.review_words.specs.declared.reply.Answer.TheVariants as made
@@ -233,8 +233,7 @@ based_where false commit o = refl
 base_rows : (h : List Entry) (project branch commit : List ℕ) (place : ℕ) (p b : List ℕ) (n : ℕ) → place ≡ length (bases h project branch) + 1 →
     option_map BaseRow (at_place (cond (bytes_eq project p && bytes_eq branch b) (bases h p b ++ commit ∷ []) (bases h p b)) n)
     ≡ cond (bytes_eq project p && (bytes_eq branch b && (place == n))) (Some (BaseRow commit)) (option_map BaseRow (at_place (bases h p b) n))
-base_rows h project branch commit place p b n is =
-    ⊎_elim
+base_rows h project branch commit place p b n is = ⊎_elim
     (λ (t : bytes_eq project p ≡ true). ⊎_elim
     (λ (u : bytes_eq branch b ≡ true).
     let where_is : length (bases h project branch) ≡ length (bases h p b) = λ i. length (bases h ((bytes_eq-Decides project p).0 t i) ((bytes_eq-Decides branch b).0 u i)) in

@@ -1,15 +1,12 @@
 -- What changes in a group, and the row of a key after it.
-use Rattle.review_table.proofs.Plain.{some_or}
-use Rattle.std.proofs.lemmas.Bool.{and_right}
-use Rattle.std.proofs.lemmas.Bool.{not-true}
-use Rattle.std.proofs.Common.{Bor, ◌≡◌, ℕ, ◌+◌, ◌<◌, ◌==◌, List, [], ◌∷◌, ◌++◌, length, get_or, take, map, Bool, true, false, cond, not, ◌&&◌, ◌||◌, refl, sym, ap, ◌∙◌, ⊎_elim, Option, Some, None, eqb-true, eq-eqb, arith, filter, nat_cmp, is_some, bytes_eq}
-use Rattle.std.proofs.lemmas.Bool.{cases_Bool, and_parts, and_from, Decides.nat_tests}
+use Rattle.std.proofs.Common.{Bor, ◌≡◌, ℕ, ◌+◌, ◌<◌, ◌==◌, List, [], ◌∷◌, ◌++◌, length, get_or, take, map, Bool, true, false, cond, not, ◌&&◌, ◌||◌, refl, sym, ap, ◌∙◌, ⊎_elim, Option, Some, None, eqb-true, eq-eqb, arith, filter, nat_cmp, bytes_eq}
+use Rattle.std.proofs.lemmas.Bool.{and_right, not-true, cases_Bool, and_parts, and_from, Decides.nat_tests}
 use Rattle.std.proofs.lemmas.List.{take_more, map-append, Elements.filter-append}
 use Rattle.std.proofs.lemmas.Map.Keys.{IsDistinct-head, IsDistinct-tail, IsDistinct-from_sorted}
 use Rattle.std.proofs.lemmas.{Map.Made.IsDistinct-keys_filter, Map.Text.is_eq-slice_cmp, Slice.Eq.bytes_eq-Decides}
 use Rattle.std.specs.{BTreeMap.is_at, Cmp.tied_then, Cmp.unsigned_tied, Cmp.Lexicographic.slice_cmp}
-use Rattle.std.specs.List.{list_any, AllByRecursion, IsDistinct, Sorted.IsStrictlySortedBy}
-use Rattle.std.specs.{Map.keys_of, Map.Iter.deref_pair, Ordering.eq_by_cmp}
+use Rattle.std.specs.{List.list_any, List.AllByRecursion, List.IsDistinct, List.Sorted.IsStrictlySortedBy, Map.keys_of}
+use Rattle.{std.specs.Map.Iter.deref_pair, std.specs.Ordering.eq_by_cmp, review_table.proofs.Plain.some_or}
 use Rattle.review_table.specs.Rows.{NamesOnce, after_row_edit, row_edit_of, row_in}
 use Rattle.review_table.specs.declared.table.RowEdit.{RowEdit}
 use Rattle.review_machine_rows.specs.Rows.{MemberRow, member_change, member_cmp}
@@ -58,8 +55,7 @@ member_to j k e = member_tied j k ∙ and_from (bytes_eq j.group k.group) (j.acc
 
 -- and the other way round
 member_sym : (j k : Member) → is_at (member_cmp j) k ≡ is_at (member_cmp k) j
-member_sym j k =
-    ⊎_elim
+member_sym j k = ⊎_elim
     (λ (t : is_at (member_cmp j) k ≡ true). t ∙ sym (member_to k j (sym (member_from j k t))))
     (λ (f : is_at (member_cmp j) k ≡ false). ⊎_elim
     (λ (t : is_at (member_cmp k) j ≡ true). let u = member_to j k (sym (member_from k j t)) in absurd (cc))
@@ -73,8 +69,7 @@ or_else (Some x) other = Some x
 
 row_edit_of-append : (xs ys : List (RowEdit Member (Unit {0}))) (k : Member) → row_edit_of member_cmp (xs ++ ys) k ≡ or_else (row_edit_of member_cmp xs k) (row_edit_of member_cmp ys k)
 row_edit_of-append [] ys k = refl
-row_edit_of-append (x ∷ xs) ys k =
-    ⊎_elim
+row_edit_of-append (x ∷ xs) ys k = ⊎_elim
     (λ (t : is_at (member_cmp x.key) k ≡ true).
     ap (λ b. cond b (Some x.row) (row_edit_of member_cmp (xs ++ ys) k)) t
     ∙ sym (ap (λ b. or_else (cond b (Some x.row) (row_edit_of member_cmp xs k)) (row_edit_of member_cmp ys k)) t))

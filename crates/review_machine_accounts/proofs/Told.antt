@@ -1,14 +1,9 @@
 -- What rows that agree with a history tell of it.
-use Rattle.review_machine_rows.proofs.Puts.{based_from}
-use Rattle.review_table.proofs.Plain.{some_mapped}
-use Rattle.review_table.proofs.Plain.{some_or}
-use Rattle.review_machine_laws.proofs.Shown.{placed_at}
-use Rattle.review_machine_laws.proofs.Shown.{listed_at}
-use Rattle.std.proofs.Math.Bool.{or-false}
 use Rattle.std.proofs.Common.{◌≡◌, ℕ, ◌+◌, ◌<◌, ◌≤◌, ◌==◌, List, [], ◌∷◌, Option, Some, None, Bool, true, false, cond, ◌&&◌, ◌||◌, refl, sym, ap, ◌∙◌, ⊎_elim, arith, eq-eqb, leb-true, is_some, IsSome, nat_le, option_map, bytes_eq, zero, suc, length, ◌⊎◌, nat_cmp, nat_lt, length-append, ◌++◌, subst, MatchOption}
+use Rattle.std.proofs.Math.Bool.{or-false}
 use Rattle.std.proofs.lemmas.Bool.{cases_Bool, cases_lt, and_parts, Decides.nat_tests}
-use Rattle.std.{proofs.lemmas.Slice.Eq.bytes_eq-Decides, specs.List.list_any}
-use Rattle.{review_names.specs.Names.admin_name, review_table.specs.Rows.row_in}
+use Rattle.{std.proofs.lemmas.Slice.Eq.bytes_eq-Decides, review_names.specs.Names.admin_name}
+use Rattle.review_table.{proofs.Plain.some_mapped, proofs.Plain.some_or, specs.Rows.row_in}
 use Rattle.review_words.specs.History.{Entry, accepted, counted, named, is_named, account_count, name_of, name_taken, is_account, is_listed, is_project, bases, is_base, least_open, base_count, with_base, base_counted}
 use Rattle.review_words.specs.declared.command.Command.{Command}
 use Rattle.review_words.specs.declared.command.Command.TheVariants.{CreateAccount, PutGroup, PutProject, RecordBase, CloseEpoch, CreateChange, OnChange, Submit}
@@ -17,7 +12,7 @@ use Rattle.review_words.specs.declared.reply.Refusal.{Refusal, TheVariants.Unkno
 use Rattle.review_words.specs.declared.reply.Reply.TheVariants.{Done, Refused}
 use Rattle.review_machine_rows.proofs.Asked.{found_of, all_asked}
 use Rattle.review_machine_rows.proofs.Joins.{past_end, some_at, nothing_at_zero}
-use Rattle.review_machine_rows.{proofs.Lined.there_is, specs.Answer.first_refusal}
+use Rattle.review_machine_rows.{proofs.Lined.there_is, proofs.Puts.based_from, specs.Answer.first_refusal}
 use Rattle.review_machine_rows.specs.{Changes.Reading, Changes.own_of, Changes.is_known, Changes.is_sent, Files.File}
 use Rattle.review_machine_rows.specs.Known.{IsFoundByName, IsLast, known, Agrees, IsKnown, is_so, is_there, number_of, holder_of, members_of, commits_of, at_place, IsBaseOrNot, count_of, most}
 use Rattle.review_machine_rows.specs.Questions.{IsQueryAnswerBy, IsToldTo, query_checks, query_refused_by}
@@ -25,7 +20,7 @@ use Rattle.review_machine_rows.specs.Rows.{AccountKey, AccountRow, MemberRow, Fi
 use Rattle.review_machine_rows.specs.{Steps.OfQuery, View.fact, View.view, View.counted as counted_in, View.AreEnough}
 use Rattle.review_machine_rows.specs.declared.rows.{Base.Base, BranchKey.BranchKey as Branch, Counted.Counted}
 use Rattle.review_machine_rows.specs.declared.rows.{Rows.Rows, StoredFile.StoredFile}
-use Rattle.review_machine_laws.proofs.Sent.{sent_is}
+use Rattle.review_machine_laws.proofs.{Sent.sent_is, Shown.placed_at, Shown.listed_at}
 use Rattle.review_machine_accounts.specs.{Commits.known_in, inner.Words.is_held, inner.Words.member_of}
 use Rattle.review_machine_rows.specs.declared.rows.Want.TheVariants as want
 use Rattle.review_words.specs.declared.command.Query.TheVariants as asked
@@ -77,8 +72,7 @@ next_unnamed h n name some =
 -- a name that an account has is taken
 taken_step : (o : Option Command) (n next : ℕ) (name : List ℕ) (before : Option (List ℕ)) (was : Bool) → (before ≡ Some name → was ≡ true) →
     named o n next before ≡ Some name → is_named o name was ≡ true
-taken_step (Some (CreateAccount given)) n next name before was taken some =
-    ⊎_elim
+taken_step (Some (CreateAccount given)) n next name before was taken some = ⊎_elim
     (λ (t : (n == next) ≡ true).
     let is : Some given ≡ Some name = sym (ap (λ b. cond b (Some given) before) t) ∙ some in
     let same : given ≡ name = cc in
@@ -94,8 +88,7 @@ taken_step (Some (CreateAccount given)) n next name before was taken some =
 taken_step _ n next name before was taken some = taken some
 
 pub name_is_taken : (h : List Entry) (n : ℕ) (name : List ℕ) → name_of h n ≡ Some name → name_taken h name ≡ true
-name_is_taken [] n name some =
-    ⊎_elim
+name_is_taken [] n name some = ⊎_elim
     (λ (t : (n == 1) ≡ true).
     let is : Some admin_name ≡ Some name = sym (ap (λ b. cond b (Some admin_name) None) t) ∙ some in
     let same : admin_name ≡ name = cc in
@@ -108,8 +101,7 @@ name_is_taken (e ∷ h) n name some = taken_step (accepted e) n (account_count h
 -- and a taken name is an account's
 free_step : (o : Option Command) (h : List Entry) (name : List ℕ) → (name_taken h name ≡ true → (n : ℕ) × (name_of h n ≡ Some name)) →
     is_named o name (name_taken h name) ≡ true → (n : ℕ) × (named o n (account_count h + 1) (name_of h n) ≡ Some name)
-free_step (Some (CreateAccount given)) h name found taken =
-    ⊎_elim
+free_step (Some (CreateAccount given)) h name found taken = ⊎_elim
     (λ (t : bytes_eq given name ≡ true).
     (account_count h + 1, ap (λ b. cond b (Some given) (name_of h (account_count h + 1))) (eq-eqb (account_count h + 1) (account_count h + 1) refl) ∙ ap Some ((bytes_eq-Decides given name).0 t)))
     (λ (f : bytes_eq given name ≡ false).
@@ -129,8 +121,7 @@ named_from (Some x) name e = let same : x ≡ name = cc in ap Some same
 -- what was found by name tells whether it is taken
 pub found_taken : (reading : Reading) (h : List Entry) (name : List ℕ) (found : Option ℕ) → IsFoundByName (fact reading h) name found → is_some found ≡ name_taken h name
 found_taken reading h name (Some n) is = sym (name_is_taken h n name (named_from (name_of h n) name is))
-found_taken reading h name None none =
-    ⊎_elim
+found_taken reading h name None none = ⊎_elim
     (λ (t : name_taken h name ≡ true). let r = taken_name_is h name t in absurd (none r.0 (ap (option_map AccountRow) r.1)))
     (λ (f : name_taken h name ≡ false). sym f)
     (cases_Bool (name_taken h name))
@@ -143,8 +134,7 @@ pub last_is : (reading : Reading) (h : List Entry) (last : ℕ) → IsLast Accou
 last_is reading h last l =
     let some = some_account h in
     let reached : account_count h ≤ last =
-    ⊎_elim (λ (lt : last < account_count h). absurd (not_above lt)) (λ (ge : account_count h ≤ last). ge) (cases_lt last (account_count h)) in
-    ⊎_elim
+    ⊎_elim (λ (lt : last < account_count h). absurd (not_above lt)) (λ (ge : account_count h ≤ last). ge) (cases_lt last (account_count h)) in ⊎_elim
     (λ (is_zero : last ≡ 0). absurd (omega arith))
     (λ (there : IsSome (fact reading h (AccountKey last))).
     let p = and_parts (nat_le 1 last) (nat_le last (account_count h)) (sym (account_fact reading h last) ∙ there) in
@@ -245,8 +235,7 @@ pub last_place_is : (bs : List (List ℕ)) (last : ℕ) → ((n : ℕ) → last 
     (last ≡ 0) ⊎ IsSome (option_map BaseRow (at_place bs last)) → last ≡ length bs
 last_place_is bs last above there =
     let reached : length bs ≤ last = ⊎_elim (λ (lt : last < length bs). absurd (not_above bs last lt above)) (λ (ge : length bs ≤ last). ge) (cases_lt last (length bs)) in
-    let within : last ≤ length bs =
-    ⊎_elim (λ (lt : length bs < last). absurd (too_far lt)) (λ (ge : last ≤ length bs). ge) (cases_lt (length bs) last) in
+    let within : last ≤ length bs = ⊎_elim (λ (lt : length bs < last). absurd (too_far lt)) (λ (ge : last ≤ length bs). ge) (cases_lt (length bs) last) in
     omega arith
   where
     not_above : (bs : List (List ℕ)) (last : ℕ) → last < length bs → ((n : ℕ) → last < n → option_map BaseRow (at_place bs n) ≡ None) → ⊥
@@ -270,8 +259,7 @@ place_told reading h rows key agree there =
 base_or_not : (reading : Reading) (h : List Entry) (base : Base) (is : Bool) → IsBaseOrNot (fact reading h) base is → is ≡ is_base h base.project base.branch base.commit
 base_or_not reading h base true there =
     sym (listed_at (bases h base.project base.branch) base.commit there.0 (based_from (at_place (bases h base.project base.branch) there.0) base.commit there.1))
-base_or_not reading h base false none =
-    ⊎_elim
+base_or_not reading h base false none = ⊎_elim
     (λ (t : is_base h base.project base.branch base.commit ≡ true).
     let r = placed_at (bases h base.project base.branch) base.commit t in absurd (none (suc r.0) (ap (option_map BaseRow) r.1)))
     (λ (f : is_base h base.project base.branch base.commit ≡ false). sym f)

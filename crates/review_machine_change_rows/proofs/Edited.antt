@@ -1,7 +1,6 @@
 -- What an edit makes of a change, row by row.
-use Rattle.std.proofs.lemmas.List.{append-nil}
 use Rattle.std.proofs.Common.{◌≡◌, ℕ, zero, suc, ◌+◌, ◌==◌, ◌≤◌, List, [], ◌∷◌, ◌++◌, length, length-append, Some, None, true, false, cond, refl, sym, ap, ◌∙◌, ⊎_elim, arith, eqb-true, nat_cmp, slice_get, ℤ, Option, option_map}
-use Rattle.std.proofs.lemmas.Bool.{cases_Bool, Decides.nat_tests}
+use Rattle.std.proofs.lemmas.{Bool.cases_Bool, Bool.Decides.nat_tests, List.append-nil}
 use Rattle.{std.specs.Cmp.unsigned_tied, std.specs.declared.cmp.Ordering.Ordering, review_table.specs.Edited.edited_row}
 use Rattle.review_table.specs.Rows.{NamesOnce, after_row_edit, row_edit_of, changed, place_at, row_in, rows_of}
 use Rattle.review_table.specs.declared.{edited.Edited.Edited, table.RowEdit.RowEdit}
@@ -30,8 +29,7 @@ get_more (y ∷ ys) x (suc m) = get_more ys x m ∙ sym (ap (λ b. cond b (Some 
 
 number_more : {X : Type 0} (xs : List X) (x : X) (n : ℕ) → (length xs + 1 == n) ≡ false → of_number (xs ++ x ∷ []) n ≡ of_number xs n
 number_more xs x zero other = refl
-number_more xs x (suc m) other =
-    let e : (length xs == m) ≡ false = same (length xs) m other in get_more xs x m ∙ ap (λ b. cond b (Some x) (slice_get xs m)) e
+number_more xs x (suc m) other = let e : (length xs == m) ≡ false = same (length xs) m other in get_more xs x m ∙ ap (λ b. cond b (Some x) (slice_get xs m)) e
   where
     same : (k m : ℕ) → (k + 1 == suc m) ≡ false → (k == m) ≡ false
     same k m other = grind (arith, nat_tests)

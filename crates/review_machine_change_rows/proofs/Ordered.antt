@@ -1,7 +1,6 @@
 -- Rows by their numbers, in order.
-use Rattle.std.proofs.lemmas.List.{append-nil}
 use Rattle.std.proofs.Common.{◌≡◌, ℕ, zero, suc, ◌+◌, ◌<◌, ◌≤◌, ◌==◌, true, false, cond, List, [], ◌∷◌, ◌++◌, length, Some, None, refl, sym, ap, ◌∙◌, subst, ⊎_elim, arith}
-use Rattle.std.proofs.lemmas.{Bool.cases_lt, Bool.Decides.nat_tests, Cmp.ranked}
+use Rattle.std.proofs.lemmas.{Bool.cases_lt, Bool.Decides.nat_tests, Cmp.ranked, List.append-nil}
 use Rattle.std.specs.{Cmp.unsigned_tied, List.AllByRecursion, List.Sorted.IsStrictlySortedBy, Map.keys_of}
 use Rattle.std.specs.{Ordering.nat_cmp, Prelude.slice_get, declared.cmp.Ordering.TheVariants.Less}
 use Rattle.{review_table.specs.Rows.row_in, review_core_rules.specs.Change.of_number}
@@ -76,8 +75,7 @@ later_than k (f ∷ front) m x rest s = later_than k front m x rest s.1
 hole : {X : Type 0} (k : ℕ) (xs : List X) (m : ℕ) (x : X) (rest : List (ℕ × X)) → IsStrictlySortedBy nat_cmp (keys_of (numbered k xs ++ (m, x) ∷ rest)) → k < m → (m ≡ k + length xs + 1 → ⊥) →
     IsHole (numbered k xs ++ (m, x) ∷ rest) (k + length xs + 1) m x
 unfolding IsStrictlySortedBy
-hole k [] m x rest s low ne =
-    ⊎_elim
+hole k [] m x rest s low ne = ⊎_elim
     (λ (lt : k + 1 < m).
     let e : (k + 0 + 1 == m) ≡ false = grind (arith, nat_tests) in
     let f : (m == m) ≡ true = grind (arith, nat_tests) in

@@ -1,5 +1,4 @@
 -- What a command on a change that is done makes of the rows.
-use Rattle.review_machine_change_rows.proofs.Edited.{after_mapped}
 use Rattle.std.proofs.Common.{ℕ, Result, IfOk, refl, sym, subst, nat_cmp, ◌≡◌, zero, suc, ◌+◌, ◌==◌, ◌≤◌, ◌<◌, List, [], ◌∷◌, ◌++◌, Option, Some, None, Bool, true, false, cond, ap, ◌∙◌, ⊎_elim, arith, is_some, nat_le, nat_lt, option_map, min, length, eqb-true, unwrap_or}
 use Rattle.std.proofs.lemmas.{Bool.cases_Bool, Bool.Decides.nat_tests, Result.IfOk-weaker}
 use Rattle.std.specs.declared.alloc.AllocError.{AllocError}
@@ -27,6 +26,7 @@ use Rattle.review_machine_rows.specs.Rows.{member_cmp, APart, edited, part_chang
 use Rattle.review_machine_rows.specs.Steps.{OfCommand}
 use Rattle.review_machine_rows.specs.View.{AreEnough, IsDecided, counted, fact, view}
 use Rattle.review_machine_rows.specs.declared.rows.{ChangeEdit.ChangeEdit, Delta.Delta, Rows.Rows}
+use Rattle.review_machine_change_rows.proofs.Edited.{after_mapped}
 use Rattle.review_machine_accounts.proofs.Decided.{outcome_answer}
 use Rattle.review_machine_changes.specs.Facts.{EditsChange, MakesChange, next_request, setting_in}
 use Rattle.review_machine_changes.specs.inner.Facts.{next_numbers, IsReviewed, IsUploaded}
@@ -92,8 +92,7 @@ first_of xs ys v b otherwise passes is some = is ∙ (before xs ys (sym (ap is_s
   where
     before : (xs ys : List (Bool × Refusal)) → is_some (first_refusal xs) ≡ true → first_refusal xs ≡ first_refusal (xs ++ ys)
     before [] ys some = absurd (cc)
-    before (c ∷ cs) ys some =
-        ⊎_elim
+    before (c ∷ cs) ys some = ⊎_elim
         (λ (t : c.0 ≡ true).
         ap (λ k. cond k (first_refusal cs) (Some c.1)) t ∙ (before cs ys (sym (ap (λ k. is_some (cond k (first_refusal cs) (Some c.1))) t) ∙ some)
         ∙ sym (ap (λ k. cond k (first_refusal (cs ++ ys)) (Some c.1)) t)))

@@ -1,5 +1,4 @@
 -- Requests on a change.
-use Rattle.review_machine_laws.proofs.Histories.{OneEffective}
 use Rattle.std.proofs.Common.{◌≡◌, ℕ, List, [], ◌∷◌, ◌++◌, Option, Some, None, Bool, true, false, cond, ◌==◌, ◌&&◌, ◌||◌, refl, sym, ap, ◌∙◌, subst, map, filter, find, int_eq, is_some, int_le, bytes_eq, ℤ, nat_cmp, option_map, not, nat_lt, zero, suc, ◌+◌, ◌≤◌, length, arith, nat_le}
 use Rattle.std.proofs.lemmas.Bool.{and_from, and_parts, Decides.nat_tests}
 use Rattle.std.specs.{Cmp.Lexicographic.slice_cmp, List.AllByRecursion, List.list_all, List.list_any}
@@ -32,7 +31,8 @@ use Rattle.review_machine_rows.specs.Known.{IsKnown, known, change_in, Members, 
 use Rattle.review_machine_rows.specs.Steps.{HasFile, OfCommand, caller_in, given_wants, granted_groups, has_some, named_in}
 use Rattle.review_machine_rows.specs.View.{AreEnough, IsDecided}
 use Rattle.review_machine_rows.specs.declared.rows.{Delta.Delta, Rows.Rows}
-use Rattle.review_machine_laws.proofs.{Changes.all_pass, Changes.Passes, Grouped.in_group, Histories.same_file}
+use Rattle.review_machine_laws.proofs.{Changes.all_pass, Changes.Passes, Grouped.in_group}
+use Rattle.review_machine_laws.proofs.Histories.{OneEffective, same_file}
 use Rattle.review_machine_accounts.proofs.Decided.{admin_is, asked_beside, outcome_answer}
 use Rattle.review_machine_accounts.proofs.Told.{Agree, member_told, held_told, account_told}
 use Rattle.{review_machine_accounts.specs.inner.Words.is_held, review_machine_changes.proofs.Made.request_decided}

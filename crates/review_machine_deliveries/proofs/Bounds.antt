@@ -1,14 +1,10 @@
 -- How many votes a change of a history has: they are counted, accounts gave them, and there is a most.
-use Rattle.std.proofs.lemmas.Bool.{or_parts}
-use Rattle.review_core_rules.proofs.Stays.{removed_on}
-use Rattle.review_machine_laws.proofs.Rows.{made_holds}
-use Rattle.std.proofs.lemmas.Bool.{or_left}
-use Rattle.std.proofs.lemmas.Bool.{or_right}
 use Rattle.std.proofs.Common.{◌≡◌, ℕ, ◌+◌, ◌==◌, ◌≤◌, List, [], ◌∷◌, length, Bool, true, false, cond, ◌&&◌, ◌||◌, refl, sym, ap, ◌∙◌, ⊎_elim, arith, eqb-true, eq-eqb, bytes_eq, ℤ, pos, Option, Some, None, subst, leb-true, le-leb, nat_le, option_map, zero, suc, ◌*◌, ◌<◌, ◌++◌, not, Less, Equal, Greater, nat_cmp, length-append, ltb-true, ltb-false, int_eq, is_some, nat_lt, find, filter, fold, codes}
-use Rattle.std.proofs.lemmas.{Bool.and_parts, Bool.and_from, Bool.cases_Bool, Bool.cases_lt, List.length-map}
-use Rattle.std.{proofs.lemmas.Slice.Eq.bytes_eq-Decides, specs.Cmp.Lexicographic.slice_cmp}
-use Rattle.std.specs.{List.list_any, Option.option_map_or, Ordering.match_ordering, declared.cmp.Ordering.Ordering}
-use Rattle.{toml.specs.Data.Data, toml.specs.Data.table, review_names.specs.Forms.is_label}
+use Rattle.std.proofs.lemmas.Bool.{or_parts, or_left, or_right, and_parts, and_from, cases_Bool, cases_lt}
+use Rattle.std.proofs.lemmas.{List.length-map, Slice.Eq.bytes_eq-Decides}
+use Rattle.std.specs.{Cmp.Lexicographic.slice_cmp, List.list_any, Option.option_map_or, Ordering.match_ordering}
+use Rattle.{std.specs.declared.cmp.Ordering.Ordering, toml.specs.Data.Data, toml.specs.Data.table}
+use Rattle.review_names.specs.Forms.{is_label}
 use Rattle.review_file_document.specs.{Document.members_at, Limits.most_parts}
 use Rattle.review_words.specs.History.{Entry, accepted, if_done, account_count, counted, is_account}
 use Rattle.review_words.specs.declared.changes.{Given.Given, NewPatch.NewPatch, Review.Review as ReviewOf}
@@ -19,6 +15,7 @@ use Rattle.{review_words.specs.declared.reply.Reply.TheVariants.Done, review_exp
 use Rattle.review_file_rules.specs.Expressions.{EachTo, IsLabel}
 use Rattle.review_file_rules.specs.Inherited.{inherited_labels, put_by}
 use Rattle.review_file_rules.specs.{Spelled.label_in, Spelled.named, Spelled.spelled, View.FileView, View.LabelView}
+use Rattle.review_core_rules.proofs.Stays.{removed_on}
 use Rattle.review_core_rules.specs.Change.{Change, Copying, Setting, after, begun, carried, copying, current, given_or, reviewed, is_lost}
 use Rattle.review_core_rules.specs.Counts.{AreApart, AreMany, has_vote}
 use Rattle.review_core_rules.specs.{Votes.voted, declared.rows.VoteKey.VoteKey}
@@ -28,7 +25,7 @@ use Rattle.review_machine_rows.specs.Changes.{Reading, Reads, change, change_by,
 use Rattle.review_machine_rows.specs.{Files.IsRead, Lines.line_of, Lines.most_depth, Lines.with_above}
 use Rattle.review_machine_rows.specs.declared.rows.StoredFile.{StoredFile}
 use Rattle.review_machine_laws.proofs.Changes.{joining_keeps, all_pass, done_passes}
-use Rattle.review_machine_laws.proofs.{Histories.line_read, SoundProjects.votes_stand}
+use Rattle.review_machine_laws.proofs.{Histories.line_read, Rows.made_holds, SoundProjects.votes_stand}
 use Rattle.review_machine_deliveries.proofs.Files.{AreReadRight, spelled_once}
 use Rattle.review_words.specs.declared.command.ChangeCommand.TheVariants as on
 
@@ -45,8 +42,7 @@ without u l (k ∷ ks) = cond (is_vote k u l) ks (k ∷ without u l ks)
 
 without_long : (u : ℕ) (l : List ℕ) (ks : List VoteKey) → has_vote ks u l ≡ true → length (without u l ks) + 1 ≡ length ks
 without_long u l [] there = absurd (cc)
-without_long u l (k ∷ ks) there =
-    ⊎_elim
+without_long u l (k ∷ ks) there = ⊎_elim
     (λ (t : is_vote k u l ≡ true).
     let now : length (without u l (k ∷ ks)) ≡ length ks = ap (λ b. length (cond b ks (k ∷ without u l ks))) t in omega arith)
     (λ (f : is_vote k u l ≡ false).
@@ -66,8 +62,7 @@ same_vote k u v l m one other =
 -- another vote stays
 without_other : (u v : ℕ) (l m : List ℕ) (ks : List VoteKey) → ((u ≡ v) × (l ≡ m) → ⊥) → has_vote ks v m ≡ true → has_vote (without u l ks) v m ≡ true
 without_other u v l m [] other there = there
-without_other u v l m (k ∷ ks) other there =
-    ⊎_elim
+without_other u v l m (k ∷ ks) other there = ⊎_elim
     (λ (t : is_vote k u l ≡ true).
     let not_here : is_vote k v m ≡ false =
     ⊎_elim (λ (s : is_vote k v m ≡ true). absurd (other (same_vote k u v l m t s))) (λ (f : is_vote k v m ≡ false). f) (cases_Bool (is_vote k v m)) in
@@ -222,8 +217,7 @@ in_both (k ∷ ks) js u l = ap (λ b. (bytes_eq k.label l && (k.account == u)) |
 
 votes_on_there : (m l : List ℕ) (n u : ℕ) → bytes_eq m l ≡ true → 1 ≤ u → u ≤ n → has_vote (votes_on m n) u l ≡ true
 votes_on_there m l zero u same low high = absurd (omega arith)
-votes_on_there m l (suc n) u same low high =
-    ⊎_elim
+votes_on_there m l (suc n) u same low high = ⊎_elim
     (λ (t : (suc n == u) ≡ true). or_left (bytes_eq m l && (suc n == u)) (has_vote (votes_on m n) u l) (and_from (bytes_eq m l) (suc n == u) same t))
     (λ (f : (suc n == u) ≡ false).
     let other : (suc n ≡ u) → ⊥ = λ e. let t = eq-eqb (suc n) u e in absurd (cc) in
@@ -266,8 +260,7 @@ same_long R (x ∷ xs) (y ∷ ys) each = ap suc (same_long R xs ys each.1)
 filter_long : {X : Type 0} (p : X → Bool) (xs : List X) → length (filter p xs) ≤ length xs
 filter_long p [] = omega arith
 filter_long p (x ∷ xs) =
-    let rest = filter_long p xs in
-    ⊎_elim
+    let rest = filter_long p xs in ⊎_elim
     (λ (t : p x ≡ true). let e : length (filter p (x ∷ xs)) ≡ length (x ∷ filter p xs) = ap (λ b. length (cond b (x ∷ filter p xs) (filter p xs))) t in omega arith)
     (λ (f : p x ≡ false). let e : length (filter p (x ∷ xs)) ≡ length (filter p xs) = ap (λ b. length (cond b (x ∷ filter p xs) (filter p xs))) f in omega arith)
     (cases_Bool (p x))

@@ -1,5 +1,4 @@
 -- What was decided of a command.
-use Rattle.review_machine_rows.proofs.Readings.{history_length}
 use Rattle.std.proofs.Common.{◌≡◌, ◌⊎◌, inl, inr, ℕ, List, [], ◌∷◌, Option, Some, None, true, false, cond, refl, sym, ap, ◌∙◌, subst, is_some, ◌≤◌, ◌<◌, ◌+◌, length, arith, Result, Ok, Err, IfOk, IfErr, nat_lt}
 use Rattle.std.specs.{List.AllByRecursion, Option.option_map_or}
 use Rattle.review_words.specs.{History.Entry, History.is_project, History.IsFirst, History.if_done, Texts.IsStored}
@@ -9,7 +8,8 @@ use Rattle.review_words.specs.declared.reply.NotTaken.TheVariants.{Memory, Store
 use Rattle.review_words.specs.declared.reply.Reply.{Reply, TheVariants.Done, TheVariants.NotTaken}
 use Rattle.review_file_rules.specs.Reading.{named_parent}
 use Rattle.review_machine_rows.proofs.Asked.{all_asked, line_asked, least_epoch_is, requests_are}
-use Rattle.review_machine_rows.proofs.{Lined.line_told, Lined.own_told, Lined.there_is, Readings.reading_of}
+use Rattle.review_machine_rows.proofs.Lined.{line_told, own_told, there_is}
+use Rattle.review_machine_rows.proofs.Readings.{history_length, reading_of}
 use Rattle.review_machine_rows.specs.Answer.{IsHistory, most_requests}
 use Rattle.review_machine_rows.specs.Changes.{Reading, own_of, texts_of}
 use Rattle.review_machine_rows.specs.Decisions.{HasPatternIn, PutsPattern, ReadsPattern, SomePattern, putting_project}

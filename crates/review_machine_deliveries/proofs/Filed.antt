@@ -1,7 +1,4 @@
 -- Effective files, as they are gathered row by row.
-use Rattle.review_machine_rows.proofs.Asked.{or_stays}
-use Rattle.review_machine_rows.proofs.Asked.{none_in}
-use Rattle.review_machine_rows.proofs.Lined.{fewer}
 use Rattle.std.proofs.Common.{◌≡◌, inl, inr, ℕ, ◌<◌, List, [], ◌∷◌, Option, Some, None, true, refl, sym, ap, ◌∙◌, subst, All, is_some, ◌++◌, zero, suc, Bool, false, cond, Result, Ok, Err, option_and_then, option_map, IfErr, IsErr, IsErrAnd}
 use Rattle.std.specs.{List.AllByRecursion, Option.option_or, Option.option_map_or}
 use Rattle.review_words.specs.{History.Entry, History.is_project, declared.command.Command.Command}
@@ -10,8 +7,9 @@ use Rattle.review_words.specs.declared.reply.NotTaken.{NotTaken as Cause}
 use Rattle.review_words.specs.declared.reply.NotTaken.TheVariants.{Memory, Store, Damaged, Pattern, Full}
 use Rattle.review_file_rules.specs.{Inherited.IsEffective, Reading.named_parent}
 use Rattle.review_core_rules.specs.Change.{Change}
-use Rattle.review_machine_rows.proofs.Asked.{all_made, asking_lowers, asks_first, each_known, line_asked}
-use Rattle.review_machine_rows.proofs.{Lined.own_told, Lined.texts_told, Lined.there_is, Readings.reading_of}
+use Rattle.review_machine_rows.proofs.Asked.{or_stays, none_in, all_made, asking_lowers, asks_first, each_known, line_asked}
+use Rattle.review_machine_rows.proofs.Lined.{fewer, own_told, texts_told, there_is}
+use Rattle.review_machine_rows.proofs.Readings.{reading_of}
 use Rattle.review_machine_rows.specs.Changes.{Reading, change, effective_of, texts_of}
 use Rattle.review_machine_rows.specs.Decisions.{HasPatternIn, IsUnread, SomePattern, judging_project, topic_project}
 use Rattle.review_machine_rows.specs.Files.{File}
@@ -74,8 +72,7 @@ so_far_shown tables file rows caller topic (inr agree) left = agree
 
 -- what the first rows know stays
 pub stays_added : (first rows more both : Rows) → StaysKnown first rows → AreAdded rows more both → StaysKnown first both
-stays_added first rows more both stays added w there =
-    added w ∙ or_stays (known rows w) (known more w) (ap is_some (stays w there) ∙ there) ∙ stays w there
+stays_added first rows more both stays added w there = added w ∙ or_stays (known rows w) (known more w) (ap is_some (stays w there) ∙ there) ∙ stays w there
 
 -- a fault leaves or blames the tables that stood before
 pub left_before : (f : ShelfFault) (old mid new : Option Tables) → mid ≡ old → LeavesBy (cause_of f) mid new → LeavesBy (cause_of f) old new

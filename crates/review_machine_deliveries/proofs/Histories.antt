@@ -1,5 +1,4 @@
 -- Histories with one more delivery: identities, tables, and what an answer rests on.
-use Rattle.review_machine_laws.proofs.Parents.{history_from}
 use Rattle.std.proofs.Common.{◌++◌, ◌∷◌, ◌||◌, ℕ, Bool, true, false, List, [], if◌then◌else◌, arith, ◌≡◌, ◌+◌, ◌≤◌, length, Option, Some, None, cond, refl, sym, ap, ◌∙◌, subst, ⊎_elim, inl, inr, eqb-true, eq-eqb, ◌==◌, ◌&&◌, MatchOption, nat_le, nat_lt, unwrap_or, bytes_eq, ◌<◌, Result, Ok, Err}
 use Rattle.std.proofs.lemmas.{Bool.and_parts, Bool.and_from, Bool.cases_Bool, Slice.Eq.bytes_eq-Decides}
 use Rattle.review_words.specs.History.{Entry, entry_of, is_closed, Identity, stored, is_same, latest, may_follow, version_of, least_open, if_done}
@@ -24,7 +23,7 @@ use Rattle.review_machine_rows.specs.Submits.{IsSubmitAnswer, checked_reply}
 use Rattle.review_machine_rows.specs.View.{AreEnough, IsView, IsViewBy, IsDecidedAt, view, fact, stored_answer, kept_answer, answer_row}
 use Rattle.review_machine_rows.specs.declared.rows.{Delta.Delta, Rows.Rows, Want.TheVariants.Requests}
 use Rattle.review_machine_rows.specs.declared.shelf.ShelfFault.{ShelfFault}
-use Rattle.review_machine_deliveries.proofs.Stored.{entry_stored}
+use Rattle.{review_machine_laws.proofs.Parents.history_from, review_machine_deliveries.proofs.Stored.entry_stored}
 use Rattle.review_machine_deliveries.specs.Formed.{AllFormed, AreFormed, HasForm, IsFormed}
 use Rattle.review_machine_deliveries.specs.Gathered.{IsAllAsked}
 use Rattle.review_machine_deliveries.specs.Replies.{arrivals_after, first_arrivals, has_identity, history_after, taken, with_entries, with_taken, IsTold, IsToldWhere, with_entries as hist, StoresOnce, IsFoundOrStored, StoresRequest, next_row, KeepsRows, KeepsUntaken, CountsReply, HasStored, HasTexts, HasOtherContent}
@@ -109,8 +108,7 @@ upload_given reading h caller n patch None reply is = absurd is
 upload_given reading h caller n patch (Some c) reply is = subst IsDoneOrRefused (sym is.reply_is) tt
 
 request_given : (reading : Reading) (h : List Entry) (caller n : ℕ) (command : ChangeCommand) (reply : Reply) → IsRequestOutcome reading h caller n command reply → IsDoneOrRefused reply
-request_given reading h caller n command reply is =
-    ⊎_elim
+request_given reading h caller n command reply is = ⊎_elim
     (λ (sent : (patch : NewPatch) × (command ≡ on.Upload patch)).
     upload_given reading h caller n sent.0 (change reading h n) reply (subst (λ x. IsRequestOutcome reading h caller n x reply) sent.1 is))
     (λ (done : IsToldDone command). subst IsDoneOrRefused (sym (done reading h caller n reply is)) tt)
@@ -158,8 +156,7 @@ answer_given_in reading h caller epoch (Submit n) reply is = answer_given_by rea
 answer_given_in reading h caller epoch (CloseEpoch least) reply is = closing_given reading h caller epoch least reply is
 
 pub answer_given : (h : List Entry) (caller epoch : ℕ) (command : Command) (reply : Reply) → IsHistory h → IsAnswer h caller epoch command reply → IsDoneOrRefused reply
-answer_given h caller epoch command reply history is =
-    let r = reading_of h history in answer_given_in r.0 h caller epoch command reply (is r.0 r.1)
+answer_given h caller epoch command reply history is = let r = reading_of h history in answer_given_in r.0 h caller epoch command reply (is r.0 r.1)
 
 -- a reply that is stored is done or refused
 pub stored_given : (reply : Reply) → IsStored reply → IsDoneOrRefused reply
@@ -178,8 +175,7 @@ latest_follows (e ∷ h) history =
 pub recalled : (h : List Entry) (a : AnswerRow) (i : Identity) → IsHistory h → stored_answer h i ≡ Some (Answered a) →
     (e : Entry) × (stored h i ≡ Some e) × (a.content ≡ content_text e.command) × (a.reply ≡ reply_text e.reply) × IsStored e.reply
 recalled [] a i hist there = absurd (cc)
-recalled (e ∷ h) a i hist there =
-    ⊎_elim
+recalled (e ∷ h) a i hist there = ⊎_elim
     (λ (t : is_same e.identity i ≡ true).
     let is : Some (Answered (answer_row e (length h + 1))) ≡ Some (Answered a) = sym (ap (λ b. cond b (Some (Answered (answer_row e (length h + 1)))) (stored_answer h i)) t) ∙ there in
     let row : answer_row e (length h + 1) ≡ a = cc in (
@@ -197,8 +193,7 @@ recalled (e ∷ h) a i hist there =
 -- an identity with no stored answer is new
 pub not_recalled : (h : List Entry) (i : Identity) → stored_answer h i ≡ None → stored h i ≡ None
 not_recalled [] i none = refl
-not_recalled (e ∷ h) i none =
-    ⊎_elim
+not_recalled (e ∷ h) i none = ⊎_elim
     (λ (t : is_same e.identity i ≡ true).
     let is : Some (Answered (answer_row e (length h + 1))) ≡ None = sym (ap (λ b. cond b (Some (Answered (answer_row e (length h + 1)))) (stored_answer h i)) t) ∙ none in absurd (cc))
     (λ (f : is_same e.identity i ≡ false).
@@ -209,8 +204,7 @@ not_recalled (e ∷ h) i none =
 pub stored_stays : (more h : List Entry) (i : Identity) (e : Entry) → IsHistory (more ++ h) → stored h i ≡ Some e → stored (more ++ h) i ≡ Some e
 stored_stays [] h i e hist some = some
 stored_stays (m ∷ more) h i e hist some =
-    let there = stored_stays more h i e hist.3 some in
-    ⊎_elim
+    let there = stored_stays more h i e hist.3 some in ⊎_elim
     (λ (t : is_same m.identity i ≡ true).
     let none : stored (more ++ h) i ≡ None = subst (λ j. stored (more ++ h) j ≡ None) (same_from m.identity i t) hist.0.0 in
     absurd (cc))
@@ -254,8 +248,7 @@ not_below (Some least) n m epoch is opened = ap (nat_lt epoch) (sym is) ∙ open
 -- what is kept after one entry more, of an epoch that is open then
 kept_with : (e : Entry) (h : List Entry) (o : Option ℕ) (i : Identity) → least_open (e ∷ h) ≡ unwrap_or o (least_open h) → is_closed (e ∷ h) e.identity.epoch ≡ false →
     cond (is_below o i.epoch) None (cond (is_same e.identity i) (Some (Answered (answer_row e (length h + 1)))) (kept_answer h i)) ≡ kept_answer (e ∷ h) i
-kept_with e h o i is opened =
-    ⊎_elim
+kept_with e h o i is opened = ⊎_elim
     (λ (t : is_same e.identity i ≡ true).
     let here : is_closed (e ∷ h) i.epoch ≡ false = subst (λ (j : Identity). is_closed (e ∷ h) j.epoch ≡ false) (same_from e.identity i t) opened in
     ap (λ b. cond b None (cond (is_same e.identity i) new (kept_answer h i))) (not_below o (least_open h) (least_open (e ∷ h)) i.epoch is here)

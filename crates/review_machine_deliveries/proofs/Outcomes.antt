@@ -78,8 +78,7 @@ one_upload reading h caller n patch (Some c) r s a b =
 
 -- one answer to a request on a change
 one_request : (reading : Reading) (h : List Entry) (caller n : ℕ) (command : ChangeCommand) (r s : Reply) → IsRequestOutcome reading h caller n command r → IsRequestOutcome reading h caller n command s → r ≡ s
-one_request reading h caller n command r s a b =
-    ⊎_elim
+one_request reading h caller n command r s a b = ⊎_elim
     (λ (sent : (patch : NewPatch) × (command ≡ change_asked.Upload patch)).
     one_upload reading h caller n sent.0 (change reading h n) r s (subst (λ x. IsRequestOutcome reading h caller n x r) sent.1 a) (subst (λ x. IsRequestOutcome reading h caller n x s) sent.1 b))
     (λ (done : IsToldDone command). done reading h caller n r a ∙ sym (done reading h caller n s b))

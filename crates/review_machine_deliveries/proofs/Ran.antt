@@ -1,8 +1,6 @@
 -- Runs: one delivery more, several lists, and the shelf closed between them.
-use Rattle.std.proofs.Math.Bool.{or-false}
-use Rattle.std.proofs.Math.Bool.{or-true}
-use Rattle.std.proofs.Common.{◌≡◌, ℕ, zero, suc, ◌+◌, ◌-◌, ◌<◌, ◌≤◌, take, List, [], ◌∷◌, ◌++◌, length, get_or, Bool, true, false, cond, ◌||◌, refl, sym, ap, ◌∙◌, subst, inl, inr, ⊎_elim, arith, length-append, get_or-append-add, is_some, Option, append_assoc, append-nil}
-use Rattle.std.proofs.Math.Seq.{take-append-add}
+use Rattle.std.proofs.Common.{◌≡◌, ℕ, zero, suc, ◌+◌, ◌-◌, ◌<◌, ◌≤◌, take, List, [], ◌∷◌, ◌++◌, length, get_or, true, false, cond, ◌||◌, refl, sym, ap, ◌∙◌, subst, inl, inr, ⊎_elim, arith, length-append, get_or-append-add, is_some, Option, append_assoc, append-nil}
+use Rattle.std.proofs.Math.{Bool.or-false, Bool.or-true, Seq.take-append-add}
 use Rattle.std.proofs.lemmas.{Bool.cases_Bool, Bool.cases_lt, List.get_or_append_left, List.take-append-le}
 use Rattle.review_words.specs.History.{Entry, Identity, stored, is_same, entry_of, is_closed}
 use Rattle.review_words.specs.declared.command.Delivery.{Delivery, TheVariants.Write, TheVariants.Read}
@@ -32,8 +30,7 @@ taken-append : (ds es : List Delivery) (rs ss : List Reply) → length rs ≡ le
 taken-append [] es [] ss same = refl
 taken-append [] es (r ∷ rs) ss same = absurd (omega arith)
 taken-append (d ∷ ds) es [] ss same = absurd (omega arith)
-taken-append (d ∷ ds) es (r ∷ rs) ss same =
-    ap (with_taken d r) (taken-append ds es rs ss (omega arith)) ∙ with_taken-append d r (taken ds rs) (taken es ss)
+taken-append (d ∷ ds) es (r ∷ rs) ss same = ap (with_taken d r) (taken-append ds es rs ss (omega arith)) ∙ with_taken-append d r (taken ds rs) (taken es ss)
 
 -- an identity of an open epoch is in the history exactly where it was at the start or came since
 abbrev pub HasSince : List Entry → List Entry → List Entry → Type 0
@@ -43,8 +40,7 @@ pub since_start : (h : List Entry) → HasSince h h []
 since_start h i opened = sym (or-false (is_some (stored h i)))
 
 pub since_old : (now h0 earlier : List Entry) (e : Entry) → HasSince now h0 earlier → has_identity now e ≡ true → HasSince now h0 (e ∷ earlier)
-since_old now h0 earlier e since old i opened =
-    ⊎_elim
+since_old now h0 earlier e since old i opened = ⊎_elim
     (λ (t : is_same e.identity i ≡ true).
     let there : is_some (stored now i) ≡ true = subst (λ (j : Identity). is_some (stored now j) ≡ true) (same_from e.identity i t) old in
     there ∙ sym (ap (λ o. is_some (stored h0 i) || is_some o) (stored_here e earlier i t) ∙ or-true (is_some (stored h0 i))))
@@ -53,8 +49,7 @@ since_old now h0 earlier e since old i opened =
     (cases_Bool (is_same e.identity i))
 
 pub since_new : (now h0 earlier : List Entry) (e : Entry) → HasSince now h0 earlier → HasSince (e ∷ now) h0 (e ∷ earlier)
-since_new now h0 earlier e since i opened =
-    ⊎_elim
+since_new now h0 earlier e since i opened = ⊎_elim
     (λ (t : is_same e.identity i ≡ true).
     ap is_some (stored_here e now i t) ∙ sym (ap (λ o. is_some (stored h0 i) || is_some o) (stored_here e earlier i t) ∙ or-true (is_some (stored h0 i))))
     (λ (f : is_same e.identity i ≡ false).
@@ -63,8 +58,7 @@ since_new now h0 earlier e since i opened =
 
 -- what came of a closed epoch says nothing of the open ones
 pub since_closed : (now h0 earlier : List Entry) (e : Entry) → HasSince now h0 earlier → is_closed now e.identity.epoch ≡ true → HasSince now h0 (e ∷ earlier)
-since_closed now h0 earlier e since closed i opened =
-    ⊎_elim
+since_closed now h0 earlier e since closed i opened = ⊎_elim
     (λ (t : is_same e.identity i ≡ true).
     let here : is_closed now i.epoch ≡ true = subst (λ (j : Identity). is_closed now j.epoch ≡ true) (same_from e.identity i t) closed in
     absurd (cc))

@@ -1,5 +1,4 @@
 -- A run that begins again.
-use Rattle.review_machine_laws.proofs.Parents.{history_from}
 use Rattle.std.proofs.Common.{append_assoc, ◌≡◌, ◌⊎◌, ℕ, zero, suc, ◌<◌, take, drop, get_or, List, [], ◌∷◌, ◌++◌, length, Option, Some, None, Bool, true, false, cond, ◌||◌, refl, sym, ap, ◌∙◌, subst, inl, inr, ⊎_elim, arith, length-take-le, is_some, MatchOption}
 use Rattle.std.proofs.lemmas.Bool.{cases_Bool}
 use Rattle.review_words.specs.History.{Entry, Identity, IsFirst, stored, is_same, entry_of, is_closed}
@@ -7,8 +6,8 @@ use Rattle.review_words.specs.declared.command.{Command.Command, Delivery.Delive
 use Rattle.review_words.specs.declared.command.Delivery.TheVariants.{Write, Read}
 use Rattle.review_words.specs.declared.reply.Reply.{Reply, TheVariants.EpochClosed, TheVariants.NotTaken}
 use Rattle.review_machine_rows.proofs.Readings.{closed_stays, open_before, reading_of}
-use Rattle.review_machine_rows.specs.Answer.{IsHistory, IsAnswer}
-use Rattle.review_machine_rows.specs.{Decisions.IsDoneOrRefused, Rows.Tables, View.IsView}
+use Rattle.review_machine_rows.specs.{Answer.IsHistory, Answer.IsAnswer, Decisions.IsDoneOrRefused, Rows.Tables}
+use Rattle.{review_machine_rows.specs.View.IsView, review_machine_laws.proofs.Parents.history_from}
 use Rattle.review_machine_deliveries.proofs.Histories.{answer_given, told_where, where_told, stored_stays, stored_here, stored_there, same_to, passed_over}
 use Rattle.review_machine_deliveries.proofs.Outcomes.{one_answer_in}
 use Rattle.review_machine_deliveries.proofs.Ran.{HasSince, since_start, since_old, since_new, since_closed, dropped, added, each_way, with_taken-append, first-append, history_after-append}
@@ -211,8 +210,7 @@ have_all h0 history_from now (e ∷ es) since =
 nothing_new : (h history_from es : List Entry) → AllIn h es → hist h (first_after h history_from es) ≡ h
 nothing_new h history_from [] all = refl
 nothing_new h history_from (e ∷ es) all =
-    let rest = first_after h (e ∷ history_from) es in
-    ⊎_elim
+    let rest = first_after h (e ∷ history_from) es in ⊎_elim
     (λ (there : has_identity h e ≡ true). ap (λ b. hist h (cond (b || has_identity history_from e) rest (e ∷ rest))) there)
     (λ (closed : is_closed h e.identity.epoch ≡ true). passed_over h (has_identity h e || has_identity history_from e) e rest closed)
     all.0

@@ -38,8 +38,7 @@ AllStored (c ∷ cs) = IsStored (Refused c.1) × AllStored cs
 
 first_stored : (cs : List (Bool × Refusal)) (r : Refusal) → AllStored cs → first_refusal cs ≡ Some r → IsStored (Refused r)
 first_stored [] r all is = absurd (cc)
-first_stored (c ∷ cs) r all is =
-    ⊎_elim
+first_stored (c ∷ cs) r all is = ⊎_elim
     (λ (t : c.0 ≡ true). first_stored cs r all.1 (sym (ap (λ b. cond b (first_refusal cs) (Some c.1)) t) ∙ is))
     (λ (f : c.0 ≡ false).
     let some : Some c.1 ≡ Some r = sym (ap (λ b. cond b (first_refusal cs) (Some c.1)) f) ∙ is in

@@ -1,12 +1,9 @@
 -- The changes of a history: which there are, what each was made for, and that each is sound.
-use Rattle.review_table.proofs.Plain.{some_mapped}
-use Rattle.review_table.proofs.Plain.{some_or}
-use Rattle.review_core_rules.proofs.Stays.{joins as joined_sound}
-use Rattle.std.proofs.Math.Bool.{or-true}
 use Rattle.std.proofs.Common.{◌≡◌, ℕ, ◌+◌, List, length, Option, Some, None, refl, subst, is_some, ◌<◌, ◌≤◌, ◌==◌, [], ◌∷◌, Bool, true, false, cond, ◌&&◌, ◌||◌, sym, ap, ◌∙◌, ⊎_elim, arith, leb-true, IsSome, nat_le, option_map, bytes_eq, ◌++◌, eqb-true, MatchOption, zero, suc, ltb-true}
-use Rattle.std.proofs.lemmas.Bool.{cases_lt, and_parts, cases_Bool, Decides.nat_tests}
-use Rattle.std.specs.{List.AllByRecursion, Option.option_map_or}
+use Rattle.std.proofs.{Math.Bool.or-true, lemmas.Bool.cases_lt, lemmas.Bool.and_parts, lemmas.Bool.cases_Bool}
+use Rattle.std.{proofs.lemmas.Bool.Decides.nat_tests, specs.List.AllByRecursion, specs.Option.option_map_or}
 use Rattle.review_names.specs.Forms.{is_within, most_comments, most_changes}
+use Rattle.review_table.proofs.Plain.{some_mapped, some_or}
 use Rattle.review_words.specs.History.{Entry, accepted, if_done, is_account}
 use Rattle.review_words.specs.declared.changes.{NewChange.NewChange, Review.Review as ReviewOf}
 use Rattle.review_words.specs.declared.command.{ChangeCommand.ChangeCommand, Command.Command}
@@ -14,6 +11,7 @@ use Rattle.review_words.specs.declared.command.Command.TheVariants.{CreateChange
 use Rattle.review_words.specs.declared.reply.{Answer.Answer, Refusal.Refusal}
 use Rattle.review_words.specs.declared.reply.Refusal.TheVariants.{UnknownCaller, NoComment, Limit}
 use Rattle.review_words.specs.declared.reply.Reply.{Reply, TheVariants.Done, TheVariants.Refused}
+use Rattle.review_core_rules.proofs.Stays.{joins as joined_sound}
 use Rattle.review_core_rules.specs.Change.{Change, joined_at, after, begun, Copying, Setting, after_copying, copying, current, reviewed, said}
 use Rattle.review_core_rules.specs.{Parts.TheHeader, Sound.IsSound, Sound.answer_stored, Sound.fits}
 use Rattle.review_machine_rows.proofs.Readings.{IsDoneBy, done_of}
@@ -94,8 +92,7 @@ up_to_itself c some = grind (arith, nat_tests)
 -- the greatest number whose key has a row, where those up to a count have one
 pub last_of : (key : ℕ → Key) (row : Key → Option Row) (count last : ℕ) → ((n : ℕ) → is_some (row (key n)) ≡ is_up_to count n) → IsLast key row last → last ≡ count
 last_of key row count last there l =
-    let reached : count ≤ last = ⊎_elim (λ (lt : last < count). absurd (not_above lt)) (λ (ge : count ≤ last). ge) (cases_lt last count) in
-    ⊎_elim
+    let reached : count ≤ last = ⊎_elim (λ (lt : last < count). absurd (not_above lt)) (λ (ge : count ≤ last). ge) (cases_lt last count) in ⊎_elim
     (λ (none : last ≡ 0). omega arith)
     (λ (some : IsSome (row (key last))).
     let p = and_parts (nat_le 1 last) (nat_le last count) (sym (there last) ∙ some) in
@@ -180,8 +177,7 @@ Passes check = check.0 ≡ true
 -- where no check refuses, all pass
 pub all_pass : (checks : List (Bool × Refusal)) → first_refusal checks ≡ None → AllByRecursion Passes checks
 all_pass [] none = tt
-all_pass (c ∷ cs) none =
-    ⊎_elim
+all_pass (c ∷ cs) none = ⊎_elim
     (λ (t : c.0 ≡ true). (t, all_pass cs (sym (ap (λ b. cond b (first_refusal cs) (Some c.1)) t) ∙ none)))
     (λ (f : c.0 ≡ false). let bad : Some c.1 ≡ None = sym (ap (λ b. cond b (first_refusal cs) (Some c.1)) f) ∙ none in absurd (cc))
     (cases_Bool c.0)
@@ -259,8 +255,7 @@ are_sound begins stays reading (e ∷ h) n c history reads is =
 -- one up to a number passes, where a change of no greater number does
 pub passes_up_to : (reading : Reading) (h : List Entry) (test : Change → Bool) (k n : ℕ) (c : Change) → 1 ≤ n → n ≤ k → change reading h n ≡ Some c → test c ≡ true → some_change reading h test k ≡ true
 passes_up_to reading h test zero n c one below is passes = absurd (omega arith)
-passes_up_to reading h test (suc k) n c one below is passes =
-    ⊎_elim
+passes_up_to reading h test (suc k) n c one below is passes = ⊎_elim
     (λ (lt : n < suc k).
     ap (λ b. option_map_or test (change reading h (suc k)) false || b) (passes_up_to reading h test k n c one (omega arith) is passes) ∙ or-true (option_map_or test (change reading h (suc k)) false))
     (λ (ge : suc k ≤ n).
@@ -285,8 +280,7 @@ passing (Some c) test e = (c, refl, e)
 -- the change that passes, where one does
 pub one_passing : (reading : Reading) (h : List Entry) (test : Change → Bool) (k : ℕ) → some_change reading h test k ≡ true → (n : ℕ) × (c : Change) × (change reading h n ≡ Some c) × (test c ≡ true)
 one_passing reading h test zero e = absurd (cc)
-one_passing reading h test (suc k) e =
-    ⊎_elim
+one_passing reading h test (suc k) e = ⊎_elim
     (λ (t : option_map_or test (change reading h (suc k)) false ≡ true). let p = passing (change reading h (suc k)) test t in (suc k, p.0, p.1, p.2))
     (λ (f : option_map_or test (change reading h (suc k)) false ≡ false). one_passing reading h test k (sym (ap (λ b. b || some_change reading h test k) f) ∙ e))
     (cases_Bool (option_map_or test (change reading h (suc k)) false))

@@ -14,15 +14,13 @@ abbrev by_name : List ℕ → List ℕ → Ordering
 by_name = slice_cmp nat_cmp
 
 flipped : (a b : List ℕ) → bytes_eq a b ≡ bytes_eq b a
-flipped a b =
-    ⊎_elim
+flipped a b = ⊎_elim
     (λ (t : bytes_eq a b ≡ true). t ∙ sym ((bytes_eq-Decides b a).1 (sym ((bytes_eq-Decides a b).0 t))))
     (λ (f : bytes_eq a b ≡ false). f ∙ sym (not_either f))
     (cases_Bool (bytes_eq a b))
   where
     not_either : bytes_eq a b ≡ false → bytes_eq b a ≡ false
-    not_either f =
-        ⊎_elim
+    not_either f = ⊎_elim
         (λ (t : bytes_eq b a ≡ true). let bad : false ≡ true = sym f ∙ (bytes_eq-Decides a b).1 (sym ((bytes_eq-Decides b a).0 t)) in absurd (cc))
         (λ (g : bytes_eq b a ≡ false). g)
         (cases_Bool (bytes_eq b a))
@@ -56,8 +54,7 @@ put_lookup (e ∷ es) k v q = go (put_lookup es k v q) (by_name k e.0) refl
         ∙ swap (is_at (by_name q) e.0) (bytes_eq k q) (λ (t : is_at (by_name q) e.0 ≡ true). apart t)
       where
         apart : is_at (by_name q) e.0 ≡ true → bytes_eq k q ≡ false
-        apart t =
-            ⊎_elim
+        apart t = ⊎_elim
             (λ (u : bytes_eq k q ≡ true).
             let one : e.0 ≡ q = (bytes_eq-Decides e.0 q).0 (sym (at_name q e.0) ∙ t) in
             let two : k ≡ q = (bytes_eq-Decides k q).0 u in

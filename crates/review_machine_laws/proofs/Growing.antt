@@ -1,9 +1,6 @@
 -- Lines of projects that end, and what a new file makes of the files along them.
-use Rattle.std.proofs.lemmas.Bool.{and_parts}
-use Rattle.std.proofs.lemmas.Bool.{and_from}
-use Rattle.std.proofs.lemmas.Bool.{not_from_false}
-use Rattle.std.proofs.lemmas.Bool.{not-true}
 use Rattle.std.proofs.Common.{◌≡◌, ℕ, ◌+◌, ◌<◌, zero, suc, List, [], ◌∷◌, length, Option, Some, None, Bool, true, false, refl, sym, ap, ◌∙◌, arith, not, ◌&&◌, option_and_then, option_map, bytes_eq, subst}
+use Rattle.std.proofs.lemmas.Bool.{and_parts, and_from, not_from_false, not-true}
 use Rattle.std.{proofs.lemmas.Slice.Eq.bytes_eq-Decides, specs.Option.option_map_or}
 use Rattle.review_expr.specs.declared.expr.Expr.{Expr}
 use Rattle.review_file_rules.proofs.Known.{OrderedLabels, child_covers, covers_itself, inherited_ordered, inherits_known, still_known}
@@ -151,8 +148,7 @@ shorter_avoids own x (suc n) project h g =
 -- A line that ends never comes to a project that isn't there.
 pub there_avoids : (own : Files) (x : List ℕ) (n : ℕ) (project : List ℕ) → ends own n project ≡ true → own x ≡ None → avoids own x n project ≡ true
 there_avoids own x zero project h none = refl
-there_avoids own x (suc n) project h none =
-    shorter_avoids own x (suc n) project h (ap (λ o. ends_by o (ends own n)) none)
+there_avoids own x (suc n) project h none = shorter_avoids own x (suc n) project h (ap (λ o. ends_by o (ends own n)) none)
 
 -- what two have alike but for one project
 abbrev pub SameBut : List ℕ → Files → Files → Type 0

@@ -1,8 +1,6 @@
 -- The files of every history: they are sound, and keep what they had.
-use Rattle.review_machine_rows.proofs.Readings.{not_refused}
-use Rattle.std.proofs.lemmas.Bool.{not-true}
-use Rattle.std.proofs.Common.{◌≡◌, ℕ, List, [], ◌∷◌, Option, Some, None, Bool, true, false, not, refl, ⊎_elim, ◌||◌, nat_lt, MatchOption, ◌∙◌, cond, sym, ap, subst, arith, is_some, bytes_eq, ◌<◌, ◌&&◌, is_none, zero, suc}
-use Rattle.std.proofs.lemmas.{Bool.Decides.nat_tests, Slice.Eq.bytes_eq-Decides}
+use Rattle.std.proofs.Common.{◌≡◌, ℕ, List, [], ◌∷◌, Option, Some, None, Bool, true, false, not, refl, ⊎_elim, ◌||◌, nat_lt, ◌∙◌, cond, sym, ap, subst, arith, is_some, bytes_eq, ◌<◌, ◌&&◌, is_none, zero, suc}
+use Rattle.std.proofs.lemmas.{Bool.not-true, Bool.Decides.nat_tests, Slice.Eq.bytes_eq-Decides}
 use Rattle.std.specs.{List.AllByRecursion, Option.option_map_or}
 use Rattle.review_words.specs.History.{Entry, is_project, project_count, accepted, file_text, text_put, if_done}
 use Rattle.review_words.specs.declared.command.Command.{Command, TheVariants.PutProject}
@@ -18,7 +16,8 @@ use Rattle.review_file_rules.specs.Inherited.{inherit, inherits_unknown_label, I
 use Rattle.review_file_rules.specs.Reading.{IsRead, named_parent}
 use Rattle.review_file_rules.specs.{Rights.covers, Trees.ExprTree, Trees.file_trees, View.FileView}
 use Rattle.review_file.proofs.SoundLabels.{labels_in_order, known_labels}
-use Rattle.review_machine_rows.proofs.{Lined.there_is, Readings.IsDoneBy, Readings.done_of, Readings.read_of}
+use Rattle.review_machine_rows.proofs.Lined.{there_is}
+use Rattle.review_machine_rows.proofs.Readings.{not_refused, IsDoneBy, done_of, read_of}
 use Rattle.review_machine_rows.specs.Answer.{IsAnswerBy, IsFaultAnswer, IsFileAnswer, file_checks, file_with, first_refusal, keeps_parent, puts_unknown_label, refused_by, refused_or, IsHistory, is_same_parent}
 use Rattle.review_machine_rows.specs.Changes.{Reading, depth, file_of, effective_of, own_of, placed, IsReadRight, Reads, texts_of}
 use Rattle.review_machine_rows.specs.{Files.File, Limits.most_projects}

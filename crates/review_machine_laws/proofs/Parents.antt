@@ -1,5 +1,4 @@
 -- Branches are sound: what an accepted submit joins was ready, and parents join before their children.
-use Rattle.review_machine_laws.proofs.Changes.{one_passing}
 use Rattle.std.proofs.Common.{◌≡◌, ◌⊎◌, inl, inr, ℕ, List, [], ◌∷◌, Option, Some, None, Bool, true, false, cond, refl, sym, ap, subst, ◌∙◌, All, MatchOption, option_map, Contains, zero, suc, ◌+◌, ◌&&◌, ⊎_elim, arith, slice_get, bytes_eq, ◌<◌, ◌++◌, length, option_and_then}
 use Rattle.std.proofs.lemmas.Bool.{and_parts, or_cases}
 use Rattle.std.proofs.lemmas.List.Elements.{All-from_recursion, recursion_from_All, All-weaker, Contains-append_left, Contains-append_right}
@@ -20,6 +19,7 @@ use Rattle.review_machine_rows.{proofs.Readings.IsDoneBy, proofs.Readings.done_o
 use Rattle.review_machine_rows.specs.Changes.{Reading, Reads, change, joined_in, setting_of, joined, change_count, is_for, some_change, joined_by}
 use Rattle.review_machine_rows.specs.Links.{link_for}
 use Rattle.review_machine_rows.specs.Submits.{branch_after, judged_after, is_in_branch, is_merged, is_merged_commit, patch_for, patch_of, sent_or, sent_up_to, standing_of}
+use Rattle.review_machine_laws.proofs.Changes.{one_passing}
 use Rattle.review_machine_laws.proofs.Joined.{submit_accepted, same_change, contained_joined, merged_joined, state_merged, Gains, gains, joined_distinct, joined_merged, KeepsPatches, base_kept, commit_kept, merged_keeps, parent_kept, submit_keeps, placed}
 use Rattle.review_machine_laws.proofs.Linked.{linked, for_branch}
 use Rattle.review_machine_laws.specs.Accepted.{IsAccepted, MayJoin}
@@ -373,8 +373,7 @@ cut [] ys front n back e = inr (record { more = front; front_is = refl; cut_is =
 cut (x ∷ xs) ys [] n back e = let same : x ≡ n = cc in inl (record { rest = xs; cut_is = λ i. same i ∷ xs })
 cut (x ∷ xs) ys (y ∷ front) n back e =
     let same : x ≡ y = cc in
-    let rest : xs ++ ys ≡ front ++ n ∷ back = cc in
-    ⊎_elim
+    let rest : xs ++ ys ≡ front ++ n ∷ back = cc in ⊎_elim
     (λ (c : IsCutFirst xs front n). inl (record { rest = c.rest; cut_is = λ i. same i ∷ c.cut_is i }))
     (λ (c : IsCutSecond xs ys front n back). inr (record { more = c.more; front_is = λ i. sym same i ∷ c.front_is i; cut_is = c.cut_is }))
     (cut xs ys front n back rest)
@@ -430,8 +429,7 @@ newest_stands reading e h project branch changes front n back more history reads
 -- Each change that joined a branch stands on it, or on one that joined it before.
 pub joined_stands : (reading : Reading) (h : List Entry) (project branch front : List ℕ) (n : ℕ) (back : List ℕ) → IsHistory h → Reads reading h → joined h project branch ≡ front ++ n ∷ back → StandsOn reading h project branch front n
 joined_stands reading [] project branch front n back history reads is = let in' : Contains [] n = subst (λ l. Contains l n) (sym is) (Contains-at front n back) in absurd (let bad : in'.0 < 0 = in'.1 in omega arith)
-joined_stands reading (e ∷ h) project branch front n back history reads is =
-    ⊎_elim
+joined_stands reading (e ∷ h) project branch front n back history reads is = ⊎_elim
     (λ (c : IsCutFirst (joined h project branch) front n).
     earlier_stands reading e h project branch front n c.rest history reads.1 c.cut_is (joined_stands reading h project branch front n c.rest history.3 reads.1 c.cut_is))
     (λ (c : IsCutSecond (joined h project branch) (joined_by h (accepted e) e.reply project branch) front n back).

@@ -1,10 +1,7 @@
 -- Patch sets and bases of a branch: what adds to them, that they stay, and that each has a commit of its own.
-use Rattle.std.proofs.lemmas.Bool.{or_cases}
-use Rattle.review_machine_laws.proofs.Joined.{past}
+use Rattle.std.proofs.Common.{◌≡◌, ℕ, ◌+◌, ◌==◌, List, ◌∷◌, length, Option, Some, None, Bool, true, false, cond, ◌⊎◌, inl, inr, refl, sym, ap, ◌∙◌, eqb-true, option_map, bytes_eq, zero, suc, [], ◌++◌, ◌&&◌, ◌||◌, ⊎_elim, is_some, slice_get, subst}
 use Rattle.std.proofs.Math.Bool.{or-true}
-use Rattle.std.proofs.lemmas.Bool.{not-true}
-use Rattle.std.proofs.Common.{◌≡◌, ℕ, ◌+◌, ◌==◌, List, ◌∷◌, length, Option, Some, None, Bool, true, false, cond, not, ◌⊎◌, inl, inr, refl, sym, ap, ◌∙◌, eqb-true, option_map, bytes_eq, zero, suc, [], ◌++◌, ◌&&◌, ◌||◌, ⊎_elim, arith, is_some, slice_get, subst}
-use Rattle.std.proofs.lemmas.Bool.{and_parts, cases_Bool, and_from, Decides.nat_tests}
+use Rattle.std.proofs.lemmas.Bool.{or_cases, not-true, and_parts, cases_Bool, and_from}
 use Rattle.std.{proofs.lemmas.Slice.Eq.bytes_eq-Decides, specs.List.AllByRecursion, specs.List.list_any}
 use Rattle.review_names.specs.declared.kinds.ChangeKind.TheVariants.{Rework}
 use Rattle.review_words.specs.History.{Entry, accepted, if_done, is_account, bases, is_base, with_base}
@@ -18,6 +15,7 @@ use Rattle.review_machine_rows.proofs.Readings.{IsDoneBy, done_of}
 use Rattle.review_machine_rows.specs.Answer.{IsAnswerBy, IsHistory, checks, request_checks}
 use Rattle.review_machine_rows.specs.Changes.{Reading, Reads, change, change_by, change_count, is_for, is_known, setting_of, submitted, has_commit, is_sent, joined, joining_at, place_in}
 use Rattle.review_machine_laws.proofs.Changes.{joining_keeps, one_passing, some_passes, Passes, all_pass, checks_pass, done_passes, change_there, is_up_to}
+use Rattle.review_machine_laws.proofs.Joined.{past}
 use Rattle.review_machine_laws.proofs.Places.{appended, only, kept, last_of, number_within}
 use Rattle.review_machine_laws.specs.Patches.{HasPatch}
 use Rattle.review_words.specs.declared.command.ChangeCommand.TheVariants as on
@@ -145,8 +143,7 @@ has_its_commit xs commit (suc n) p is same = sent_at xs commit n p is same
 -- in a list that has the commit a patch set has it
 pub sent_from : (xs : List PatchRow) (commit : List ℕ) → list_any (λ x. bytes_eq x.commit commit) xs ≡ true → (n : ℕ) × (p : PatchRow) × (slice_get xs n ≡ Some p) × (p.commit ≡ commit)
 sent_from [] commit e = absurd (cc)
-sent_from (x ∷ xs) commit e =
-    ⊎_elim
+sent_from (x ∷ xs) commit e = ⊎_elim
     (λ (t : bytes_eq x.commit commit ≡ true). (0, x, refl, (bytes_eq-Decides x.commit commit).0 t))
     (λ (f : bytes_eq x.commit commit ≡ false).
     let r = sent_from xs commit (sym (ap (λ b. b || list_any (λ y. bytes_eq y.commit commit) xs) f) ∙ e) in (suc r.0, r.1, r.2, r.3))
@@ -363,8 +360,7 @@ base_not_sent reading (e ∷ h) project branch n k p history reads has is =
 -- the commit of a patch set is no base
 pub sent_no_base : (reading : Reading) (h : List Entry) (project branch : List ℕ) (n k : ℕ) (p : PatchRow) → IsHistory h → Reads reading h → HasPatch project branch k p (change reading h n) →
     is_base h project branch p.commit ≡ false
-sent_no_base reading h project branch n k p history reads has =
-    ⊎_elim
+sent_no_base reading h project branch n k p history reads has = ⊎_elim
     (λ (t : is_base h project branch p.commit ≡ true). absurd (base_not_sent reading h project branch n k p history reads has t))
     (λ (f : is_base h project branch p.commit ≡ false). f)
     (cases_Bool (is_base h project branch p.commit))

@@ -1,11 +1,11 @@
 -- Lists: their items by number, by place, and in order.
-use Rattle.review_table.proofs.Plain.{all_at}
 use Rattle.std.proofs.Common.{◌≡◌, ℕ, zero, suc, ◌+◌, ◌<◌, ◌≤◌, List, [], ◌∷◌, ◌++◌, length, Some, None, ◌⊎◌, inl, inr, ap, refl, arith, slice_get, sym, ◌∙◌, ⊎_elim, ◌==◌, Option, Bool, true, false, cond, ◌||◌, subst, eqb-true, eq-eqb, All, Contains, option_map}
 use Rattle.std.proofs.lemmas.{Bool.cases_lt, List.Elements.recursion_from_All}
 use Rattle.std.proofs.lemmas.Map.Keys.{IsDistinct-head, IsDistinct-tail, IsDistinct-cons}
 use Rattle.std.proofs.lemmas.Option.{slice_get_past, slice_get_within, none-some, slice_get_cases, slice_get-get_or, get_or_from_slice_get}
 use Rattle.std.specs.{List.AllByRecursion, List.IsDistinct, List.list_any, Option.option_or}
-use Rattle.{review_core_rules.specs.Change.of_number, review_machine_rows.specs.Changes.place_in}
+use Rattle.{review_table.proofs.Plain.all_at, review_core_rules.specs.Change.of_number}
+use Rattle.review_machine_rows.specs.Changes.{place_in}
 
 -- ==== items by their numbers, which are counted from 1
 
@@ -76,8 +76,7 @@ of_number_within xs (suc k) x is = let e : k < length xs = slice_get_within xs k
 -- the item after whose number none comes is the last
 pub last_number : {X : Type 0} (xs : List X) (n : ℕ) (x : X) → of_number xs n ≡ Some x → ((m : ℕ) → n < m → of_number xs m ≡ None) → of_number xs (length xs) ≡ Some x
 last_number xs n x is later =
-    let within : n ≤ length xs = of_number_within xs n x is in
-    ⊎_elim
+    let within : n ≤ length xs = of_number_within xs n x is in ⊎_elim
     (λ (lt : n < length xs).
     let there = of_number_there xs (length xs) (omega arith) (omega arith) in
     absurd (none-some there.0 (sym (later (length xs) lt) ∙ there.1)))

@@ -1,9 +1,6 @@
 -- What the rows of changes tell.
-use Rattle.review_machine_rows.proofs.Joins.{unsent_from}
-use Rattle.review_core_rules.proofs.Stays.{zero_of}
-use Rattle.review_machine_laws.proofs.Places.{none_past}
-use Rattle.std.proofs.Common.{◌≡◌, ℕ, ◌+◌, ◌==◌, List, [], ◌∷◌, length, Option, Some, None, Bool, true, false, cond, refl, sym, ap, subst, ◌∙◌, eqb-true, option_map, ℤ, pos, suc, not, ⊎_elim, int_eq, slice_get, ◌-◌, ◌<◌, ◌≤◌, arith, AllPairs, map, slice_index_or}
-use Rattle.std.proofs.lemmas.{Bool.cases_Bool, Bool.cases_lt, Bool.Decides.Decides-int_eq, List.Elements.All-get_or}
+use Rattle.std.proofs.Common.{◌≡◌, ℕ, ◌+◌, ◌==◌, List, [], ◌∷◌, length, Option, Some, None, Bool, true, false, cond, refl, sym, ap, subst, ◌∙◌, eqb-true, option_map, ℤ, suc, not, ⊎_elim, slice_get, ◌-◌, ◌<◌, ◌≤◌, arith, AllPairs, map, slice_index_or}
+use Rattle.std.proofs.lemmas.{Bool.cases_Bool, Bool.cases_lt, List.Elements.All-get_or}
 use Rattle.std.proofs.lemmas.Option.{get_or_from_slice_get, slice_get-get_or, slice_get-map, slice_get_within}
 use Rattle.{std.specs.List.AllByRecursion, std.specs.Option.option_map_or, review_names.specs.Forms.most_patches}
 use Rattle.review_words.specs.{History.Entry, History.accepted, History.if_done, declared.changes.NewChange.NewChange}
@@ -11,12 +8,12 @@ use Rattle.review_words.specs.declared.{changes.Role.Role, command.ChangeCommand
 use Rattle.review_words.specs.declared.command.Command.{Command, TheVariants.CreateChange, TheVariants.OnChange}
 use Rattle.review_words.specs.declared.reply.{Answer.Answer, Reply.Reply, Reply.TheVariants.Done}
 use Rattle.review_words.specs.declared.shown.JoinedChange.{JoinedChange}
-use Rattle.review_core_rules.proofs.Stays.{begins, stays, within_parts}
+use Rattle.review_core_rules.proofs.Stays.{zero_of, begins, stays, within_parts}
 use Rattle.review_core_rules.specs.Change.{Change, after, begun, joined_at, commit, current, of_number}
 use Rattle.review_core_rules.specs.Parts.{Part, TheHeader, PatchOf, VoteOf, RoleOf, CommentOf, AttentionOf, PartRow, AHeader, APatch, AVote, ARole, AComment, AnAttentionEntry, header_of, part_row}
 use Rattle.review_core_rules.specs.{Votes.voted, declared.rows.AttentionEntry.AttentionEntry}
 use Rattle.review_core_rules.specs.declared.rows.{CommentRow.CommentRow, Header.Header, PatchRow.PatchRow}
-use Rattle.review_machine_rows.proofs.Readings.{IsDoneBy, done_of}
+use Rattle.review_machine_rows.proofs.{Joins.unsent_from, Readings.IsDoneBy, Readings.done_of}
 use Rattle.review_machine_rows.specs.Answer.{IsAnswerBy, IsHistory, request_checks}
 use Rattle.review_machine_rows.specs.Changes.{Reading, Reads, change, change_by, change_count, setting_of, submitted, joined, place_in}
 use Rattle.review_machine_rows.specs.Known.{part_of, HaveJoined, IsAtPlace, IsBefore, IsCurrent, IsJoinedAt, IsLastJoined}
@@ -24,7 +21,7 @@ use Rattle.review_machine_rows.specs.{Questions.joined_change, Rows.APart, Submi
 use Rattle.review_machine_rows.specs.declared.rows.BranchKey.{BranchKey}
 use Rattle.review_machine_laws.proofs.Changes.{joining_keeps, Passes, checks_pass, done_passes, are_sound}
 use Rattle.review_machine_laws.proofs.Joined.{has_place, joined_distinct, joined_placed, state_merged, merged_stays}
-use Rattle.review_machine_laws.proofs.Places.{last_number, of_number_there, same_order, contained_get, get_placed, placed_get}
+use Rattle.review_machine_laws.proofs.Places.{none_past, last_number, of_number_there, same_order, contained_get, get_placed, placed_get}
 
 -- ==== what holds of every change of a history
 
@@ -103,8 +100,7 @@ same_lists (x ∷ xs) (y ∷ ys) same =
     λ i. first i ∷ rest i
 
 same_votes : (v w : ℤ) → cond (voted v) (Some (AVote v)) None ≡ cond (voted w) (Some (AVote w)) None → v ≡ w
-same_votes v w e =
-    ⊎_elim
+same_votes v w e = ⊎_elim
     (λ (a : voted v ≡ true). ⊎_elim
     (λ (b : voted w ≡ true).
     let is : Some (AVote v) ≡ Some (AVote w) = sym (ap (λ t. cond t (Some (AVote v)) None) a) ∙ (e ∙ ap (λ t. cond t (Some (AVote w)) None) b) in
@@ -211,8 +207,7 @@ last_joined_is reading h key last history reads l =
         l.above ((length xs - 1) + 1) (slice_index_or xs (length xs - 1) 0) (omega arith) (placed_row reading h key ((length xs - 1) + 1) (slice_index_or xs (length xs - 1) 0) history reads place)
 
     not_below : (n : ℕ) → IsAtPlace (fact reading h) key last n → last ≤ length (joined h key.project key.branch)
-    not_below n at =
-        ⊎_elim
+    not_below n at = ⊎_elim
         (λ (some : 0 < last).
         let k = placed_get (joined h key.project key.branch) n last (row_placed reading h key last n history reads at some) in
         let within : k.0 < length (joined h key.project key.branch) = slice_get_within (joined h key.project key.branch) k.0 n k.1 in
@@ -327,8 +322,7 @@ joined_rows reading h key js history reads have = same_order (map (joined_change
     ordered : (k l p q : ℕ) (a b : JoinedChange) → k < l → slice_get js k ≡ Some a → slice_get js l ≡ Some b → slice_get (map (joined_change reading h) xs) p ≡ Some a →
         slice_get (map (joined_change reading h) xs) q ≡ Some b → p < q
     ordered k l p q a b lt one two here there =
-        let before = pair_get (IsBefore (fact reading h) key) js k l a b have.ordered lt one two in
-        ⊎_elim
+        let before = pair_get (IsBefore (fact reading h) key) js k l a b have.ordered lt one two in ⊎_elim
         (λ (less : p + 1 < q + 1). omega arith)
         (λ (even : (p + 1 ≡ q + 1) × (a.change < b.change)).
         let place_same : p + 1 ≡ q + 1 = even.0 in

@@ -1,24 +1,19 @@
 -- Commits and the patch sets that have them.
-use Rattle.std.proofs.lemmas.Option.{same_Some}
-use Rattle.review_machine_laws.proofs.Rows.{header_from}
-use Rattle.review_machine_laws.proofs.Patches.{sent_at}
-use Rattle.review_machine_laws.proofs.Patches.{sent_from}
-use Rattle.review_machine_laws.proofs.Changes.{passes_up_to}
-use Rattle.review_machine_laws.proofs.Changes.{one_passing}
-use Rattle.std.proofs.Math.Bool.{or-true}
-use Rattle.std.proofs.Common.{◌≡◌, ℕ, zero, suc, ◌+◌, ◌<◌, ◌≤◌, List, [], ◌∷◌, Option, Some, None, true, false, cond, refl, sym, ap, subst, ◌∙◌, ⊎_elim, arith, slice_get, bytes_eq, Bool, ◌&&◌, ◌||◌, leb-true, is_some, nat_le, option_map}
-use Rattle.std.proofs.lemmas.{Bool.cases_Bool, Bool.cases_lt, Bool.and_parts, Slice.Eq.bytes_eq-Decides}
-use Rattle.std.specs.{List.list_any, Option.option_map_or}
+use Rattle.std.proofs.Common.{◌≡◌, ℕ, zero, suc, ◌+◌, ◌<◌, ◌≤◌, List, [], ◌∷◌, Option, Some, None, true, false, cond, refl, sym, ap, subst, ◌∙◌, ⊎_elim, arith, slice_get, bytes_eq, Bool, ◌&&◌, leb-true, is_some, nat_le, option_map}
+use Rattle.std.proofs.lemmas.Bool.{cases_Bool, cases_lt, and_parts}
+use Rattle.std.proofs.lemmas.{Option.same_Some, Slice.Eq.bytes_eq-Decides}
 use Rattle.{review_words.specs.History.Entry, review_chain.specs.declared.links.Standing.Standing}
 use Rattle.review_chain.specs.declared.links.Standing.TheVariants.{InBranch, PatchSet, Nowhere}
 use Rattle.review_core_rules.specs.Change.{Change, of_number}
-use Rattle.review_core_rules.specs.Parts.{TheHeader, PatchOf, AHeader, APatch, header_of}
+use Rattle.review_core_rules.specs.Parts.{TheHeader, PatchOf, APatch, header_of}
 use Rattle.review_core_rules.specs.declared.rows.{Header.Header, PatchRow.PatchRow}
-use Rattle.review_machine_rows.specs.Changes.{Reading, change, is_for, change_count, has_commit, is_sent, some_change}
+use Rattle.review_machine_rows.specs.Changes.{Reading, change, is_for, change_count, has_commit, is_sent}
 use Rattle.review_machine_rows.specs.{Known.IsSender, Known.IsSentBy, Known.part_of, Rows.APart}
 use Rattle.review_machine_rows.specs.Submits.{patch_for, patch_of, sent_or, sent_up_to}
 use Rattle.review_machine_rows.specs.{View.fact, declared.rows.Base.Base}
-use Rattle.review_machine_laws.{proofs.Changes.change_there, specs.Patches.HasPatch}
+use Rattle.review_machine_laws.proofs.Changes.{passes_up_to, one_passing, change_there}
+use Rattle.review_machine_laws.proofs.Patches.{sent_at, sent_from}
+use Rattle.review_machine_laws.{proofs.Rows.header_from, specs.Patches.HasPatch}
 
 -- ==== the patch set that has a commit, where one has
 
@@ -42,8 +37,7 @@ found_later n p ps x None other none = by
 -- the definition's search finds so
 found_in : (n : ℕ) (ps : List PatchRow) (x : List ℕ) → FoundIn n ps x (patch_of n ps x)
 found_in n [] x = λ j p is same. absurd (cc)
-found_in n (p ∷ ps) x =
-    ⊎_elim
+found_in n (p ∷ ps) x = ⊎_elim
     (λ (t : bytes_eq p.commit x ≡ true).
     let here : n + 1 ≡ n + suc 0 = omega arith in
     subst (λ b. FoundIn n (p ∷ ps) x (cond b (Some (n + 1)) (patch_of (n + 1) ps x))) (sym t) (0, p, here, refl, (bytes_eq-Decides p.commit x).0 t))
@@ -71,8 +65,7 @@ found_of project branch x c None for none = by
 -- the definition's look at one change finds so
 found_for : (project branch x : List ℕ) (o : Option Change) → FoundFor project branch x o (patch_for project branch x o)
 found_for project branch x None = λ k p has same. let bad : None ≡ Some has.of = has.is in absurd (cc)
-found_for project branch x (Some c) =
-    ⊎_elim
+found_for project branch x (Some c) = ⊎_elim
     (λ (t : is_for project branch c ≡ true).
     subst (λ b. FoundFor project branch x (Some c) (cond b (patch_of 0 c.patches x) None)) (sym t) (found_of project branch x c (patch_of 0 c.patches x) t (found_in 0 c.patches x)))
     (λ (f : is_for project branch c ≡ false).
@@ -157,8 +150,7 @@ sent_sender reading h base e =
 -- what was found tells whether the commit was sent
 pub sent_is : (reading : Reading) (h : List Entry) (base : Base) (found : Option ℕ) → IsSentBy (fact reading h) base found → is_some found ≡ is_sent reading h base.project base.branch base.commit
 sent_is reading h base (Some n) is = sym (sender_sent reading h base n is)
-sent_is reading h base None none =
-    ⊎_elim
+sent_is reading h base None none = ⊎_elim
     (λ (t : is_sent reading h base.project base.branch base.commit ≡ true). let r = sent_sender reading h base t in absurd (none r.0 r.1))
     (λ (f : is_sent reading h base.project base.branch base.commit ≡ false). sym f)
     (cases_Bool (is_sent reading h base.project base.branch base.commit))

@@ -1,26 +1,20 @@
 -- What rows show of a branch.
-use Rattle.review_machine_rows.proofs.Puts.{based_from}
-use Rattle.review_machine_rows.proofs.Joins.{unsent_from}
-use Rattle.std.proofs.lemmas.Option.{same_Some}
-use Rattle.std.proofs.lemmas.Bool.{or_cases}
-use Rattle.review_machine_laws.proofs.Joined.{state_merged}
-use Rattle.review_machine_laws.proofs.Rows.{sent_from}
-use Rattle.review_machine_laws.proofs.Rows.{header_from}
-use Rattle.std.proofs.Math.Bool.{or-true}
 use Rattle.std.proofs.Common.{◌≡◌, ℕ, zero, suc, ◌<◌, ◌≤◌, List, [], ◌∷◌, length, Option, Some, None, true, false, cond, ◌&&◌, ◌||◌, refl, sym, ap, ◌∙◌, ⊎_elim, ◌⊎◌, inl, inr, arith, option_map, bytes_eq, ◌≢◌, Bool, subst, IsSome, is_some, option_and_then}
-use Rattle.std.proofs.lemmas.{Bool.cases_Bool, Bool.and_parts, Bool.and_from, Bool.cases_lt, Slice.Eq.bytes_eq-Decides}
+use Rattle.std.proofs.Math.Bool.{or-true}
+use Rattle.std.proofs.lemmas.Bool.{or_cases, cases_Bool, and_parts, and_from, cases_lt}
+use Rattle.std.proofs.lemmas.{Option.same_Some, Slice.Eq.bytes_eq-Decides}
 use Rattle.std.specs.{List.list_any, Option.option_map_or}
-use Rattle.review_words.specs.History.{Entry, bases, is_base}
-use Rattle.review_words.specs.declared.shown.State.{State, TheVariants.Merged}
+use Rattle.review_words.specs.{History.Entry, History.bases, History.is_base, declared.shown.State.TheVariants.Merged}
 use Rattle.review_chain.{proofs.Parting.Says, proofs.Parting.wanted_says, specs.Branches.IsWhole, specs.Branches.Branch}
 use Rattle.review_chain.specs.Parts.{IsPart, IsWanted, NeedsChange, Want as ChainWant, TheChange, TheCommit}
 use Rattle.review_chain.specs.{Steps.wanted, Walks.IsWalk, Walks.first_of}
 use Rattle.review_chain.specs.declared.links.{Link.Link, Standing.Standing}
 use Rattle.review_chain.specs.declared.links.Standing.TheVariants.{InBranch, PatchSet, Nowhere}
 use Rattle.review_core_rules.specs.Change.{Change, commit, current_patch, of_number, current}
-use Rattle.review_core_rules.specs.Parts.{TheHeader, PatchOf, AHeader, APatch, header_of}
+use Rattle.review_core_rules.specs.Parts.{TheHeader, PatchOf, APatch, header_of}
 use Rattle.review_core_rules.specs.declared.rows.{Header.Header, PatchRow.PatchRow}
-use Rattle.review_machine_rows.{proofs.Asked.commit_known, proofs.Asked.found_of, specs.Answer.IsHistory}
+use Rattle.review_machine_rows.proofs.{Asked.commit_known, Asked.found_of, Joins.unsent_from, Puts.based_from}
+use Rattle.review_machine_rows.specs.Answer.{IsHistory}
 use Rattle.review_machine_rows.specs.Changes.{Reading, Reads, change, change_count, is_for, some_change, is_known, is_sent}
 use Rattle.review_machine_rows.specs.Known.{IsCurrent, IsInBranch, IsMergedWith, IsSender, IsSentBy, StandsAs, at_place, part_of, Agrees, Found, IsKnown, change_in, known, standing_of as standing_in}
 use Rattle.review_machine_rows.specs.Links.{link_for, link_of, links_in}
@@ -28,10 +22,11 @@ use Rattle.review_machine_rows.specs.{Rows.APart, Rows.BaseRow, Rows.PartKey, St
 use Rattle.review_machine_rows.specs.Submits.{is_in_branch, is_merged, is_merged_commit, sent_up_to, standing_of, branch_after}
 use Rattle.review_machine_rows.specs.{View.fact, View.view, declared.rows.Base.Base, declared.rows.Rows.Rows}
 use Rattle.review_machine_laws.proofs.Changes.{one_passing, some_passes, within_count}
+use Rattle.review_machine_laws.proofs.Joined.{state_merged}
 use Rattle.review_machine_laws.proofs.Patches.{commits_apart, current_there, parents_known, IsSent, sent_patch}
 use Rattle.review_machine_laws.proofs.Places.{last_of, none_past, number_within}
-use Rattle.review_machine_laws.proofs.{Rows.rows_tell, Sent.FoundUpTo, Sent.found_up_to}
-use Rattle.review_machine_laws.specs.Patches.{HasPatch}
+use Rattle.review_machine_laws.proofs.Rows.{sent_from, header_from, rows_tell}
+use Rattle.review_machine_laws.{proofs.Sent.FoundUpTo, proofs.Sent.found_up_to, specs.Patches.HasPatch}
 use Rattle.review_machine_rows.specs.declared.rows.Want.TheVariants as want
 
 -- ==== what a commit is to a branch, as rows show it
@@ -80,8 +75,7 @@ has_sender reading h project branch x n k p has same =
 -- the current patch set of a change, by rows, is its last
 current_is : (reading : Reading) (h : List Entry) (n : ℕ) (c : Change) (p : PatchRow) → change reading h n ≡ Some c → IsCurrent (fact reading h) n p → current_patch c ≡ Some p
 current_is reading h n c p is last =
-    let sent = sent_from (of_number c.patches last.number) p (row last.number ∙ last.sent) in
-    ⊎_elim
+    let sent = sent_from (of_number c.patches last.number) p (row last.number ∙ last.sent) in ⊎_elim
     (λ (lt : last.number < length c.patches).
     let none = unsent_from (of_number c.patches (length c.patches)) (row (length c.patches) ∙ last.later (length c.patches) lt) in
     let some = last_of c.patches (omega arith) in
@@ -118,8 +112,7 @@ listed_at (b ∷ bs) x (suc (suc n)) e = ap (λ t. bytes_eq b x || t) (listed_at
 -- what is in the list stands at a place
 pub placed_at : (bs : List (List ℕ)) (x : List ℕ) → list_any (λ b. bytes_eq b x) bs ≡ true → (n : ℕ) × (at_place bs (suc n) ≡ Some x)
 placed_at [] x e = absurd (cc)
-placed_at (b ∷ bs) x e =
-    ⊎_elim
+placed_at (b ∷ bs) x e = ⊎_elim
     (λ (t : bytes_eq b x ≡ true). (0, ap Some ((bytes_eq-Decides b x).0 t)))
     (λ (f : bytes_eq b x ≡ false). let r = placed_at bs x (sym (ap (λ t. t || list_any (λ c. bytes_eq c x) bs) f) ∙ e) in (suc r.0, r.1))
     (cases_Bool (bytes_eq b x))
@@ -176,8 +169,7 @@ is_in_shown reading h project branch x is = by (or_cases (is_base h project bran
 
 -- what rows don't show in a branch isn't in it
 not_in : (reading : Reading) (h : List Entry) (project branch x : List ℕ) → (IsInBranch (fact reading h) (base_of project branch x) → ⊥) → is_in_branch reading h project branch x ≡ false
-not_in reading h project branch x none =
-    ⊎_elim
+not_in reading h project branch x none = ⊎_elim
     (λ (t : is_in_branch reading h project branch x ≡ true). absurd (none (is_in_shown reading h project branch x t)))
     (λ (f : is_in_branch reading h project branch x ≡ false). f)
     (cases_Bool (is_in_branch reading h project branch x))
@@ -269,8 +261,7 @@ not_based false b c none is = is
 -- a commit is in the branch, or it stands as it was sent
 stands : (reading : Reading) (h : List Entry) (project branch x : List ℕ) (s : Standing) → standing_of reading h project branch x ≡ s → (s ≡ InBranch → ⊥) →
     (is_in_branch reading h project branch x ≡ false) × (sent_as reading h project branch x ≡ s)
-stands reading h project branch x s is other =
-    ⊎_elim
+stands reading h project branch x s is other = ⊎_elim
     (λ (t : is_in_branch reading h project branch x ≡ true). absurd (other (sym is ∙ ap (λ b. cond b InBranch (sent_as reading h project branch x)) t)))
     (λ (f : is_in_branch reading h project branch x ≡ false). (f, sym (not_in_stands reading h project branch x f) ∙ is))
     (cases_Bool (is_in_branch reading h project branch x))

@@ -1,10 +1,6 @@
 -- Projects of a history are sound, and each vote stands by the file of its project.
-use Rattle.review_core_rules.proofs.Stays.{some_put}
-use Rattle.review_machine_laws.proofs.Rows.{made_holds}
-use Rattle.review_machine_laws.proofs.Rows.{named_holds}
-use Rattle.std.proofs.Math.Bool.{and-true}
 use Rattle.std.proofs.Common.{◌≡◌, ℕ, ◌+◌, ◌==◌, List, [], ◌∷◌, length, Option, Some, None, Bool, true, false, cond, refl, sym, ap, ◌∙◌, subst, is_some, option_map, bytes_eq, ◌++◌, int_eq, ◌&&◌, ℤ, pos, eqb-true}
-use Rattle.std.proofs.lemmas.Slice.Eq.{bytes_eq-Decides}
+use Rattle.std.proofs.{Math.Bool.and-true, lemmas.Slice.Eq.bytes_eq-Decides}
 use Rattle.std.specs.{List.list_any, List.AllByRecursion, Option.option_map_or}
 use Rattle.review_words.specs.History.{Entry, accepted, file_text, if_done, is_account, is_project, text_put}
 use Rattle.review_words.specs.declared.changes.{Given.Given, Review.Review as ReviewOf}
@@ -14,6 +10,7 @@ use Rattle.review_words.specs.declared.reply.{Answer.Answer, Refusal.Refusal, Re
 use Rattle.review_words.specs.declared.reply.Reply.{Reply, TheVariants.Done}
 use Rattle.review_file_rules.proofs.Known.{OrderedLabels, covers_found, covers_itself, covers_through, label_name, values_through}
 use Rattle.review_file_rules.{proofs.Named.named, proofs.Named.all_true, proofs.Trees.OneFile, specs.Rights.covers}
+use Rattle.review_core_rules.proofs.Stays.{some_put}
 use Rattle.review_core_rules.specs.Change.{Change, after, begun, Setting, copying, current, given_or, reviewed, vote_by}
 use Rattle.review_core_rules.specs.Votes.{voted}
 use Rattle.review_machine_rows.proofs.Readings.{IsDoneBy, done_of, reading_of}
@@ -23,6 +20,7 @@ use Rattle.review_machine_rows.specs.{Files.File, Lines.most_depth}
 use Rattle.review_machine_laws.proofs.Changes.{joining_keeps, all_pass, done_passes, Passes, checks_pass}
 use Rattle.review_machine_laws.proofs.Growing.{eff_ordered}
 use Rattle.review_machine_laws.proofs.Histories.{files_grow, lines_end, sound_files, labels_known}
+use Rattle.review_machine_laws.proofs.Rows.{made_holds, named_holds}
 use Rattle.review_machine_laws.specs.SoundProjects.{AreOfLabels, AreSoundProjects}
 use Rattle.review_words.specs.declared.command.ChangeCommand.TheVariants as on
 

@@ -1,8 +1,6 @@
 -- What a PutProject does by what rows know of the line of its project.
-use Rattle.review_machine_laws.proofs.Histories.{same_name}
 use Rattle.std.proofs.Common.{◌≡◌, ℕ, suc, arith, List, [], ◌∷◌, length, Option, Some, None, Result, Ok, Err, Bool, true, false, cond, not, ◌||◌, ◌∙◌, ◌⊎◌, refl, sym, ap, subst, inl, inr, ⊎_elim, MatchBool, is_some, nat_lt, IfErr, IfOk, MatchOption, option_map, option_and_then}
-use Rattle.std.proofs.lemmas.{Bool.Decides.nat_tests, Slice.Eq.bytes_eq-Decides}
-use Rattle.std.specs.{List.AllByRecursion, Option.option_map_or}
+use Rattle.std.{proofs.lemmas.Bool.Decides.nat_tests, specs.List.AllByRecursion, specs.Option.option_map_or}
 use Rattle.review_words.specs.History.{Entry, is_account, is_admin, is_project, project_count}
 use Rattle.review_words.specs.declared.command.Command.TheVariants.{PutProject}
 use Rattle.review_words.specs.declared.faults.FileFault.{FileFault, TheVariants.UnknownLabel}
@@ -17,7 +15,7 @@ use Rattle.review_file_rules.specs.Reading.{IsReadFault, named_parent}
 use Rattle.review_file_rules.specs.{Trees.file_trees, declared.fault.ReadFault.ReadFault}
 use Rattle.{review_file_lines.specs.Texts.LineView, review_machine_rows.proofs.Asked.line_asked}
 use Rattle.review_machine_rows.proofs.Lined.{line_told, own_told, texts_told, there_is}
-use Rattle.review_machine_rows.specs.Answer.{IsAnswerBy, file_checks, file_with, first_refusal, is_same_parent, puts_unknown_label, refused_or, keeps_parent as keeps_parent_of}
+use Rattle.review_machine_rows.specs.Answer.{IsAnswerBy, file_checks, file_with, first_refusal, puts_unknown_label, refused_or, keeps_parent as keeps_parent_of}
 use Rattle.review_machine_rows.specs.Changes.{Reading, depth, effective_of, file_of, own_of, texts_of}
 use Rattle.review_machine_rows.specs.Decisions.{IsUndecided, IsUnread, SomePattern}
 use Rattle.review_machine_rows.specs.{Files.File, Files.IsRead, Files.IsFileFault, Files.covers, Limits.most_projects}
@@ -25,7 +23,7 @@ use Rattle.review_machine_rows.specs.{Lines.line_of, Lines.most_depth, Lines.wit
 use Rattle.review_machine_rows.specs.Steps.{HasFile, OfCommand, line_steps, own_in, parent_of, parent_or, texts_in, unknown}
 use Rattle.review_machine_rows.specs.View.{AreEnough, IsDecided}
 use Rattle.review_machine_rows.specs.declared.rows.{Delta.Delta, Rows.Rows, StoredFile.StoredFile}
-use Rattle.review_machine_laws.proofs.Histories.{parent_named, OneEffective, effective_is, line_read, same_file}
+use Rattle.review_machine_laws.proofs.Histories.{same_name, parent_named, OneEffective, effective_is, line_read, same_file}
 use Rattle.review_machine_accounts.proofs.Decided.{asked_beside, empty_changes, outcome_answer, project_refused, refused_decided, file_decided}
 use Rattle.review_machine_accounts.{proofs.Told.room_told, specs.Decisions.IsEmpty}
 use Rattle.review_machine_needs.specs.inner.Files.{IsFilePut, IsPut, IsPutBelow, IsReadCause, file_refused, has_unknown, heir, heir_refused, keeps_parent, parent_refused, room_in}

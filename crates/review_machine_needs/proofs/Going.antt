@@ -1,7 +1,6 @@
 -- Asking that goes on: look-ups, steps, and the texts of a line.
-use Rattle.std.proofs.Common.{append_assoc}
 use native.Mathlib.Numerals.{unary_clauses}
-use Rattle.std.proofs.Common.{◌≡◌, ℕ, ◌+◌, ◌<◌, List, [], ◌∷◌, ◌++◌, length, map, take, get_or, sym, ap, ◌∙◌, Option, Some, None, refl, subst, zero, suc, ◌≤◌, ◌-◌, true, false, cond, not, is_some, option_and_then, inl, inr, arith}
+use Rattle.std.proofs.Common.{append_assoc, ◌≡◌, ℕ, ◌+◌, ◌<◌, List, [], ◌∷◌, ◌++◌, length, map, take, get_or, sym, ap, ◌∙◌, Option, Some, None, refl, subst, zero, suc, ◌≤◌, ◌-◌, true, false, cond, not, is_some, option_and_then, inl, inr, arith}
 use Rattle.std.{proofs.lemmas.List.take_more, proofs.lemmas.List.map-append, specs.Option.option_map_or}
 use Rattle.review_chain.{proofs.Parting.walked_alone, specs.Branches.Branch, specs.declared.walks.Walked.Walked}
 use Rattle.review_file_rules.specs.{Patterns.HasPattern, declared.fault.ReadFault.ReadFault}

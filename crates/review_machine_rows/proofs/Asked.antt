@@ -34,8 +34,7 @@ found_of t rows w agree there = at (known rows w) refl there
 -- where none of some look-ups is left, all were made
 pub each_known : (rows : Rows) (ws : List Want) → unknown rows ws ≡ [] → AllByRecursion (IsKnown rows) ws
 each_known rows [] none = tt
-each_known rows (w ∷ ws) none =
-    ⊎_elim
+each_known rows (w ∷ ws) none = ⊎_elim
     (λ (t : is_some (known rows w) ≡ true). (t, each_known rows ws (sym (ap (λ b. cond (not b) (w ∷ unknown rows ws) (unknown rows ws)) t) ∙ none)))
     (λ (f : is_some (known rows w) ≡ false). let e : w ∷ unknown rows ws ≡ [] = sym (ap (λ b. cond (not b) (w ∷ unknown rows ws) (unknown rows ws)) f) ∙ none in absurd (cc))
     (cases_Bool (is_some (known rows w)))
@@ -51,8 +50,7 @@ or_right (Some x) b e = refl
 -- rows with those that know all look-ups that were left know them all
 none_left : (rows more both : Rows) (ws : List Want) → AreAdded rows more both → AllByRecursion (IsKnown more) (unknown rows ws) → unknown both ws ≡ []
 none_left rows more both [] added all = refl
-none_left rows more both (w ∷ ws) added all =
-    ⊎_elim
+none_left rows more both (w ∷ ws) added all = ⊎_elim
     (λ (t : is_some (known rows w) ≡ true).
     let rest = subst (AllByRecursion (IsKnown more)) (ap (λ b. cond (not b) (w ∷ unknown rows ws) (unknown rows ws)) t) all in
     here (ap is_some (added w) ∙ or_left (known rows w) (known more w) t) ∙ none_left rows more both ws added rest)

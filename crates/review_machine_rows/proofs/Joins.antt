@@ -1,10 +1,8 @@
 -- Lists by their places, and the place at which a change joined.
-use Rattle.review_core_rules.specs.Parts.{PartRow}
-use Rattle.std.proofs.Common.{option_map}
-use Rattle.std.proofs.Common.{◌≡◌, ℕ, ◌+◌, ◌<◌, ◌≤◌, ◌==◌, zero, suc, true, false, cond, List, [], ◌∷◌, ◌++◌, length, Some, None, refl, sym, ap, ◌∙◌, ⊎_elim, eqb-true, eq-eqb, arith, is_some, Option, subst}
+use Rattle.std.proofs.Common.{option_map, ◌≡◌, ℕ, ◌+◌, ◌<◌, ◌≤◌, ◌==◌, zero, suc, true, false, cond, List, [], ◌∷◌, ◌++◌, length, Some, None, refl, sym, ap, ◌∙◌, ⊎_elim, eqb-true, eq-eqb, arith, is_some, Option, subst}
 use Rattle.std.proofs.lemmas.Bool.{cases_Bool, cases_lt}
 use Rattle.review_words.specs.declared.shown.JoinedChange.{JoinedChange}
-use Rattle.review_core_rules.specs.Parts.{PatchOf, AHeader, APatch}
+use Rattle.review_core_rules.specs.Parts.{PartRow, PatchOf, AHeader, APatch}
 use Rattle.review_core_rules.specs.declared.rows.{Header.Header, PatchRow.PatchRow}
 use Rattle.review_machine_rows.specs.Known.{at_place, IsAtPlace, IsCurrent, IsJoinedAt}
 use Rattle.review_machine_rows.specs.Rows.{Key, PartKey, Row, APart}
@@ -44,8 +42,7 @@ placed_other _ x zero ne = refl
 
 -- one more stands at the place after the last
 pub placed_more : {X : Type 0} (xs : List X) (x : X) (n : ℕ) → at_place (xs ++ x ∷ []) n ≡ cond (length xs + 1 == n) (Some x) (at_place xs n)
-placed_more xs x n =
-    ⊎_elim
+placed_more xs x n = ⊎_elim
     (λ (t : (length xs + 1 == n) ≡ true).
     let here : n ≡ suc (length xs) = let e = eqb-true (length xs + 1) n t in omega arith in
     ap (at_place (xs ++ x ∷ [])) here ∙ (placed_last xs x ∙ sym (ap (λ b. cond b (Some x) (at_place xs n)) t)))

@@ -81,8 +81,7 @@ asked_more wants i w f old new below is asked learns = record {
 
 -- rows that agree with tables still do
 agrees_more : (t : Tables) (w : Want) (f : Found) (old new : Rows) → IsFound t w f → Learns w f old new → Agrees t old → Agrees t new
-agrees_more t w f old new is learns agree x g there =
-    ⊎_elim
+agrees_more t w f old new is learns agree x g there = ⊎_elim
     (λ same. agree x g (sym same ∙ there))
     (λ now. let found : f ≡ g = same_Some f g (sym now.1 ∙ there) in
     subst (λ y. IsFound t y g) (sym now.0) (subst (IsFound t w) found is))

@@ -1,8 +1,5 @@
 -- What is read of a history, and what is known of an accepted command.
-use Rattle.review_machine_rows.specs.Answer.{most_requests}
-use Rattle.std.proofs.Common.{◌≤◌}
-use Rattle.std.proofs.Common.{length}
-use Rattle.std.proofs.Common.{◌≡◌, ℕ, List, [], ◌∷◌, Option, Some, None, Bool, true, false, refl, arith, MatchOption, nat_le, nat_lt, ◌⊎◌, inl, inr, ◌∙◌, cond, sym, ap, subst, ⊎_elim, MatchBool, ◌&&◌, bytes_eq}
+use Rattle.std.proofs.Common.{◌≤◌, length, ◌≡◌, ℕ, List, [], ◌∷◌, Option, Some, None, Bool, true, false, refl, arith, MatchOption, nat_le, nat_lt, ◌⊎◌, inl, inr, ◌∙◌, cond, sym, ap, subst, ⊎_elim, MatchBool, ◌&&◌, bytes_eq}
 use Rattle.std.proofs.lemmas.{Bool.cases_Bool, Bool.Decides.nat_tests, Slice.Eq.bytes_eq-Decides}
 use Rattle.review_words.specs.History.{Entry, is_closed, least_open, raised, accepted, if_done, Asking, asking_of, file_text, text_put}
 use Rattle.review_words.specs.declared.changes.NewPatch.{NewPatch}
@@ -13,7 +10,7 @@ use Rattle.review_words.specs.declared.reply.{Answer.Answer, Answer.TheVariants.
 use Rattle.review_words.specs.declared.reply.Refusal.TheVariants.{EpochAhead, SameState, BadFile}
 use Rattle.review_words.specs.declared.reply.Reply.{Reply, TheVariants.Done, TheVariants.Refused}
 use Rattle.review_file_rules.specs.Inherited.{no_file}
-use Rattle.review_machine_rows.specs.Answer.{IsAnswerBy, IsAnswerAt, epoch_checks, first_refusal, refused_by, refused_or, IsRequestOutcome, done_on, IsAnswer, IsAnswerIn, IsAnswerWithoutParents, IsHistory, IsFaultAnswer, IsFileAnswer, puts_parent}
+use Rattle.review_machine_rows.specs.Answer.{most_requests, IsAnswerBy, IsAnswerAt, epoch_checks, first_refusal, refused_by, refused_or, IsRequestOutcome, done_on, IsAnswer, IsAnswerIn, IsAnswerWithoutParents, IsHistory, IsFaultAnswer, IsFileAnswer, puts_parent}
 use Rattle.review_machine_rows.specs.Changes.{Reading, change, Reads, IsReadRight}
 use Rattle.review_machine_rows.specs.Files.{File, IsRead}
 
@@ -88,8 +85,7 @@ abbrev reading_with : Reading → List ℕ → File → Reading
 reading_with reading text file t = cond (bytes_eq t text) file (reading t)
 
 read_with : (reading : Reading) (text : List ℕ) (file : File) → IsRead text file → (t : List ℕ) → (bytes_eq t text ≡ true) ⊎ IsRead t (reading t) → IsRead t (reading_with reading text file t)
-read_with reading text file is t either =
-    ⊎_elim
+read_with reading text file is t either = ⊎_elim
     (λ (same : bytes_eq t text ≡ true).
     subst (IsRead t) (sym (ap (λ b. cond b file (reading t)) same)) (subst (λ x. IsRead x file) (sym ((bytes_eq-Decides t text).0 same)) is))
     (λ (other : bytes_eq t text ≡ false). subst (IsRead t) (sym (ap (λ b. cond b file (reading t)) other)) (⊎_elim (λ same. let e : true ≡ false = sym same ∙ other in absurd (cc)) (λ right. right) either))
@@ -155,8 +151,7 @@ put_before false given text before is = inr is
 
 read_by : (reading : Reading) (o : Option Command) (project text : List ℕ) (before : Option (List ℕ)) → IsReadRight reading o → (before ≡ Some text → IsRead text (reading text)) →
     text_put o project before ≡ Some text → IsRead text (reading text)
-read_by reading (Some (PutProject given put)) project text before right later is =
-    ⊎_elim
+read_by reading (Some (PutProject given put)) project text before right later is = ⊎_elim
     (λ (here : (bytes_eq given project ≡ true) × (put ≡ text)). subst (λ t. IsRead t (reading t)) here.1 right)
     (λ (there : before ≡ Some text). later there)
     (put_before (bytes_eq given project) put text before is)

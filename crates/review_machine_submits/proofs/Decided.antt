@@ -1,13 +1,7 @@
 -- A submit: the members of its chain, what it makes of the rows, and how it is decided.
-use Rattle.review_machine_submits.proofs.Loaded.{GroupsSuffice}
-use Rattle.review_machine_laws.proofs.Histories.{OneEffective}
-use Rattle.review_core_standing.proofs.InThreads.{other_way}
-use Rattle.review_machine_changes.proofs.Requested.{same_trees}
-use Rattle.review_machine_changes.proofs.Requested.{split_all}
-use Rattle.std.proofs.lemmas.Bool.{and_parts}
 use Rattle.std.proofs.Common.{◌≡◌, ◌⊎◌, ℕ, List, [], ◌∷◌, Option, Some, None, IsSome, Bool, true, false, cond, ◌&&◌, refl, sym, ap, ◌∙◌, subst, ⊎_elim, map, All, bytes_eq, ◌==◌, arith, nat_cmp, find, ◌+◌, length, eqb-true, option_map, unwrap_or, inl, inr, is_some, not, option_and_then, option_to_list, MatchOption, if◌then◌else◌, ◌<◌, ◌≤◌, ◌^◌}
-use Rattle.std.proofs.lemmas.{Bool.Decides.nat_tests, List.Elements.All-head, List.Elements.All-tail}
-use Rattle.std.{proofs.lemmas.Slice.Eq.bytes_eq-Decides, specs.List.AllByRecursion, specs.List.IsDistinct}
+use Rattle.std.proofs.lemmas.{Bool.and_parts, List.Elements.All-head, List.Elements.All-tail, Slice.Eq.bytes_eq-Decides}
+use Rattle.std.specs.List.{AllByRecursion, IsDistinct}
 use Rattle.review_table.specs.Rows.{NamesOnce, after_row_edit, row_edit_of}
 use Rattle.review_words.specs.History.{Entry, entry_of, base_count, project_count, least_open, is_account}
 use Rattle.review_words.specs.declared.command.Command.TheVariants.{Submit}
@@ -41,12 +35,14 @@ use Rattle.review_machine_rows.specs.Steps.{HasFile, OfCommand, caller_in, chain
 use Rattle.review_machine_rows.specs.Submits.{HasBadLink, refusal_of, branch_after, judged_after, IsOf, IsSubmitAnswer, checked_reply}
 use Rattle.review_machine_rows.specs.View.{IsDecided, counted, fact, AreEnough, view}
 use Rattle.review_machine_rows.specs.declared.rows.{ChangeEdit.ChangeEdit, Delta.Delta, Rows.Rows}
-use Rattle.review_machine_laws.proofs.{Changes.changes_bound, SoundProjects.has_project}
+use Rattle.review_core_standing.proofs.InThreads.{other_way}
+use Rattle.review_machine_laws.proofs.{Changes.changes_bound, Histories.OneEffective, SoundProjects.has_project}
 use Rattle.review_machine_accounts.proofs.Decided.{outcome_answer, refused_decided}
-use Rattle.{review_machine_accounts.specs.Decisions.IsEmpty, review_machine_changes.proofs.Made.request_is}
+use Rattle.review_machine_accounts.specs.Decisions.{IsEmpty}
+use Rattle.review_machine_changes.proofs.{Made.request_is, Requested.same_trees, Requested.split_all}
 use Rattle.review_machine_changes.proofs.Told.{lacks_project, change_told, right_told, ChangesAreSound}
 use Rattle.review_machine_changes.specs.Facts.{setting_in, next_request}
-use Rattle.review_machine_submits.proofs.Loaded.{standing_told}
+use Rattle.review_machine_submits.proofs.Loaded.{GroupsSuffice, standing_told}
 use Rattle.review_machine_submits.specs.Submits.{IsThere, change_at, AreJoinEdits, EditsChanges, IsJoinEdit, HasUnsound, judged_in, submit_list, JoinsChain, Makes, last_in}
 use Rattle.review_machine_submits.specs.inner.Words.{IsUnchained, IsUnlinked, IsSubmitted}
 use Rattle.review_file_rules.specs.declared.parts.Right.TheVariants as right

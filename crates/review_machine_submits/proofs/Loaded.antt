@@ -1,18 +1,8 @@
 -- What loaded rows tell for a question, and its answer.
-use Rattle.review_machine_changes.proofs.Told.{ChangesAreSound}
-use Rattle.review_core_standing.proofs.Made.{value_kept}
-use Rattle.review_core_standing.proofs.Made.{some_where}
-use Rattle.review_machine_changes.proofs.Told.{no_text}
-use Rattle.review_machine_changes.proofs.Requested.{same_trees}
-use Rattle.review_machine_changes.proofs.Requested.{same_in_all}
-use Rattle.review_machine_changes.proofs.Requested.{same_in}
-use Rattle.review_machine_changes.proofs.Requested.{held_in}
-use Rattle.review_machine_changes.proofs.Requested.{split_all}
-use Rattle.std.proofs.Common.{◌≡◌, ◌⊎◌, inl, inr, ℕ, List, [], ◌∷◌, Option, Some, None, true, false, refl, sym, ap, ◌∙◌, subst, ⊎_elim, is_some, option_and_then, IfErr, Result, IsErr, IsErrAnd, ◌≤◌, arith, length, Bool, cond, map, nat_le, ◌++◌, not, ◌||◌, nat_cmp, find, flat_map, option_map, if◌then◌else◌, bytes_eq, ℤ, ◌&&◌, ◌==◌, eqb-true, slice_get, ◌-◌, filter}
-use Rattle.std.proofs.lemmas.{Bool.Decides.nat_tests, Map.Entries.option_filter, Result.err_from_is_err_and}
-use Rattle.std.specs.{Cmp.Lexicographic.slice_cmp, List.AllByRecursion, List.Sorted.IsStrictlySortedBy, Map.keys_of}
-use Rattle.std.specs.Option.{option_map_or}
-use Rattle.review_names.specs.{Forms.is_within, Forms.most_patches, Groups.GroupList, Names.registered_users}
+use Rattle.std.proofs.Common.{◌≡◌, ◌⊎◌, inl, inr, ℕ, List, [], ◌∷◌, Option, Some, None, true, false, refl, sym, ap, ◌∙◌, subst, ⊎_elim, is_some, option_and_then, ◌≤◌, arith, length, Bool, cond, map, nat_le, ◌++◌, not, nat_cmp, find, flat_map, option_map, if◌then◌else◌, bytes_eq, ℤ, ◌&&◌, ◌==◌, eqb-true, slice_get, ◌-◌, filter}
+use Rattle.std.proofs.lemmas.{Bool.Decides.nat_tests, Map.Entries.option_filter}
+use Rattle.std.specs.{List.AllByRecursion, List.Sorted.IsStrictlySortedBy, Map.keys_of, Option.option_map_or}
+use Rattle.review_names.specs.{Forms.is_within, Forms.most_patches, Groups.GroupList}
 use Rattle.review_table.specs.Rows.{row_in, rows_of}
 use Rattle.review_words.specs.History.{Entry, is_project, is_account, is_branch, bases}
 use Rattle.review_words.specs.declared.changes.Role.{Role, TheVariants.Reviewer, TheVariants.Cc}
@@ -37,24 +27,24 @@ use Rattle.review_core_rules.specs.Facts.{AreStanding, stands, unless_zero}
 use Rattle.review_core_rules.specs.{Listed.AreListed, Listed.AreThose, Seen.seen, Seen.value_of, Seen.vote_cmp}
 use Rattle.review_core_rules.specs.{Shown.AreVotes, Shown.shown_vote, Shown.IsToldOf, Sound.IsSound, Votes.voted}
 use Rattle.review_core_rules.specs.declared.rows.{ChangeRows.ChangeRows, PatchRow.PatchRow, VoteKey.VoteKey}
-use Rattle.review_core_tables.proofs.Accounts.{in_table, is_listed, accounts_tell, has_row}
-use Rattle.review_core_tables.{proofs.Copied.vote_key, proofs.Copied.votes_tell, specs.Copies.group_list}
+use Rattle.review_core_tables.proofs.{Accounts.accounts_tell, Accounts.has_row, Copied.vote_key, Copied.votes_tell}
 use Rattle.review_machine_rows.proofs.Asked.{all_asked, change_asked, found_of, line_asked, file_asked}
 use Rattle.review_machine_rows.proofs.Lined.{texts_told, there_is}
 use Rattle.review_machine_rows.specs.Answer.{IsHistory, has_role, IsOf, first_refusal}
-use Rattle.review_machine_rows.specs.Changes.{Reading, Reads, change, file_of, own_of, texts_of, joined, groups_of, setting_of}
+use Rattle.review_machine_rows.specs.Changes.{Reading, change, file_of, own_of, texts_of, joined, groups_of, setting_of}
 use Rattle.review_machine_rows.specs.{Decisions.IsUnshown, Files.File}
-use Rattle.review_machine_rows.specs.Known.{IsKnown, change_in, known, is_so, commits_of, joined_of, Members, members_of}
+use Rattle.review_machine_rows.specs.Known.{IsKnown, change_in, known, is_so, commits_of, joined_of}
 use Rattle.review_machine_rows.specs.Lines.{line_of, most_depth, with_above}
 use Rattle.review_machine_rows.specs.Questions.{joined_change, query_refused_by, IsQueryAnswerBy}
 use Rattle.review_machine_rows.specs.Steps.{HasFile, OfQuery, line_steps, known_parent, project_for, question_wants, texts_in, unknown, wants_by}
 use Rattle.review_machine_rows.specs.View.{AreEnough, view}
 use Rattle.review_machine_rows.specs.declared.rows.{Rows.Rows, StoredFile.StoredFile}
-use Rattle.review_core_standing.proofs.Made.{order_kept, row_kept}
-use Rattle.review_machine_laws.proofs.{Grouped.in_group, Histories.OneEffective, Histories.same_file}
-use Rattle.review_machine_laws.proofs.{Rows.rows_tell, Rows.joined_rows, SoundProjects.has_project}
-use Rattle.review_machine_accounts.proofs.Told.{project_told, bases_told, Agree, held_told, refused_question, told_question}
-use Rattle.review_machine_accounts.specs.inner.Words.{is_held}
+use Rattle.review_core_standing.proofs.Made.{value_kept, some_where, order_kept, row_kept}
+use Rattle.review_machine_laws.proofs.{Histories.OneEffective, Rows.rows_tell, Rows.joined_rows}
+use Rattle.review_machine_laws.proofs.SoundProjects.{has_project}
+use Rattle.review_machine_accounts.proofs.Told.{project_told, bases_told, Agree, refused_question, told_question}
+use Rattle.review_machine_changes.proofs.Requested.{same_trees, same_in_all, split_all}
+use Rattle.review_machine_changes.proofs.Told.{ChangesAreSound, no_text}
 use Rattle.review_machine_submits.specs.inner.Told.{LacksFile, setting_by, is_on, IsToldBy}
 use Rattle.review_words.specs.declared.command.Query.TheVariants as asked
 use Rattle.review_machine_rows.specs.declared.rows.Want.TheVariants as want

@@ -1,8 +1,7 @@
 -- What is given up, and the places that it leaves.
-use Rattle.std.proofs.lemmas.Bool.{or_parts}
 use Rattle.std.proofs.Common.{ℕ, ◌≤◌, List, length, take, sym, take_all, All, ◌≡◌, Bool, true, false, cond, ◌||◌, Option, Some, None, refl, ap, ◌∙◌, subst, ⊎_elim, nat_lt, option_map, unwrap_or, [], ◌∷◌, Result, Ok, Err, arith, drop, length-drop, is_some, nat_cmp, OnErr, OnOk}
-use Rattle.std.proofs.lemmas.{Bool.cases_Bool, List.Elements.All-same, List.Folds.list_any-append}
-use Rattle.std.proofs.lemmas.Map.Views.{tells_apart}
+use Rattle.std.proofs.lemmas.Bool.{or_parts, cases_Bool}
+use Rattle.std.proofs.lemmas.{List.Elements.All-same, List.Folds.list_any-append, Map.Views.tells_apart}
 use Rattle.std.specs.{BTreeMap.is_at, Cmp.Lexicographic.slice_cmp, declared.cmp.Ordering.Ordering}
 use Rattle.review_table.specs.Rows.{HasNoEmptyPlace, row_in, rows_of, after_row_edit, row_edit_of, changed, is_named, place_at, HasEmptyOnly}
 use Rattle.review_table.specs.declared.table.RowEdit.{RowEdit}
@@ -36,8 +35,7 @@ no_row least rows i below none = at (row_in answer_cmp rows (key_of i)) refl
 
 -- nor has the request that is stored
 not_kept : (least : ℕ) (kept i : Identity) → nat_lt i.epoch least ≡ true → is_among (if_lower least (key_of kept)) (key_of i) ≡ false → is_same kept i ≡ false
-not_kept least kept i below none =
-    ⊎_elim
+not_kept least kept i below none = ⊎_elim
     (λ (t : is_same kept i ≡ true).
     absurd (let e = among_own least (key_of kept) (key_of i) (tells_apart exact_answer (key_of kept) (key_of i) (at_answer (key_of kept) (key_of i) ∙ t)) below in cc))
     (λ (f : is_same kept i ≡ false). f)
@@ -48,8 +46,7 @@ given_up : (o : Option ℕ) (rows : List (AnswerKey × StoredAnswer)) (kept i : 
     option_map Answered (stored_row i mid) ≡ cond (is_same kept i) (Some x) (answer_of rows i) →
     option_map Answered (stored_row i (cond (is_among (lower_of o rows (key_of kept)) (key_of i)) None mid)) ≡ cond (is_below o i.epoch) None (cond (is_same kept i) (Some x) (answer_of rows i))
 given_up None rows kept i x mid is = is
-given_up (Some least) rows kept i x mid is =
-    ⊎_elim
+given_up (Some least) rows kept i x mid is = ⊎_elim
     (λ (below : nat_lt i.epoch least ≡ true).
     at below (is_among (lower_of (Some least) rows (key_of kept)) (key_of i)) refl ∙ sym (ap (λ b. cond b None (cond (is_same kept i) (Some x) (answer_of rows i))) below))
     (λ (above : nat_lt i.epoch least ≡ false).

@@ -1,19 +1,14 @@
 -- Keys of answers: their order, and which of them are dropped.
-use Rattle.std.proofs.lemmas.Grind.{flat_map-append}
-use Rattle.std.proofs.lemmas.Map.Lookups.{both_Equal}
-use Rattle.review_machine_rows.proofs.Puts.{is_eq-then}
-use Rattle.std.proofs.lemmas.Bool.{or_right}
-use Rattle.std.proofs.Common.{◌≡◌, ℕ, Bool, true, false, ◌&&◌, ◌==◌, refl, sym, ◌∙◌, is_eq, nat_cmp, bytes_eq, Option, Some, None, Bor, option_map, option_copied, is_some, cond, List, ◌∷◌, subst, [], ap, ◌+◌, ◌<◌, ◌||◌, ◌++◌, length, get_or, take, map, ⊎_elim, append_assoc, append-nil, flat_map, nat_lt}
-use Rattle.std.proofs.lemmas.Bool.{cases_Bool}
+use Rattle.std.proofs.Common.{◌≡◌, ℕ, Bool, true, false, ◌&&◌, ◌==◌, refl, sym, ◌∙◌, is_eq, nat_cmp, bytes_eq, Option, Some, None, Bor, option_copied, is_some, cond, List, ◌∷◌, subst, [], ap, ◌+◌, ◌<◌, ◌||◌, ◌++◌, length, get_or, take, map, ⊎_elim, append-nil, nat_lt}
+use Rattle.std.proofs.lemmas.Bool.{or_right, cases_Bool}
 use Rattle.std.proofs.lemmas.Cmp.{then_total, on_total, nat_cmp_total, nat_list_cmp_total, tied_itself}
-use Rattle.std.proofs.lemmas.List.{map-append, take_more, Folds.list_any-append}
-use Rattle.std.proofs.lemmas.Map.Lookups.{CmpEqualImpliesEq, exact_unsigned, exact_bytes}
+use Rattle.std.proofs.lemmas.{Grind.flat_map-append, List.map-append, List.take_more, List.Folds.list_any-append}
+use Rattle.std.proofs.lemmas.Map.Lookups.{both_Equal, CmpEqualImpliesEq, exact_unsigned, exact_bytes}
 use Rattle.std.proofs.lemmas.Map.{Text.is_eq-slice_cmp, Views.tells_apart}
 use Rattle.std.specs.{BTreeMap.is_at, Cmp.IsTotalOrder, Cmp.unsigned_ties, Cmp.Lexicographic.slice_cmp}
-use Rattle.std.specs.{Map.Iter.deref_pair, Ordering.ordering_then}
-use Rattle.std.specs.declared.cmp.Ordering.{Ordering, TheVariants.Less, TheVariants.Equal}
+use Rattle.std.specs.{Map.Iter.deref_pair, Ordering.ordering_then, declared.cmp.Ordering.Ordering}
 use Rattle.review_table.specs.Rows.{row_in, is_named, place_at, HasEmptyOnly, HasNoEmptyPlace}
-use Rattle.review_table.specs.declared.table.RowEdit.{RowEdit}
+use Rattle.{review_table.specs.declared.table.RowEdit.RowEdit, review_machine_rows.proofs.Puts.is_eq-then}
 use Rattle.review_memory_rows.specs.Answers.{answer_cmp, is_among, if_lower, lower}
 use Rattle.review_memory_rows.specs.declared.answer_keys.{AnswerKey.AnswerKey, StoredAnswer.StoredAnswer}
 
@@ -127,8 +122,7 @@ among_lower least (e ∷ rows) q v below is =
 
 -- and no other is among them
 pub not_own : (least : ℕ) (k q : AnswerKey) → nat_lt q.epoch least ≡ false → is_among (if_lower least k) q ≡ false
-not_own least k q above =
-    ⊎_elim
+not_own least k q above = ⊎_elim
     (λ (t : nat_lt k.epoch least ≡ true). ap (λ b. is_among (cond b (k ∷ []) []) q) t ∙ at (is_at (answer_cmp k) q) refl t)
     (λ (f : nat_lt k.epoch least ≡ false). ap (λ b. is_among (cond b (k ∷ []) []) q) f)
     (cases_Bool (nat_lt k.epoch least))

@@ -1,11 +1,10 @@
 -- Changes that joined a branch, by the index of their places.
-use Rattle.std.proofs.lemmas.Map.Lookups.{both_Equal}
 use Rattle.std.proofs.Common.{◌≡◌, ℕ, ◌<◌, ◌==◌, List, [], ◌∷◌, ◌++◌, Option, Some, None, Bool, true, false, cond, refl, sym, ap, ◌∙◌, subst, eqb-true, arith, nat_cmp, flat_map, ◌≤◌, ◌⊎◌, inl, inr, ⊎_elim, ◌&&◌, not, max, eq-eqb, option_map, is_le, is_lt, bytes_eq, zero, suc, get_or, All, Contains, filter, AllPairs, option_to_list}
 use Rattle.std.proofs.lemmas.Bool.{and_parts, Decides.nat_tests}
 use Rattle.std.proofs.lemmas.Cmp.{then_total, on_total, nat_cmp_total, tied_itself, ranked}
 use Rattle.std.proofs.lemmas.List.Elements.{All-push, Contains-append_left, Contains-push}
 use Rattle.std.proofs.lemmas.List.{Kept.IsStrictlySortedBy-filter, Quantifiers.all_pairs_push}
-use Rattle.std.proofs.lemmas.Map.Lookups.{CmpEqualImpliesEq, exact_unsigned}
+use Rattle.std.proofs.lemmas.Map.Lookups.{both_Equal, CmpEqualImpliesEq, exact_unsigned}
 use Rattle.std.proofs.lemmas.{Map.Views.tells_apart, Slice.Eq.bytes_eq-Decides}
 use Rattle.std.specs.{BTreeMap.is_at, BTreeMap.Range.range_contains, Cmp.IsTotalOrder, Cmp.nat_cmp_is}
 use Rattle.std.specs.{List.AllByRecursion, List.Sorted.IsStrictlySortedBy, Map.keys_of, Ordering.ordering_then}

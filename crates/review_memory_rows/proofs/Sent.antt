@@ -1,11 +1,9 @@
 -- Patch sets by their commits.
-use Rattle.review_machine_rows.proofs.Joins.{unsent_from}
-use Rattle.std.proofs.lemmas.Map.Lookups.{both_Equal}
 use Rattle.std.proofs.Common.{◌≡◌, List, [], ◌∷◌, ◌++◌, Option, Some, None, Bool, true, false, cond, refl, sym, ap, ◌∙◌, subst, All, is_some, is_eq, IsSome, ℕ, ◌==◌, eqb-true, option_map, nat_cmp, ◌≤◌, ◌&&◌, not, arith, is_le, is_lt, bytes_eq, Result, Ok, Err, IfOk, MatchBool}
 use Rattle.std.proofs.lemmas.Bool.{and_parts}
 use Rattle.std.proofs.lemmas.Cmp.{tied_itself, then_total, on_total, nat_cmp_total, nat_list_cmp_total}
 use Rattle.std.proofs.lemmas.List.Elements.{All-from_recursion, recursion_from_All}
-use Rattle.std.proofs.lemmas.Map.Lookups.{CmpEqualImpliesEq, exact_unsigned, exact_bytes}
+use Rattle.std.proofs.lemmas.Map.Lookups.{both_Equal, CmpEqualImpliesEq, exact_unsigned, exact_bytes}
 use Rattle.std.proofs.lemmas.{Map.Views.tells_apart, Option.same_Some, Slice.Eq.bytes_eq-Decides}
 use Rattle.std.specs.BTreeMap.{is_at}
 use Rattle.std.specs.Cmp.{IsTotalOrder, unsigned_tied, unsigned_ties, nat_cmp_is, Lexicographic.slice_cmp}
@@ -15,6 +13,7 @@ use Rattle.review_table.specs.Rows.{after_row_edit, changed, row_edit_of, is_nam
 use Rattle.review_table.specs.declared.table.RowEdit.{RowEdit}
 use Rattle.review_core_rules.specs.Parts.{Part, PatchOf, PartRow, APatch, TheHeader, AHeader}
 use Rattle.review_core_rules.specs.declared.rows.{Header.Header, PatchRow.PatchRow}
+use Rattle.review_machine_rows.proofs.Joins.{unsent_from}
 use Rattle.review_machine_rows.specs.Known.{IsSender, IsCurrent, IsMergedWith, IsSentBy}
 use Rattle.review_machine_rows.specs.Rows.{edited, part_change, APart}
 use Rattle.review_machine_rows.specs.declared.rows.{Base.Base, ChangeEdit.ChangeEdit}

@@ -1,13 +1,13 @@
 -- Which places have no row.
-use Rattle.review_table.proofs.Plain.{some_or}
 use Rattle.std.proofs.Common.{◌≡◌, ℕ, ◌+◌, ◌<◌, suc, List, [], ◌∷◌, ◌++◌, Option, Some, None, IfSome, Bool, true, false, cond, ◌||◌, refl, ap, sym, ◌∙◌, length, take, drop, get_or}
 use Rattle.std.proofs.Math.Bool.{or_assoc, or-false}
 use Rattle.std.proofs.lemmas.{Bool.or_left, Bool.or_parts, Cmp.tied_itself}
 use Rattle.std.proofs.lemmas.List.{take-append-drop, take_more, Elements.All-head, Elements.All-tail}
 use Rattle.std.proofs.lemmas.Map.{lookup-none, Entries.none_past_head, Keys.IsDistinct-tail}
 use Rattle.std.specs.{BTreeMap.is_at, Cmp.IsTotalOrder, Cmp.eq_by_cmp_equiv, List.All, List.IsDistinct, Map.keys_of}
-use Rattle.std.specs.{Option.IsSome, Option.is_some, Ordering.eq_by_cmp, Prelude.option_map}
-use Rattle.{std.specs.declared.cmp.Ordering.Ordering, review_table.proofs.Places.changed_pushed}
+use Rattle.std.specs.Option.{IsSome, is_some}
+use Rattle.std.specs.{Ordering.eq_by_cmp, Prelude.option_map, declared.cmp.Ordering.Ordering}
+use Rattle.review_table.proofs.{Places.changed_pushed, Plain.some_or}
 use Rattle.review_table.specs.Rows.{flat, rows_of, changed, row_edit_of, after_row_edit, is_named, place_at, HasNoEmptyPlace}
 use Rattle.review_table.specs.declared.table.RowEdit.{RowEdit}
 

@@ -1,5 +1,4 @@
 -- Laws of places and rows.
-use Rattle.std.proofs.lemmas.Map.Lookups.{both_Equal}
 use denote.Enum.Compared.{Each, by}
 use denote.Enum.Declared.{Choice}
 use denote.Struct.Field.{Field}
@@ -9,7 +8,7 @@ use Rattle.std.proofs.lemmas.Cmp.{tied_itself, alike_right}
 use Rattle.std.proofs.lemmas.List.Elements.{All-head, All-tail, filter-append}
 use Rattle.std.proofs.lemmas.Map.{NonePasses}
 use Rattle.std.proofs.lemmas.Map.Entries.{length-keys_of, none_past_head, lookup-filter-keys}
-use Rattle.std.proofs.lemmas.Map.{Keys.IsDistinct-tail, Lookups.CmpEqualImpliesEq}
+use Rattle.std.proofs.lemmas.Map.{Keys.IsDistinct-tail, Lookups.both_Equal, Lookups.CmpEqualImpliesEq}
 use Rattle.std.proofs.lemmas.Map.Made.{distinct_count-le, distinct_count-from_IsDistinct, IsDistinct-from_count, update_all_none, lookup-map_values, keys_of-map_values}
 use Rattle.std.proofs.lemmas.Map.Views.{btree_map_len-from_list}
 use Rattle.std.specs.BTreeMap.{BTreeMap, btree_map_len, is_at, insert_entry, IsFromIterResult, Range.range_contains}
@@ -183,8 +182,7 @@ filter_here false x xs ys here same = absurd (cc)
 
 filter_all : {X : Type 0} (p : X → Bool) (xs : List X) → All (λ x. p x ≡ true) xs → filter p xs ≡ xs
 filter_all p [] all = refl
-filter_all p (x ∷ xs) all =
-    filter_here (p x) x xs (filter p xs) (All-head (λ y. p y ≡ true) x xs all) (filter_all p xs (All-tail (λ y. p y ≡ true) x xs all))
+filter_all p (x ∷ xs) all = filter_here (p x) x xs (filter p xs) (All-head (λ y. p y ≡ true) x xs all) (filter_all p xs (All-tail (λ y. p y ≡ true) x xs all))
 
 pub all_placed : {K X : Type 0} (cmp : K → K → Ordering) (t : List (K × Option X)) (cs : List (RowEdit K X)) → HavePlaces cmp t cs → placed cmp t cs ≡ cs
 all_placed cmp t cs places = filter_all (λ c. has_place cmp t c.key) cs places

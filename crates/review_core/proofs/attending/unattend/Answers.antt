@@ -1,5 +1,5 @@
+use Rattle.std.proofs.Common.{◌==◌, ◌&&◌, ◌∙◌, ap, not, None, true, if◌then◌else◌}
 use Rattle.std.proofs.Math.Bool.{and-true}
-use Rattle.std.proofs.Common.{◌≡◌, ◌==◌, ◌&&◌, ◌∙◌, ap, not, None, Bool, true, false, refl, if◌then◌else◌}
 use Rattle.review_words.specs.declared.command.ChangeCommand.TheVariants.{RemoveAttention}
 use Rattle.review_core_rules.specs.{Change.eligible, Change.no_copying, Change.settled, Seen.of_account, Seen.seen}
 use Rattle.review_core_tables.proofs.Accounts.{kept_nothing}

@@ -1,6 +1,5 @@
-use Rattle.std.proofs.lemmas.Bool.{not-true}
-use Rattle.std.proofs.Common.{◌≡◌, ◌∷◌, ◌++◌, [], ◌∙◌, Bool, true, false, not, ap, sym, refl, append_assoc}
-use Rattle.review_core_rules.specs.Change.{has_unresolved}
+use Rattle.std.proofs.Common.{◌≡◌, ◌∷◌, ◌++◌, [], ◌∙◌, true, ap, sym, append_assoc}
+use Rattle.{std.proofs.lemmas.Bool.not-true, review_core_rules.specs.Change.has_unresolved}
 use Rattle.review_core_standing.proofs.InThreads.{stays_unresolved, unresolved_here}
 use Rattle.review_core_standing.proofs.unresolved.ends_unresolved.Goals as goal
 

@@ -1,6 +1,5 @@
-use Rattle.std.proofs.lemmas.Bool.{not-true}
 use Rattle.std.proofs.Common.{◌∙◌, ap, subst, sym, option_copied, option_map}
-use Rattle.std.proofs.lemmas.Result.{IfOk-weaker, IfErr-weaker}
+use Rattle.std.proofs.lemmas.{Bool.not-true, Result.IfOk-weaker, Result.IfErr-weaker}
 use Rattle.review_words.specs.declared.{command.Command.TheVariants.Submit, reply.NotTaken.TheVariants.Damaged}
 use Rattle.{review_words.specs.declared.reply.Refusal.TheVariants.NoChange, review_core_rules.specs.Seen.seen}
 use Rattle.review_machine_rows.specs.{Decisions.IsUndecided, Steps.OfCommand, View.AreEnough}

@@ -52,8 +52,7 @@ in_use c = λ k there.
     let given = c.in_ok-given.given.items in
     let held = c.in_ok-held.held.items in
     let first = c.drop_names.ensures.no_more k there in
-    let listed = subst (λ names. row_in name_cmp (rows_of names) k ≡ Some tt) c.release_removed.ensures.names (c.drop_given.ensures.no_more k first) in
-    ⊎_elim
+    let listed = subst (λ names. row_in name_cmp (rows_of names) k ≡ Some tt) c.release_removed.ensures.names (c.drop_given.ensures.no_more k first) in ⊎_elim
     (λ old. ⊎_elim
     (λ still. ap (λ (d : Desk). row_in nat_cmp d.accounts k.account) (same_desk c) ∙ still)
     (λ had. All-contains (IsUsed (rows_of last.accounts) (rows_of last.names)) held k

@@ -1,6 +1,5 @@
-use Rattle.review_table.proofs.Plain.{some_mapped}
 use Rattle.std.proofs.Common.{◌≡◌, ◌≤◌, ◌+◌, ◌∙◌, ◌∷◌, [], List, ℕ, Some, None, cond, ap, ◌<◌, sym, subst, arith, All, is_some, option_map, IsSome, nat_cmp}
-use Rattle.std.specs.Cmp.Lexicographic.{slice_cmp}
+use Rattle.{std.specs.Cmp.Lexicographic.slice_cmp, review_table.proofs.Plain.some_mapped}
 use Rattle.review_table.specs.{Rows.rows_of, Rows.row_in, Rows.changed, declared.table.RowEdit.RowEdit}
 use Rattle.review_machine_rows.specs.Rows.{branch_cmp, place_cmp}
 use Rattle.review_machine_rows.specs.declared.rows.{BranchKey.BranchKey, PlaceKey.PlaceKey, Put.Put}
@@ -82,8 +81,7 @@ returns-in-Ok-clause-put c =
     let total = c.total.result + c.from.result in
     let totals = rows_of c.self.inside.totals in
     let after = rows_of c.apply-in-Ok.new.self in
-    let counted : WithRow (slice_cmp nat_cmp) totals base.key.project total after =
-    with_row (slice_cmp nat_cmp) totals after base.key.project total
+    let counted : WithRow (slice_cmp nat_cmp) totals base.key.project total after = with_row (slice_cmp nat_cmp) totals after base.key.project total
     (λ q. c.apply-in-Ok.ensures.all c.in-Ok.ensures.counted q ∙ (λ i. changed (slice_cmp nat_cmp) (c.in_ok-changes.ensures.counted i) q (row_in (slice_cmp nat_cmp) (c.begin-begun.ensures.totals i) q))) in
     subst (λ (v : BranchesView). IsPut base v (record { bases = rows_of c.begin-begun.new.bases; totals = after })) c.self.view_is
     (record {
