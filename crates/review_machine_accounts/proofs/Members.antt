@@ -1,15 +1,13 @@
 -- What changes in a group, and the row of a key after it.
 use Rattle.std.proofs.Common.{Bor, ◌≡◌, ℕ, ◌+◌, ◌<◌, ◌==◌, List, [], ◌∷◌, ◌++◌, length, get_or, take, map, Bool, true, false, cond, not, ◌&&◌, ◌||◌, refl, sym, ap, ◌∙◌, ⊎_elim, Option, Some, None, eqb-true, eq-eqb, arith, filter, nat_cmp, bytes_eq}
-use Rattle.std.proofs.lemmas.Bool.{and_right, not-true, cases_Bool, and_parts, and_from, Decides.nat_tests}
-use Rattle.std.proofs.lemmas.List.{take_more, map-append, Elements.filter-append}
+use Rattle.std.proofs.lemmas.Bool.{and_right, not-true, cases_Bool, and_parts, and_from}
+use Rattle.std.proofs.lemmas.List.Elements.{filter-append}
 use Rattle.std.proofs.lemmas.Map.Keys.{IsDistinct-head, IsDistinct-tail, IsDistinct-from_sorted}
-use Rattle.std.proofs.lemmas.{Map.Made.IsDistinct-keys_filter, Map.Text.is_eq-slice_cmp, Slice.Eq.bytes_eq-Decides}
-use Rattle.std.specs.{BTreeMap.is_at, Cmp.tied_then, Cmp.unsigned_tied, Cmp.Lexicographic.slice_cmp}
-use Rattle.std.specs.{List.list_any, List.AllByRecursion, List.IsDistinct, List.Sorted.IsStrictlySortedBy, Map.keys_of}
-use Rattle.{std.specs.Map.Iter.deref_pair, std.specs.Ordering.eq_by_cmp, review_table.proofs.Plain.some_or}
+use Rattle.std.{proofs.lemmas.Map.Made.IsDistinct-keys_filter, specs.Cmp.tied_then, specs.Cmp.unsigned_tied}
+use Rattle.std.specs.List.{list_any, AllByRecursion, IsDistinct, Sorted.IsStrictlySortedBy}
+use Rattle.std.specs.Ordering.{eq_by_cmp}
 use Rattle.review_table.specs.Rows.{NamesOnce, after_row_edit, row_edit_of, row_in}
-use Rattle.review_table.specs.declared.table.RowEdit.{RowEdit}
-use Rattle.review_machine_rows.specs.Rows.{MemberRow, member_change, member_cmp}
+use Rattle.review_machine_rows.proofs.Common.{MemberRow, RowEdit, bytes_eq-Decides, deref_pair, is_at, is_eq-slice_cmp, keys_of, map-append, member_change, member_cmp, nat_tests, slice_cmp, some_or, take_more}
 use Rattle.review_machine_rows.specs.declared.rows.MemberKey.{MemberKey as Member}
 use Rattle.review_machine_accounts.specs.inner.Words.{added, dropped, leaves, is_held, member_of}
 

@@ -1,25 +1,20 @@
 -- What rows that agree with a history tell of it.
 use Rattle.std.proofs.Common.{◌≡◌, ℕ, ◌+◌, ◌<◌, ◌≤◌, ◌==◌, List, [], ◌∷◌, Option, Some, None, Bool, true, false, cond, ◌&&◌, ◌||◌, refl, sym, ap, ◌∙◌, ⊎_elim, arith, eq-eqb, leb-true, is_some, IsSome, nat_le, option_map, bytes_eq, zero, suc, length, ◌⊎◌, nat_cmp, nat_lt, length-append, ◌++◌, subst, MatchOption}
-use Rattle.std.proofs.Math.Bool.{or-false}
-use Rattle.std.proofs.lemmas.Bool.{cases_Bool, cases_lt, and_parts, Decides.nat_tests}
-use Rattle.{std.proofs.lemmas.Slice.Eq.bytes_eq-Decides, review_names.specs.Names.admin_name}
-use Rattle.review_table.{proofs.Plain.some_mapped, proofs.Plain.some_or, specs.Rows.row_in}
+use Rattle.std.proofs.{Math.Bool.or-false, lemmas.Bool.cases_Bool, lemmas.Bool.cases_lt, lemmas.Bool.and_parts}
+use Rattle.review_names.specs.Names.{admin_name}
 use Rattle.review_words.specs.History.{Entry, accepted, counted, named, is_named, account_count, name_of, name_taken, is_account, is_listed, is_project, bases, is_base, least_open, base_count, with_base, base_counted}
-use Rattle.review_words.specs.declared.command.Command.{Command}
 use Rattle.review_words.specs.declared.command.Command.TheVariants.{CreateAccount, PutGroup, PutProject, RecordBase, CloseEpoch, CreateChange, OnChange, Submit}
-use Rattle.review_words.specs.declared.{command.Query.Query, reply.Answer.Answer}
-use Rattle.review_words.specs.declared.reply.Refusal.{Refusal, TheVariants.UnknownCaller}
-use Rattle.review_words.specs.declared.reply.Reply.TheVariants.{Done, Refused}
+use Rattle.review_words.specs.declared.command.Query.{Query}
 use Rattle.review_machine_rows.proofs.Asked.{found_of, all_asked}
+use Rattle.review_machine_rows.proofs.Common.{Answer, Base, Command, Done, File, OfQuery, Refusal, Refused, Rows, StoredFile, UnknownCaller, bytes_eq-Decides, first_refusal, nat_tests, row_in, some_mapped, some_or}
 use Rattle.review_machine_rows.proofs.Joins.{past_end, some_at, nothing_at_zero}
-use Rattle.review_machine_rows.{proofs.Lined.there_is, proofs.Puts.based_from, specs.Answer.first_refusal}
-use Rattle.review_machine_rows.specs.{Changes.Reading, Changes.own_of, Changes.is_known, Changes.is_sent, Files.File}
+use Rattle.review_machine_rows.proofs.{Lined.there_is, Puts.based_from}
+use Rattle.review_machine_rows.specs.Changes.{Reading, own_of, is_known, is_sent}
 use Rattle.review_machine_rows.specs.Known.{IsFoundByName, IsLast, known, Agrees, IsKnown, is_so, is_there, number_of, holder_of, members_of, commits_of, at_place, IsBaseOrNot, count_of, most}
 use Rattle.review_machine_rows.specs.Questions.{IsQueryAnswerBy, IsToldTo, query_checks, query_refused_by}
 use Rattle.review_machine_rows.specs.Rows.{AccountKey, AccountRow, MemberRow, FileRow, BaseRow, member_row}
-use Rattle.review_machine_rows.specs.{Steps.OfQuery, View.fact, View.view, View.counted as counted_in, View.AreEnough}
-use Rattle.review_machine_rows.specs.declared.rows.{Base.Base, BranchKey.BranchKey as Branch, Counted.Counted}
-use Rattle.review_machine_rows.specs.declared.rows.{Rows.Rows, StoredFile.StoredFile}
+use Rattle.review_machine_rows.specs.View.{fact, view, counted as counted_in, AreEnough}
+use Rattle.review_machine_rows.specs.declared.rows.{BranchKey.BranchKey as Branch, Counted.Counted}
 use Rattle.review_machine_laws.proofs.{Sent.sent_is, Shown.placed_at, Shown.listed_at}
 use Rattle.review_machine_accounts.specs.{Commits.known_in, inner.Words.is_held, inner.Words.member_of}
 use Rattle.review_machine_rows.specs.declared.rows.Want.TheVariants as want

@@ -1,16 +1,13 @@
 -- What an edit makes of a change, row by row.
 use Rattle.std.proofs.Common.{◌≡◌, ℕ, zero, suc, ◌+◌, ◌==◌, ◌≤◌, List, [], ◌∷◌, ◌++◌, length, length-append, Some, None, true, false, cond, refl, sym, ap, ◌∙◌, ⊎_elim, arith, eqb-true, nat_cmp, slice_get, ℤ, Option, option_map}
-use Rattle.std.proofs.lemmas.{Bool.cases_Bool, Bool.Decides.nat_tests, List.append-nil}
-use Rattle.{std.specs.Cmp.unsigned_tied, std.specs.declared.cmp.Ordering.Ordering, review_table.specs.Edited.edited_row}
+use Rattle.review_table.specs.Edited.{edited_row}
 use Rattle.review_table.specs.Rows.{NamesOnce, after_row_edit, row_edit_of, changed, place_at, row_in, rows_of}
-use Rattle.review_table.specs.declared.{edited.Edited.Edited, table.RowEdit.RowEdit}
-use Rattle.review_core_rules.specs.{Change.of_number, EditedChanges.IsBare, EditedChanges.after_edits}
-use Rattle.review_core_rules.specs.EditedRows.{edited_account}
+use Rattle.review_table.specs.declared.edited.Edited.{Edited}
+use Rattle.review_core_rules.specs.{EditedChanges.IsBare, EditedChanges.after_edits, EditedRows.edited_account}
 use Rattle.review_core_rules.specs.Parts.{Part, TheHeader, PatchOf, VoteOf, RoleOf, CommentOf, AttentionOf, AHeader, APatch, AVote, ARole, AComment, AnAttentionEntry, part_row}
 use Rattle.review_core_rules.specs.Seen.{of_account, seen, value_of, vote_cmp}
-use Rattle.review_core_rules.specs.{Votes.voted, declared.edited_change.EditedChange.EditedChange}
-use Rattle.review_core_rules.specs.declared.rows.{ChangeRows.ChangeRows, VoteKey.VoteKey}
-use Rattle.review_machine_rows.specs.{Rows.part_change, Rows.vote_row, declared.rows.ChangeEdit.ChangeEdit}
+use Rattle.review_core_rules.specs.declared.edited_change.EditedChange.{EditedChange}
+use Rattle.review_machine_rows.proofs.Common.{ChangeEdit, ChangeRows, Ordering, RowEdit, VoteKey, append-nil, cases_Bool, nat_tests, of_number, part_change, unsigned_tied, vote_row, voted}
 use Rattle.review_machine_change_rows.specs.Edits.{puts_after}
 
 -- ==== rows that are put under the next numbers

@@ -1,9 +1,7 @@
 -- Rows by their numbers, in order.
 use Rattle.std.proofs.Common.{◌≡◌, ℕ, zero, suc, ◌+◌, ◌<◌, ◌≤◌, ◌==◌, true, false, cond, List, [], ◌∷◌, ◌++◌, length, Some, None, refl, sym, ap, ◌∙◌, subst, ⊎_elim, arith}
-use Rattle.std.proofs.lemmas.{Bool.cases_lt, Bool.Decides.nat_tests, Cmp.ranked, List.append-nil}
-use Rattle.std.specs.{Cmp.unsigned_tied, List.AllByRecursion, List.Sorted.IsStrictlySortedBy, Map.keys_of}
-use Rattle.std.specs.{Ordering.nat_cmp, Prelude.slice_get, declared.cmp.Ordering.TheVariants.Less}
-use Rattle.{review_table.specs.Rows.row_in, review_core_rules.specs.Change.of_number}
+use Rattle.std.{proofs.lemmas.Cmp.ranked, specs.List.Sorted.IsStrictlySortedBy, specs.Prelude.slice_get}
+use Rattle.review_machine_rows.proofs.Common.{AllByRecursion, Less, append-nil, cases_lt, keys_of, nat_cmp, nat_tests, of_number, row_in, unsigned_tied}
 use Rattle.review_machine_change_rows.specs.inner.Words.{AreInOrder, numbered}
 
 -- one more row under the next number

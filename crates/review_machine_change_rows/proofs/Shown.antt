@@ -1,10 +1,8 @@
 -- The change that tables show.
 use Rattle.std.proofs.Common.{◌≡◌, ℕ, Option, Some, None, Result, Ok, Err, refl, sym, ap, subst, ◌∙◌, nat_cmp, IfErr, option_map, IsErr, IsErrAnd}
-use Rattle.{review_table.specs.Rows.row_in, review_table.specs.Rows.rows_of, review_core_rules.specs.Change.of_number}
 use Rattle.review_core_rules.specs.Parts.{Part, TheHeader, PatchOf, VoteOf, RoleOf, CommentOf, AttentionOf, AHeader, APatch, ARole, AComment, AnAttentionEntry}
-use Rattle.review_core_rules.specs.{Seen.seen, Seen.vote_cmp, declared.rows.ChangeRows.ChangeRows}
-use Rattle.review_core_rules.specs.declared.rows.{CommentRow.CommentRow, PatchRow.PatchRow, VoteKey.VoteKey}
-use Rattle.{review_machine_rows.specs.Rows.vote_row, review_machine_change_rows.proofs.Edited.vote_is}
+use Rattle.review_machine_rows.proofs.Common.{ChangeRows, CommentRow, PatchRow, VoteKey, of_number, row_in, rows_of, seen, vote_cmp, vote_row}
+use Rattle.review_machine_change_rows.proofs.Edited.{vote_is}
 use Rattle.review_machine_change_rows.specs.Tables.{HaveFault, Show, part_in}
 use Rattle.review_machine_change_rows.specs.declared.loading.ChangeFault.{ChangeFault}
 use Rattle.review_machine_change_rows.specs.declared.loading.ChangeFault.TheVariants.{Memory, Gap}

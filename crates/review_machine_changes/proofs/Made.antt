@@ -1,31 +1,24 @@
 -- What a command on a change that is done makes of the rows.
 use Rattle.std.proofs.Common.{ℕ, Result, IfOk, refl, sym, subst, nat_cmp, ◌≡◌, zero, suc, ◌+◌, ◌==◌, ◌≤◌, ◌<◌, List, [], ◌∷◌, ◌++◌, Option, Some, None, Bool, true, false, cond, ap, ◌∙◌, ⊎_elim, arith, is_some, nat_le, nat_lt, option_map, min, length, eqb-true, unwrap_or}
-use Rattle.std.proofs.lemmas.{Bool.cases_Bool, Bool.Decides.nat_tests, Result.IfOk-weaker}
-use Rattle.std.specs.declared.alloc.AllocError.{AllocError}
 use Rattle.review_names.specs.Forms.{is_within, most_changes, most_comments, most_patches}
 use Rattle.review_table.specs.Rows.{NamesOnce, after_row_edit, row_edit_of}
 use Rattle.review_words.specs.History.{Entry, entry_of, base_count, project_count, least_open}
-use Rattle.review_words.specs.declared.changes.{NewPatch.NewPatch, Review.Review as ReviewOf}
-use Rattle.review_words.specs.declared.command.ChangeCommand.{ChangeCommand}
+use Rattle.review_words.specs.declared.{changes.Review.Review as ReviewOf, command.ChangeCommand.ChangeCommand}
 use Rattle.review_words.specs.declared.command.ChangeCommand.TheVariants.{Review as ReviewCommand, Upload as UploadCommand}
-use Rattle.review_words.specs.declared.command.Command.{Command, TheVariants.OnChange}
-use Rattle.review_words.specs.declared.reply.Answer.{Answer, TheVariants.Patch, TheVariants.Reviewed}
-use Rattle.review_words.specs.declared.reply.{Refusal.Refusal, Reply.Reply, Reply.TheVariants.Done}
+use Rattle.review_words.specs.declared.reply.Answer.TheVariants.{Patch, Reviewed}
 use Rattle.review_core_rules.proofs.Stays.{within_from, within_next, within_parts}
 use Rattle.review_core_rules.specs.Change.{Change, after_copying, after_plain, carried, copying, current, is_lost, said, after as change_after_request}
-use Rattle.review_core_rules.specs.{Counts.AreMany, EditedChanges.Makes, EditedChanges.after_edits}
-use Rattle.review_core_rules.specs.{Parts.Part, Parts.part_row, Seen.seen, Sound.IsSound, Votes.voted}
-use Rattle.review_core_rules.specs.declared.{edited_change.EditedChange.EditedChange, rows.ChangeRows.ChangeRows}
+use Rattle.review_core_rules.specs.EditedChanges.{Makes, after_edits}
+use Rattle.review_core_rules.specs.{Parts.Part, Parts.part_row, declared.edited_change.EditedChange.EditedChange}
 use Rattle.review_machine_rows.proofs.Asked.{requests_are}
+use Rattle.review_machine_rows.proofs.Common.{AllocError, Answer, AreMany, ChangeEdit, ChangeRows, Command, Delta, Done, File, IfOk-weaker, IsSound, NewPatch, OfCommand, OnChange, Refusal, Reply, Rows, cases_Bool, nat_tests, seen, voted}
 use Rattle.review_machine_rows.proofs.Puts.{no_base, no_base_more, no_file, no_project}
 use Rattle.review_machine_rows.specs.Answer.{first_refusal, IsAnswerBy, IsOf, IsUploadAnswer, comment_numbers, most_requests, numbers_after, refused_by}
 use Rattle.review_machine_rows.specs.Changes.{Reading, change, setting_of}
 use Rattle.review_machine_rows.specs.Decisions.{NamesChangesOnce, NamesEachOnce, NamesRowsOnce}
-use Rattle.review_machine_rows.specs.{Files.File, Known.part_of, Known.known, Known.number_of}
+use Rattle.review_machine_rows.specs.Known.{part_of, known, number_of}
 use Rattle.review_machine_rows.specs.Rows.{member_cmp, APart, edited, part_change, Key, Row, AccountKey, MemberKey, FileKey, BaseKey, PartKey, OddKey, Count, Projects, BasesOf, ClosedEpochs, account_change, member_change, after, count_after}
-use Rattle.review_machine_rows.specs.Steps.{OfCommand}
 use Rattle.review_machine_rows.specs.View.{AreEnough, IsDecided, counted, fact, view}
-use Rattle.review_machine_rows.specs.declared.rows.{ChangeEdit.ChangeEdit, Delta.Delta, Rows.Rows}
 use Rattle.review_machine_change_rows.proofs.Edited.{after_mapped}
 use Rattle.review_machine_accounts.proofs.Decided.{outcome_answer}
 use Rattle.review_machine_changes.specs.Facts.{EditsChange, MakesChange, next_request, setting_in}

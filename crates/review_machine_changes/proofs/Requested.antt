@@ -1,36 +1,29 @@
 -- Requests on a change.
 use Rattle.std.proofs.Common.{◌≡◌, ℕ, List, [], ◌∷◌, ◌++◌, Option, Some, None, Bool, true, false, cond, ◌==◌, ◌&&◌, ◌||◌, refl, sym, ap, ◌∙◌, subst, map, filter, find, int_eq, is_some, int_le, bytes_eq, ℤ, nat_cmp, option_map, not, nat_lt, zero, suc, ◌+◌, ◌≤◌, length, arith, nat_le}
-use Rattle.std.proofs.lemmas.Bool.{and_from, and_parts, Decides.nat_tests}
-use Rattle.std.specs.{Cmp.Lexicographic.slice_cmp, List.AllByRecursion, List.list_all, List.list_any}
-use Rattle.std.specs.Option.{option_map_or}
+use Rattle.std.proofs.lemmas.Bool.{and_from, and_parts}
+use Rattle.std.specs.List.{AllByRecursion, list_all, list_any}
 use Rattle.review_names.specs.Forms.{is_within, most_patches, most_comments}
 use Rattle.review_names.specs.{Groups.has_account, Groups.GroupList, Names.registered_users}
-use Rattle.review_table.specs.Rows.{row_in, rows_of}
-use Rattle.review_words.specs.{History.Entry, History.is_account, History.is_admin, Texts.IsCommentNumber}
-use Rattle.review_words.specs.declared.changes.{Given.Given, NewPatch.NewPatch, Review.Review as ReviewOf}
-use Rattle.review_words.specs.declared.command.ChangeCommand.{ChangeCommand}
+use Rattle.review_words.specs.History.{Entry, is_account, is_admin}
+use Rattle.review_words.specs.{Texts.IsCommentNumber, declared.changes.Review.Review as ReviewOf}
 use Rattle.review_words.specs.declared.command.ChangeCommand.TheVariants.{Review as ReviewCommand, Upload, Upload as UploadCommand, AddReviewer, RemoveReviewer, SetWip, SetReady, Abandon, Restore, AddAttention, RemoveAttention}
-use Rattle.review_words.specs.declared.command.Command.TheVariants.{OnChange}
-use Rattle.review_words.specs.declared.reply.{Answer.TheVariants.Nothing, NotTaken.TheVariants.Damaged, Refusal.Refusal}
 use Rattle.review_words.specs.declared.reply.Refusal.TheVariants.{UnknownCaller, NoPatchSet, Closed, StalePatchSet, NoLabel, ValueOut, VoteRestricted, NotAllowed, CommitKnown, UnknownParent, Limit, NoComment, NoAccount, SameState, NotEligible}
-use Rattle.review_words.specs.declared.reply.Reply.{Reply, TheVariants.Done}
 use Rattle.review_expr_judging.specs.{Holds.copy_holds, Holds.holds, declared.facts.VoteFacts.VoteFacts}
-use Rattle.review_expr.specs.{Exprs.holds_for, declared.expr.Expr.Expr}
+use Rattle.review_expr.specs.Exprs.{holds_for}
 use Rattle.review_file_rules.specs.Named.{SameIn, SameInAll, copy_groups, copying_groups, groups_in}
 use Rattle.review_file_rules.specs.Rights.{grants_of, greatest_of, least_of}
 use Rattle.review_file_rules.specs.Trees.{ExprTree, file_trees, label_trees, OfCopy, tree_of}
-use Rattle.review_file_rules.specs.{View.LabelView, declared.parts.Grant.Grant}
+use Rattle.review_file_rules.specs.declared.parts.Grant.{Grant}
 use Rattle.review_core_rules.specs.Change.{Change, current, is_open, label_in, reviewed, Setting, condition_holds, copying, is_copied, vote_facts, said, after, after_plain, eligible}
 use Rattle.review_core_rules.specs.Sound.{fits, answer_stored}
 use Rattle.review_core_tables.{proofs.Accounts.in_table, proofs.Accounts.is_listed, specs.Copies.group_list}
 use Rattle.review_machine_rows.proofs.Asked.{file_asked}
+use Rattle.review_machine_rows.proofs.Common.{ChangeCommand, Damaged, Delta, Done, Expr, File, Given, IsUndecided, LabelView, NewPatch, Nothing, OnChange, Refusal, Reply, Rows, nat_tests, option_map_or, row_in, rows_of, slice_cmp}
 use Rattle.review_machine_rows.specs.Answer.{first_refusal, given_checks, is_in_range, is_value_of, of_change, refused_by, review_checks, upload_checks, IsRequestOutcome, has_role, is_merged, request_checks}
 use Rattle.review_machine_rows.specs.Changes.{Reading, Reads, file_of, groups_of, setting_of, texts_of, change}
-use Rattle.review_machine_rows.specs.{Decisions.IsUndecided, Files.File}
 use Rattle.review_machine_rows.specs.Known.{IsKnown, known, change_in, Members, members_of}
 use Rattle.review_machine_rows.specs.Steps.{HasFile, OfCommand, caller_in, given_wants, granted_groups, has_some, named_in}
 use Rattle.review_machine_rows.specs.View.{AreEnough, IsDecided}
-use Rattle.review_machine_rows.specs.declared.rows.{Delta.Delta, Rows.Rows}
 use Rattle.review_machine_laws.proofs.{Changes.all_pass, Changes.Passes, Grouped.in_group}
 use Rattle.review_machine_laws.proofs.Histories.{OneEffective, same_file}
 use Rattle.review_machine_accounts.proofs.Decided.{admin_is, asked_beside, outcome_answer}

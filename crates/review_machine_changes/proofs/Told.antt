@@ -1,33 +1,26 @@
 -- What rows tell of changes: of a new one, and of one whose command isn't decided.
 use Rattle.std.proofs.Common.{◌≡◌, ℕ, List, [], ◌∷◌, Some, ◌||◌, refl, sym, ap, ◌∙◌, nat_le, bytes_eq, ◌+◌, ◌==◌, length, Option, None, Bool, true, false, cond, not, subst, eqb-true, arith, nat_cmp, is_some, nat_lt, option_map, unwrap_or, ◌⊎◌, inl, inr, ⊎_elim, option_and_then, IfErr, Result, IsErr, IsErrAnd}
-use Rattle.std.proofs.lemmas.{Bool.Decides.nat_tests, Result.err_from_is_err_and}
-use Rattle.std.specs.List.{AllByRecursion, list_any}
-use Rattle.review_names.specs.{Forms.most_changes, Groups.has_account, Names.registered_users}
+use Rattle.std.{proofs.lemmas.Result.err_from_is_err_and, specs.List.AllByRecursion, specs.List.list_any}
+use Rattle.review_names.specs.Names.{registered_users}
 use Rattle.review_table.specs.Rows.{after_row_edit, row_edit_of}
 use Rattle.review_words.specs.History.{Entry, is_branch, entry_of, base_count, is_account, is_project, project_count, least_open}
-use Rattle.review_words.specs.declared.changes.{Given.Given, NewChange.NewChange, NewPatch.NewPatch}
-use Rattle.review_words.specs.declared.{changes.Review.Review as ReviewOf, command.ChangeCommand.ChangeCommand}
+use Rattle.review_words.specs.declared.changes.Review.{Review as ReviewOf}
 use Rattle.review_words.specs.declared.command.ChangeCommand.TheVariants.{Review as ReviewCommand, Upload as UploadCommand}
 use Rattle.review_words.specs.declared.command.Command.TheVariants.{CreateChange, OnChange}
 use Rattle.review_words.specs.declared.reply.NotTaken.{NotTaken as Cause, TheVariants.Damaged, TheVariants.Memory}
-use Rattle.review_words.specs.declared.reply.Refusal.{Refusal}
 use Rattle.review_words.specs.declared.reply.Refusal.TheVariants.{UnknownCaller, NoProject, NoBranch, NotAllowed, CommitKnown, UnknownParent, Limit, NoChange}
-use Rattle.review_words.specs.declared.reply.Reply.TheVariants.{Done}
 use Rattle.review_file_rules.specs.{Rights.groups_of as right_groups, declared.parts.Right.Right}
-use Rattle.review_core_rules.specs.{Change.Change, Change.begun, Parts.Part, Parts.part_row, Sound.IsSound}
 use Rattle.review_machine_rows.proofs.Asked.{found_of, file_asked, line_asked, change_asked}
+use Rattle.review_machine_rows.proofs.Common.{Change, ChangeCommand, ChangeEdit, Delta, Done, File, Given, IsSound, IsUndecided, NewChange, NewPatch, Part, Refusal, Rows, StoredFile, begun, has_account, most_changes, nat_tests, part_row}
 use Rattle.review_machine_rows.proofs.Lined.{texts_told, there_is}
 use Rattle.review_machine_rows.proofs.Puts.{no_base, no_base_more, no_file, no_project}
 use Rattle.review_machine_rows.specs.Answer.{has_right, first_refusal, refused_by, IsHistory, of_change, request_checks}
 use Rattle.review_machine_rows.specs.Changes.{Reading, Reads, change, change_count, file_of, groups_of, texts_of, is_known, own_of}
-use Rattle.review_machine_rows.specs.{Decisions.IsUndecided, Files.File}
 use Rattle.review_machine_rows.specs.Known.{known, IsKnown, change_in, number_of, part_of}
 use Rattle.review_machine_rows.specs.Lines.{line_of, with_above, most_depth}
 use Rattle.review_machine_rows.specs.Rows.{Key, AccountKey, MemberKey, FileKey, BaseKey, PartKey, OddKey, APart, Count, Projects, BasesOf, ClosedEpochs, account_change, member_change, edited, after, count_after, part_change, member_cmp}
 use Rattle.review_machine_rows.specs.Steps.{HasFile, caller_in, OfCommand, command_wants, file_wants, given_wants, has_some, line_steps, needs_file, known_parent, project_for, request_wants, texts_in, unknown, wants_by}
 use Rattle.review_machine_rows.specs.View.{view, AreEnough, IsDecided, counted, fact}
-use Rattle.review_machine_rows.specs.declared.rows.{ChangeEdit.ChangeEdit, Delta.Delta, Rows.Rows}
-use Rattle.review_machine_rows.specs.declared.rows.StoredFile.{StoredFile}
 use Rattle.review_machine_laws.proofs.Changes.{last_change_is, all_pass, change_there, is_up_to}
 use Rattle.review_machine_laws.proofs.{Grouped.in_group, Histories.OneEffective, Histories.same_file, Rows.rows_tell}
 use Rattle.review_machine_laws.proofs.SoundProjects.{has_project}

@@ -1,29 +1,23 @@
 -- How many votes a change of a history has: they are counted, accounts gave them, and there is a most.
 use Rattle.std.proofs.Common.{◌≡◌, ℕ, ◌+◌, ◌==◌, ◌≤◌, List, [], ◌∷◌, length, Bool, true, false, cond, ◌&&◌, ◌||◌, refl, sym, ap, ◌∙◌, ⊎_elim, arith, eqb-true, eq-eqb, bytes_eq, ℤ, pos, Option, Some, None, subst, leb-true, le-leb, nat_le, option_map, zero, suc, ◌*◌, ◌<◌, ◌++◌, not, Less, Equal, Greater, nat_cmp, length-append, ltb-true, ltb-false, int_eq, is_some, nat_lt, find, filter, fold, codes}
 use Rattle.std.proofs.lemmas.Bool.{or_parts, or_left, or_right, and_parts, and_from, cases_Bool, cases_lt}
-use Rattle.std.proofs.lemmas.{List.length-map, Slice.Eq.bytes_eq-Decides}
-use Rattle.std.specs.{Cmp.Lexicographic.slice_cmp, List.list_any, Option.option_map_or, Ordering.match_ordering}
-use Rattle.{std.specs.declared.cmp.Ordering.Ordering, toml.specs.Data.Data, toml.specs.Data.table}
-use Rattle.review_names.specs.Forms.{is_label}
+use Rattle.std.{proofs.lemmas.List.length-map, proofs.lemmas.Slice.Eq.bytes_eq-Decides, specs.Ordering.match_ordering}
+use Rattle.toml.specs.Data.{Data, table}
 use Rattle.review_file_document.specs.{Document.members_at, Limits.most_parts}
 use Rattle.review_words.specs.History.{Entry, accepted, if_done, account_count, counted, is_account}
-use Rattle.review_words.specs.declared.changes.{Given.Given, NewPatch.NewPatch, Review.Review as ReviewOf}
-use Rattle.review_words.specs.declared.command.{ChangeCommand.ChangeCommand, Command.Command}
+use Rattle.review_words.specs.declared.changes.Review.{Review as ReviewOf}
 use Rattle.review_words.specs.declared.command.Command.TheVariants.{CreateAccount, CreateChange, OnChange}
-use Rattle.review_words.specs.declared.reply.{Answer.Answer, Refusal.TheVariants.UnknownCaller, Reply.Reply}
-use Rattle.{review_words.specs.declared.reply.Reply.TheVariants.Done, review_expr.specs.declared.expr.Expr.Expr}
 use Rattle.review_file_rules.specs.Expressions.{EachTo, IsLabel}
 use Rattle.review_file_rules.specs.Inherited.{inherited_labels, put_by}
 use Rattle.review_file_rules.specs.{Spelled.label_in, Spelled.named, Spelled.spelled, View.FileView, View.LabelView}
 use Rattle.review_core_rules.proofs.Stays.{removed_on}
 use Rattle.review_core_rules.specs.Change.{Change, Copying, Setting, after, begun, carried, copying, current, given_or, reviewed, is_lost}
 use Rattle.review_core_rules.specs.Counts.{AreApart, AreMany, has_vote}
-use Rattle.review_core_rules.specs.{Votes.voted, declared.rows.VoteKey.VoteKey}
+use Rattle.review_machine_rows.proofs.Common.{Answer, ChangeCommand, Command, Done, Expr, Given, IsRead, NewPatch, Ordering, Reply, StoredFile, UnknownCaller, VoteKey, is_label, list_any, option_map_or, slice_cmp, voted}
 use Rattle.review_machine_rows.proofs.Readings.{IsDoneBy, done_of}
 use Rattle.review_machine_rows.specs.Answer.{IsAnswerBy, IsHistory, checks, IsUploadAnswer, is_value_of}
 use Rattle.review_machine_rows.specs.Changes.{Reading, Reads, change, change_by, change_count, setting_of, submitted, effective_of, file_of, own_of, texts_of}
-use Rattle.review_machine_rows.specs.{Files.IsRead, Lines.line_of, Lines.most_depth, Lines.with_above}
-use Rattle.review_machine_rows.specs.declared.rows.StoredFile.{StoredFile}
+use Rattle.review_machine_rows.specs.Lines.{line_of, most_depth, with_above}
 use Rattle.review_machine_laws.proofs.Changes.{joining_keeps, all_pass, done_passes}
 use Rattle.review_machine_laws.proofs.{Histories.line_read, Rows.made_holds, SoundProjects.votes_stand}
 use Rattle.review_machine_deliveries.proofs.Files.{AreReadRight, spelled_once}

@@ -1,24 +1,19 @@
 -- Effective files, as they are gathered row by row.
 use Rattle.std.proofs.Common.{◌≡◌, inl, inr, ℕ, ◌<◌, List, [], ◌∷◌, Option, Some, None, true, refl, sym, ap, ◌∙◌, subst, All, is_some, ◌++◌, zero, suc, Bool, false, cond, Result, Ok, Err, option_and_then, option_map, IfErr, IsErr, IsErrAnd}
-use Rattle.std.specs.{List.AllByRecursion, Option.option_or, Option.option_map_or}
-use Rattle.review_words.specs.{History.Entry, History.is_project, declared.command.Command.Command}
 use Rattle.review_words.specs.declared.command.Command.TheVariants.{CreateAccount, PutGroup, PutProject, RecordBase, CloseEpoch, CreateChange, OnChange, Submit}
 use Rattle.review_words.specs.declared.reply.NotTaken.{NotTaken as Cause}
 use Rattle.review_words.specs.declared.reply.NotTaken.TheVariants.{Memory, Store, Damaged, Pattern, Full}
-use Rattle.review_file_rules.specs.{Inherited.IsEffective, Reading.named_parent}
-use Rattle.review_core_rules.specs.Change.{Change}
 use Rattle.review_machine_rows.proofs.Asked.{or_stays, none_in, all_made, asking_lowers, asks_first, each_known, line_asked}
+use Rattle.review_machine_rows.proofs.Common.{APart, AllByRecursion, Change, Command, Entry, File, IsEffective, Rows, ShelfFault, StoredFile, Tables, Want, is_project, named_parent, option_map_or, option_or, view}
 use Rattle.review_machine_rows.proofs.Lined.{fewer, own_told, texts_told, there_is}
 use Rattle.review_machine_rows.proofs.Readings.{reading_of}
 use Rattle.review_machine_rows.specs.Changes.{Reading, change, effective_of, texts_of}
 use Rattle.review_machine_rows.specs.Decisions.{HasPatternIn, IsUnread, SomePattern, judging_project, topic_project}
-use Rattle.review_machine_rows.specs.Files.{File}
 use Rattle.review_machine_rows.specs.Known.{Found, IsFound, known, IsKnown, Agrees, AreAdded, AChange, part_of, change_in, file_in}
-use Rattle.review_machine_rows.specs.{Lines.most_depth, Lines.line_of, Lines.with_above, Rows.Tables, Rows.APart}
+use Rattle.review_machine_rows.specs.Lines.{most_depth, line_of, with_above}
 use Rattle.review_machine_rows.specs.Shelf.{Shows, LeavesBy, cause_of, IsDamaged}
 use Rattle.review_machine_rows.specs.Steps.{HasComeTo, Topic, change_wants, file_wants, first_wants, left, line_steps, next, next_of, or_next, parent_of, unknown, unless_none, wants_in, OfCommand, OfQuery, HasFile, asks_file, line_wants, needs_file, own_in, known_parent, parent_or, project_for, project_of, texts_for, texts_in}
-use Rattle.review_machine_rows.specs.{View.view, declared.rows.Need.Need, declared.rows.Rows.Rows}
-use Rattle.review_machine_rows.specs.declared.{rows.StoredFile.StoredFile, rows.Want.Want, shelf.ShelfFault.ShelfFault}
+use Rattle.review_machine_rows.specs.declared.rows.Need.{Need}
 use Rattle.review_machine_laws.proofs.{Histories.effective_is, Histories.line_read, Rows.rows_tell}
 use Rattle.review_machine_deliveries.proofs.{Files.AreReadRight, Histories.view_of}
 use Rattle.review_machine_deliveries.specs.Gathered.{IsSoFar, StaysKnown, IsJudgedByPattern, IsUngathered}

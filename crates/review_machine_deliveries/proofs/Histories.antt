@@ -1,28 +1,23 @@
 -- Histories with one more delivery: identities, tables, and what an answer rests on.
 use Rattle.std.proofs.Common.{◌++◌, ◌∷◌, ◌||◌, ℕ, Bool, true, false, List, [], if◌then◌else◌, arith, ◌≡◌, ◌+◌, ◌≤◌, length, Option, Some, None, cond, refl, sym, ap, ◌∙◌, subst, ⊎_elim, inl, inr, eqb-true, eq-eqb, ◌==◌, ◌&&◌, MatchOption, nat_le, nat_lt, unwrap_or, bytes_eq, ◌<◌, Result, Ok, Err}
-use Rattle.std.proofs.lemmas.{Bool.and_parts, Bool.and_from, Bool.cases_Bool, Slice.Eq.bytes_eq-Decides}
+use Rattle.std.proofs.lemmas.Bool.{and_parts, and_from, cases_Bool}
 use Rattle.review_words.specs.History.{Entry, entry_of, is_closed, Identity, stored, is_same, latest, may_follow, version_of, least_open, if_done}
-use Rattle.review_words.specs.{Texts.content_text, Texts.reply_text, Texts.IsStored, declared.changes.NewPatch.NewPatch}
-use Rattle.review_words.specs.declared.command.{ChangeCommand.ChangeCommand, Command.Command}
+use Rattle.review_words.specs.Texts.{content_text, reply_text, IsStored}
 use Rattle.review_words.specs.declared.command.Command.TheVariants.{CreateAccount, PutGroup, PutProject, RecordBase, CloseEpoch, CreateChange, OnChange, Submit}
-use Rattle.review_words.specs.declared.command.Delivery.{Delivery, TheVariants.Write, TheVariants.Read}
-use Rattle.review_words.specs.declared.reply.{Answer.TheVariants.Nothing, NotTaken.NotTaken as Cause}
+use Rattle.review_words.specs.declared.reply.NotTaken.{NotTaken as Cause}
 use Rattle.review_words.specs.declared.reply.NotTaken.TheVariants.{Memory, Store, Pattern, Full}
-use Rattle.review_words.specs.declared.reply.{Refusal.Refusal, Reply.Reply}
 use Rattle.review_words.specs.declared.reply.Reply.TheVariants.{Done, Refused, IdentityReused, EpochClosed, NotTaken}
-use Rattle.{review_core_rules.specs.Change.Change, review_machine_rows.proofs.Asked.requests_are}
+use Rattle.review_machine_rows.proofs.Asked.{requests_are}
+use Rattle.review_machine_rows.proofs.Common.{Change, ChangeCommand, Command, Delivery, Delta, File, IsDoneOrRefused, NewPatch, Nothing, Read, Reading, Reads, Refusal, Reply, RestsOn, Rows, ShelfFault, Write, bytes_eq-Decides, change}
 use Rattle.review_machine_rows.proofs.Readings.{closed_stays, own_open, reading_of, IsToldDone, sent_or_done}
 use Rattle.review_machine_rows.specs.Answer.{IsHistory, IsAnswer, IsAnswerBy, IsAnswerAt, epoch_checks, IsOf, IsOutcome, IsRequestOutcome, IsUploadAnswer, file_checks, first_refusal, refused_by, refused_or, most_requests}
-use Rattle.review_machine_rows.specs.Changes.{Reading, Reads, change}
-use Rattle.review_machine_rows.specs.{Decisions.IsDoneOrRefused, Decisions.RestsOn, Files.File}
 use Rattle.review_machine_rows.specs.Known.{Agrees, known, number_of}
 use Rattle.review_machine_rows.specs.Rows.{AnswerRow, Stored, Answered, Tables, ClosedEpochs, after, count_after, is_below, Key, Count, HasNoEffect, new_least, is_above}
 use Rattle.review_machine_rows.specs.Shelf.{IsCommitted, Answers, Shows, Views, LeavesBy, IsCounted, cause_of}
 use Rattle.review_machine_rows.specs.Steps.{Topic, OfCommand, OfQuery}
 use Rattle.review_machine_rows.specs.Submits.{IsSubmitAnswer, checked_reply}
 use Rattle.review_machine_rows.specs.View.{AreEnough, IsView, IsViewBy, IsDecidedAt, view, fact, stored_answer, kept_answer, answer_row}
-use Rattle.review_machine_rows.specs.declared.rows.{Delta.Delta, Rows.Rows, Want.TheVariants.Requests}
-use Rattle.review_machine_rows.specs.declared.shelf.ShelfFault.{ShelfFault}
+use Rattle.review_machine_rows.specs.declared.rows.Want.TheVariants.{Requests}
 use Rattle.{review_machine_laws.proofs.Parents.history_from, review_machine_deliveries.proofs.Stored.entry_stored}
 use Rattle.review_machine_deliveries.specs.Formed.{AllFormed, AreFormed, HasForm, IsFormed}
 use Rattle.review_machine_deliveries.specs.Gathered.{IsAllAsked}

@@ -1,11 +1,9 @@
 -- Runs: one delivery more, several lists, and the shelf closed between them.
 use Rattle.std.proofs.Common.{◌≡◌, ℕ, zero, suc, ◌+◌, ◌-◌, ◌<◌, ◌≤◌, take, List, [], ◌∷◌, ◌++◌, length, get_or, true, false, cond, ◌||◌, refl, sym, ap, ◌∙◌, subst, inl, inr, ⊎_elim, arith, length-append, get_or-append-add, is_some, Option, append_assoc, append-nil}
 use Rattle.std.proofs.Math.{Bool.or-false, Bool.or-true, Seq.take-append-add}
-use Rattle.std.proofs.lemmas.{Bool.cases_Bool, Bool.cases_lt, List.get_or_append_left, List.take-append-le}
-use Rattle.review_words.specs.History.{Entry, Identity, stored, is_same, entry_of, is_closed}
-use Rattle.review_words.specs.declared.command.Delivery.{Delivery, TheVariants.Write, TheVariants.Read}
-use Rattle.review_words.specs.declared.reply.Reply.{Reply, TheVariants.Done}
-use Rattle.review_machine_rows.{proofs.Readings.open_before, specs.Answer.IsHistory, specs.Rows.Tables}
+use Rattle.std.proofs.lemmas.List.{get_or_append_left, take-append-le}
+use Rattle.review_machine_rows.proofs.Common.{Delivery, Done, Entry, Identity, IsHistory, Read, Reply, Tables, Write, cases_Bool, cases_lt, entry_of, is_closed, is_same, stored}
+use Rattle.review_machine_rows.proofs.Readings.{open_before}
 use Rattle.review_machine_rows.specs.Shelf.{Shown, Views, StaysOrShuts}
 use Rattle.review_core_standing.proofs.Made.{accounts_counted}
 use Rattle.review_machine_laws.proofs.{Parents.sound_branches, SoundProjects.sound_projects}

@@ -1,13 +1,8 @@
 -- A run that begins again.
 use Rattle.std.proofs.Common.{append_assoc, ◌≡◌, ◌⊎◌, ℕ, zero, suc, ◌<◌, take, drop, get_or, List, [], ◌∷◌, ◌++◌, length, Option, Some, None, Bool, true, false, cond, ◌||◌, refl, sym, ap, ◌∙◌, subst, inl, inr, ⊎_elim, arith, length-take-le, is_some, MatchOption}
-use Rattle.std.proofs.lemmas.Bool.{cases_Bool}
-use Rattle.review_words.specs.History.{Entry, Identity, IsFirst, stored, is_same, entry_of, is_closed}
-use Rattle.review_words.specs.declared.command.{Command.Command, Delivery.Delivery}
-use Rattle.review_words.specs.declared.command.Delivery.TheVariants.{Write, Read}
-use Rattle.review_words.specs.declared.reply.Reply.{Reply, TheVariants.EpochClosed, TheVariants.NotTaken}
+use Rattle.review_machine_rows.proofs.Common.{Command, Delivery, Entry, EpochClosed, Identity, IsAnswer, IsDoneOrRefused, IsFirst, IsHistory, IsView, NotTaken, Read, Reply, Tables, Write, cases_Bool, entry_of, is_closed, is_same, stored}
 use Rattle.review_machine_rows.proofs.Readings.{closed_stays, open_before, reading_of}
-use Rattle.review_machine_rows.specs.{Answer.IsHistory, Answer.IsAnswer, Decisions.IsDoneOrRefused, Rows.Tables}
-use Rattle.{review_machine_rows.specs.View.IsView, review_machine_laws.proofs.Parents.history_from}
+use Rattle.review_machine_laws.proofs.Parents.{history_from}
 use Rattle.review_machine_deliveries.proofs.Histories.{answer_given, told_where, where_told, stored_stays, stored_here, stored_there, same_to, passed_over}
 use Rattle.review_machine_deliveries.proofs.Outcomes.{one_answer_in}
 use Rattle.review_machine_deliveries.proofs.Ran.{HasSince, since_start, since_old, since_new, since_closed, dropped, added, each_way, with_taken-append, first-append, history_after-append}

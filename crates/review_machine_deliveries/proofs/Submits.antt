@@ -1,12 +1,8 @@
 -- One answer to a submit.
 use Rattle.std.proofs.Common.{◌≡◌, ◌∙◌, ℕ, List, [], ◌∷◌, Option, Some, None, sym, ap, subst, inl, inr, MatchOption}
-use Rattle.review_words.specs.{History.Entry, declared.reply.Refusal.Refusal, declared.reply.Reply.Reply}
-use Rattle.review_words.specs.declared.{reply.Reply.TheVariants.Refused, shown.ShownRequirement.ShownRequirement}
 use Rattle.review_chain.proofs.Walking.{one_walk, one_end, chain_meets, bad_meets}
-use Rattle.review_chain.specs.{Branches.Branch, Steps.TheBase, Steps.Bad, declared.walks.ChainFault.ChainFault}
-use Rattle.review_core_rules.specs.Change.{Change, Setting}
-use Rattle.review_core_rules.specs.Facts.{AreStanding, IsFirstUnsatisfied, unsatisfied_in}
-use Rattle.review_machine_rows.specs.Changes.{Reading}
+use Rattle.review_chain.specs.Steps.{TheBase, Bad}
+use Rattle.review_machine_rows.proofs.Common.{AreStanding, Branch, ChainFault, Change, Entry, IsFirstUnsatisfied, Reading, Refusal, Refused, Reply, Setting, ShownRequirement, unsatisfied_in}
 use Rattle.review_machine_rows.specs.Submits.{HasBadLink, HasChain, IsOf, IsSubmitAnswer, branch_after, checked_reply, judged_after, refusal_of}
 
 -- Requirements stand in one way for a change, as the law of statuses has it.

@@ -1,24 +1,19 @@
 -- The changes of a history: which there are, what each was made for, and that each is sound.
 use Rattle.std.proofs.Common.{◌≡◌, ℕ, ◌+◌, List, length, Option, Some, None, refl, subst, is_some, ◌<◌, ◌≤◌, ◌==◌, [], ◌∷◌, Bool, true, false, cond, ◌&&◌, ◌||◌, sym, ap, ◌∙◌, ⊎_elim, arith, leb-true, IsSome, nat_le, option_map, bytes_eq, ◌++◌, eqb-true, MatchOption, zero, suc, ltb-true}
-use Rattle.std.proofs.{Math.Bool.or-true, lemmas.Bool.cases_lt, lemmas.Bool.and_parts, lemmas.Bool.cases_Bool}
-use Rattle.std.{proofs.lemmas.Bool.Decides.nat_tests, specs.List.AllByRecursion, specs.Option.option_map_or}
+use Rattle.std.proofs.lemmas.Bool.{cases_lt, and_parts, cases_Bool}
 use Rattle.review_names.specs.Forms.{is_within, most_comments, most_changes}
-use Rattle.review_table.proofs.Plain.{some_mapped, some_or}
 use Rattle.review_words.specs.History.{Entry, accepted, if_done, is_account}
-use Rattle.review_words.specs.declared.changes.{NewChange.NewChange, Review.Review as ReviewOf}
-use Rattle.review_words.specs.declared.command.{ChangeCommand.ChangeCommand, Command.Command}
+use Rattle.review_words.specs.declared.changes.Review.{Review as ReviewOf}
 use Rattle.review_words.specs.declared.command.Command.TheVariants.{CreateChange, OnChange}
-use Rattle.review_words.specs.declared.reply.{Answer.Answer, Refusal.Refusal}
 use Rattle.review_words.specs.declared.reply.Refusal.TheVariants.{UnknownCaller, NoComment, Limit}
-use Rattle.review_words.specs.declared.reply.Reply.{Reply, TheVariants.Done, TheVariants.Refused}
 use Rattle.review_core_rules.proofs.Stays.{joins as joined_sound}
 use Rattle.review_core_rules.specs.Change.{Change, joined_at, after, begun, Copying, Setting, after_copying, copying, current, reviewed, said}
-use Rattle.review_core_rules.specs.{Parts.TheHeader, Sound.IsSound, Sound.answer_stored, Sound.fits}
+use Rattle.review_core_rules.specs.Sound.{IsSound, answer_stored, fits}
+use Rattle.review_machine_rows.proofs.Common.{APart, AllByRecursion, Answer, ChangeCommand, Command, Done, Key, NewChange, Refusal, Refused, Reply, Row, TheHeader, fact, nat_tests, option_map_or, or-true, some_mapped, some_or}
 use Rattle.review_machine_rows.proofs.Readings.{IsDoneBy, done_of}
 use Rattle.review_machine_rows.specs.Answer.{IsAnswerBy, IsHistory, IsOutcome, first_refusal, given_checks, of_change, refused_by, request_checks, checks}
 use Rattle.review_machine_rows.specs.Changes.{joined, joining, joining_at, place_in, Reading, asked_of, change, change_after, change_by, change_count, change_counted, setting_of, submitted, is_for, is_made_for, made, made_by, Reads, some_change}
 use Rattle.review_machine_rows.specs.Known.{IsLast, header_key, part_of}
-use Rattle.review_machine_rows.specs.{Rows.Key, Rows.Row, Rows.APart, View.fact}
 use Rattle.review_words.specs.declared.command.ChangeCommand.TheVariants as on
 
 -- ==== what becomes of a change where changes join their branch

@@ -1,13 +1,10 @@
 -- Who is in the groups of a history.
 use Rattle.std.proofs.Common.{◌≡◌, ℕ, List, [], ◌∷◌, Option, Some, None, Bool, true, false, cond, ◌||◌, ◌==◌, refl, sym, ap, ◌∙◌, ⊎_elim, unwrap_or}
-use Rattle.std.proofs.lemmas.{Bool.cases_Bool, Map.Text.is_eq-slice_cmp, Slice.Eq.bytes_eq-Decides}
-use Rattle.std.specs.{BTreeMap.insert_entry, BTreeMap.is_at, Cmp.Lexicographic.slice_cmp, List.list_any, Map.lookup}
-use Rattle.std.specs.{Ordering.is_eq, Ordering.match_ordering, Ordering.nat_cmp, Str.bytes_eq}
-use Rattle.std.specs.declared.cmp.Ordering.{Ordering, TheVariants.Less, TheVariants.Equal, TheVariants.Greater}
+use Rattle.std.specs.BTreeMap.{insert_entry, is_at}
+use Rattle.std.specs.{Map.lookup, Ordering.is_eq, Ordering.match_ordering, Ordering.nat_cmp, Str.bytes_eq}
 use Rattle.review_names.specs.Groups.{GroupList, has_account, members_in}
-use Rattle.review_names.specs.Names.{administrators, registered_users}
 use Rattle.review_words.specs.History.{Entry, accepted, is_listed, listed_members, put}
-use Rattle.review_words.specs.declared.command.Command.{Command, TheVariants.PutGroup}
+use Rattle.review_machine_rows.proofs.Common.{Command, Equal, Greater, Less, Ordering, PutGroup, administrators, bytes_eq-Decides, cases_Bool, is_eq-slice_cmp, list_any, registered_users, slice_cmp}
 use Rattle.review_machine_rows.specs.Changes.{group_put, groups_of}
 
 abbrev by_name : List ℕ → List ℕ → Ordering

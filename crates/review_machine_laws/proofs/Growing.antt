@@ -1,14 +1,10 @@
 -- Lines of projects that end, and what a new file makes of the files along them.
 use Rattle.std.proofs.Common.{◌≡◌, ℕ, ◌+◌, ◌<◌, zero, suc, List, [], ◌∷◌, length, Option, Some, None, Bool, true, false, refl, sym, ap, ◌∙◌, arith, not, ◌&&◌, option_and_then, option_map, bytes_eq, subst}
 use Rattle.std.proofs.lemmas.Bool.{and_parts, and_from, not_from_false, not-true}
-use Rattle.std.{proofs.lemmas.Slice.Eq.bytes_eq-Decides, specs.Option.option_map_or}
-use Rattle.review_expr.specs.declared.expr.Expr.{Expr}
 use Rattle.review_file_rules.proofs.Known.{OrderedLabels, child_covers, covers_itself, inherited_ordered, inherits_known, still_known}
-use Rattle.review_file_rules.specs.Expressions.{names_unknown_label}
-use Rattle.review_file_rules.specs.{Inherited.inherit, Inherited.inherits_unknown_label, Reading.IsRead, Rights.covers}
-use Rattle.{review_file_rules.specs.View.FileView, review_file.proofs.SoundLabels.labels_in_order}
-use Rattle.review_machine_rows.specs.Changes.{Reading, effective_of}
-use Rattle.review_machine_rows.specs.{Lines.line_of, Lines.with_above, declared.rows.StoredFile.StoredFile}
+use Rattle.review_file_rules.specs.{Expressions.names_unknown_label, Reading.IsRead}
+use Rattle.review_file.proofs.SoundLabels.{labels_in_order}
+use Rattle.review_machine_rows.proofs.Common.{Expr, FileView, Reading, StoredFile, bytes_eq-Decides, covers, effective_of, inherit, inherits_unknown_label, line_of, option_map_or, with_above}
 use Rattle.review_machine_laws.specs.Ends.{ends, ends_above, ends_by}
 
 -- ==== lines that end: what a project's line is, however far it is followed, and which projects stand in it

@@ -1,28 +1,20 @@
 -- The files of every history: they are sound, and keep what they had.
 use Rattle.std.proofs.Common.{◌≡◌, ℕ, List, [], ◌∷◌, Option, Some, None, Bool, true, false, not, refl, ⊎_elim, ◌||◌, nat_lt, ◌∙◌, cond, sym, ap, subst, arith, is_some, bytes_eq, ◌<◌, ◌&&◌, is_none, zero, suc}
-use Rattle.std.proofs.lemmas.{Bool.not-true, Bool.Decides.nat_tests, Slice.Eq.bytes_eq-Decides}
-use Rattle.std.specs.{List.AllByRecursion, Option.option_map_or}
+use Rattle.std.{proofs.lemmas.Slice.Eq.bytes_eq-Decides, specs.List.AllByRecursion}
 use Rattle.review_words.specs.History.{Entry, is_project, project_count, accepted, file_text, text_put, if_done}
-use Rattle.review_words.specs.declared.command.Command.{Command, TheVariants.PutProject}
-use Rattle.review_words.specs.declared.faults.FileFault.TheVariants.{UnknownLabel}
-use Rattle.review_words.specs.declared.reply.{Answer.Answer, Answer.TheVariants.Nothing, Refusal.Refusal}
 use Rattle.review_words.specs.declared.reply.Refusal.TheVariants.{BadFile, LabelNarrowed, Limit, NoParent, ParentDepth, ParentFixed}
-use Rattle.review_words.specs.declared.reply.Reply.{Reply, TheVariants.Done, TheVariants.Refused}
-use Rattle.review_expr.specs.declared.expr.Expr.{Expr}
 use Rattle.review_file_rules.proofs.Known.{OrderedLabels, covers_itself}
 use Rattle.review_file_rules.proofs.Trees.{covers_alike, inherit_alike, inherits_alike, OneFile}
 use Rattle.review_file_rules.specs.Expressions.{names_unknown_label}
 use Rattle.review_file_rules.specs.Inherited.{inherit, inherits_unknown_label, IsEffective}
-use Rattle.review_file_rules.specs.Reading.{IsRead, named_parent}
-use Rattle.review_file_rules.specs.{Rights.covers, Trees.ExprTree, Trees.file_trees, View.FileView}
+use Rattle.review_file_rules.specs.{Reading.IsRead, Reading.named_parent, Trees.ExprTree, Trees.file_trees}
 use Rattle.review_file.proofs.SoundLabels.{labels_in_order, known_labels}
+use Rattle.review_machine_rows.proofs.Common.{Answer, Command, Done, Expr, File, FileView, HasFile, Nothing, PutProject, Refusal, Refused, Reply, StoredFile, UnknownLabel, covers, nat_tests, not-true, option_map_or}
 use Rattle.review_machine_rows.proofs.Lined.{there_is}
 use Rattle.review_machine_rows.proofs.Readings.{not_refused, IsDoneBy, done_of, read_of}
 use Rattle.review_machine_rows.specs.Answer.{IsAnswerBy, IsFaultAnswer, IsFileAnswer, file_checks, file_with, first_refusal, keeps_parent, puts_unknown_label, refused_by, refused_or, IsHistory, is_same_parent}
 use Rattle.review_machine_rows.specs.Changes.{Reading, depth, file_of, effective_of, own_of, placed, IsReadRight, Reads, texts_of}
-use Rattle.review_machine_rows.specs.{Files.File, Limits.most_projects}
-use Rattle.review_machine_rows.specs.Lines.{most_depth, line_of, with_above}
-use Rattle.review_machine_rows.specs.{Steps.HasFile, declared.rows.StoredFile.StoredFile}
+use Rattle.review_machine_rows.specs.{Limits.most_projects, Lines.most_depth, Lines.line_of, Lines.with_above}
 use Rattle.review_machine_laws.proofs.Growing.{Files, more, more_is, SameBut, begins, began, ends_alike, ends_later, ends_spared, line_spared, there_avoids, ends_short, AreSpelled, IsPutAgain, OwnKnown, all_grow, eff, eff_later, eff_ordered, own_still_known, put_is, same_parents, eff_known}
 use Rattle.review_machine_laws.specs.Ends.{ends, ends_above}
 pub use Rattle.review_file.proofs.Parents.{parent_named}

@@ -1,20 +1,14 @@
 -- Which changes joined a branch, and at which places.
 use Rattle.std.proofs.Common.{◌≡◌, ℕ, List, ◌∷◌, Option, Some, None, refl, subst, inl, inr, ◌⊎◌, ◌+◌, ◌==◌, [], ◌++◌, length, Bool, true, false, cond, ◌&&◌, sym, ap, ◌∙◌, ⊎_elim, arith, eqb-true, append-nil, is_some, option_map, bytes_eq, ◌<◌, ◌≤◌, leb-true, All, Contains, nat_le, ◌||◌}
-use Rattle.std.proofs.lemmas.Bool.{not-true, and_right, and_parts, and_from, Decides.nat_tests}
-use Rattle.std.proofs.lemmas.List.{Elements.All-from_recursion, Folds.list_any-append}
+use Rattle.std.proofs.lemmas.Bool.{not-true, and_right, and_parts, and_from}
 use Rattle.std.proofs.lemmas.Map.{Keys.IsDistinct-cons, Made.option_or-none, Steps.length-le_from_distinct_below}
 use Rattle.std.specs.{List.AllByRecursion, List.IsDistinct, List.list_any, Option.option_or, Option.option_map_or}
 use Rattle.review_words.specs.History.{Entry, is_account, if_done, accepted, bases, is_base, with_base}
-use Rattle.review_words.specs.declared.command.{ChangeCommand.ChangeCommand, Command.Command}
 use Rattle.review_words.specs.declared.command.Command.TheVariants.{Submit, RecordBase, CreateChange, OnChange}
-use Rattle.review_words.specs.declared.reply.Answer.{Answer, TheVariants.Submitted}
-use Rattle.review_words.specs.declared.reply.{Refusal.TheVariants.UnknownCaller, Reply.Reply}
-use Rattle.review_words.specs.declared.reply.Reply.TheVariants.{Done, Refused}
 use Rattle.review_words.specs.declared.shown.State.{State, TheVariants.New, TheVariants.Merged}
 use Rattle.review_chain.proofs.Walking.{chain_ready, chain_distinct}
-use Rattle.review_chain.specs.{Walks.IsReady, declared.links.Link.Link}
 use Rattle.review_core_rules.specs.Change.{Change, after, begun, is_open, state_by, commit, of_number, parent, patches_by}
-use Rattle.review_core_rules.specs.{Facts.IsFirstUnsatisfied, declared.rows.PatchRow.PatchRow}
+use Rattle.review_machine_rows.proofs.Common.{All-from_recursion, Answer, ChangeCommand, Command, Done, IsFirstUnsatisfied, IsReady, Link, PatchRow, Refused, Reply, Submitted, UnknownCaller, list_any-append, nat_tests}
 use Rattle.review_machine_rows.proofs.Readings.{not_refused, IsDoneBy, done_of}
 use Rattle.review_machine_rows.specs.Answer.{IsAnswerBy, IsOutcome, checks, of_change, refused_by, submit_checks, IsHistory, request_checks}
 use Rattle.review_machine_rows.specs.Changes.{Reading, change, Reads, change_by, change_count, is_for, is_made_for, joined, joined_by, joined_in, joining, joining_at, place_in, setting_of, submitted}

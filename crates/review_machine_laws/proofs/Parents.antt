@@ -1,23 +1,16 @@
 -- Branches are sound: what an accepted submit joins was ready, and parents join before their children.
 use Rattle.std.proofs.Common.{◌≡◌, ◌⊎◌, inl, inr, ℕ, List, [], ◌∷◌, Option, Some, None, Bool, true, false, cond, refl, sym, ap, subst, ◌∙◌, All, MatchOption, option_map, Contains, zero, suc, ◌+◌, ◌&&◌, ⊎_elim, arith, slice_get, bytes_eq, ◌<◌, ◌++◌, length, option_and_then}
-use Rattle.std.proofs.lemmas.Bool.{and_parts, or_cases}
 use Rattle.std.proofs.lemmas.List.Elements.{All-from_recursion, recursion_from_All, All-weaker, Contains-append_left, Contains-append_right}
-use Rattle.std.{proofs.lemmas.Slice.Eq.bytes_eq-Decides, specs.List.AllByRecursion, specs.Option.option_map_or}
 use Rattle.review_words.specs.History.{Entry, is_base, accepted}
-use Rattle.review_words.specs.declared.command.Command.TheVariants.{Submit}
-use Rattle.review_words.specs.declared.reply.{Answer.Answer, Answer.TheVariants.Submitted, Reply.TheVariants.Done}
-use Rattle.review_words.specs.declared.shown.{ShownRequirement.ShownRequirement, State.State}
-use Rattle.review_words.specs.declared.shown.State.TheVariants.{New, Merged}
-use Rattle.review_chain.{proofs.Walking.chain_ready, specs.Branches.Branch, specs.Branches.parent_standing}
+use Rattle.review_words.specs.declared.shown.State.{State, TheVariants.New, TheVariants.Merged}
+use Rattle.review_chain.specs.Branches.{Branch, parent_standing}
 use Rattle.review_chain.specs.Walks.{IsReady, Follows, IsChain, IsWalk, first_of}
-use Rattle.review_chain.specs.declared.links.{Link.Link, Standing.Standing}
 use Rattle.review_chain.specs.declared.links.Standing.TheVariants.{InBranch, PatchSet, Nowhere}
 use Rattle.review_core_rules.specs.Change.{Change, Setting, is_open, commit, current, of_number, parent}
 use Rattle.review_core_rules.specs.Facts.{AreStanding, IsFirstUnsatisfied, is_unsatisfied, unsatisfied_in}
-use Rattle.review_core_rules.specs.declared.rows.PatchRow.{PatchRow}
-use Rattle.review_machine_rows.{proofs.Readings.IsDoneBy, proofs.Readings.done_of, specs.Answer.IsHistory}
+use Rattle.review_machine_rows.proofs.Common.{AllByRecursion, Answer, Done, IsHistory, Link, PatchRow, ShownRequirement, Standing, Submit, Submitted, and_parts, bytes_eq-Decides, chain_ready, link_for, option_map_or, or_cases}
+use Rattle.review_machine_rows.proofs.Readings.{IsDoneBy, done_of}
 use Rattle.review_machine_rows.specs.Changes.{Reading, Reads, change, joined_in, setting_of, joined, change_count, is_for, some_change, joined_by}
-use Rattle.review_machine_rows.specs.Links.{link_for}
 use Rattle.review_machine_rows.specs.Submits.{branch_after, judged_after, is_in_branch, is_merged, is_merged_commit, patch_for, patch_of, sent_or, sent_up_to, standing_of}
 use Rattle.review_machine_laws.proofs.Changes.{one_passing}
 use Rattle.review_machine_laws.proofs.Joined.{submit_accepted, same_change, contained_joined, merged_joined, state_merged, Gains, gains, joined_distinct, joined_merged, KeepsPatches, base_kept, commit_kept, merged_keeps, parent_kept, submit_keeps, placed}

@@ -1,16 +1,10 @@
 -- Patch sets and bases of a branch: what adds to them, that they stay, and that each has a commit of its own.
 use Rattle.std.proofs.Common.{◌≡◌, ℕ, ◌+◌, ◌==◌, List, ◌∷◌, length, Option, Some, None, Bool, true, false, cond, ◌⊎◌, inl, inr, refl, sym, ap, ◌∙◌, eqb-true, option_map, bytes_eq, zero, suc, [], ◌++◌, ◌&&◌, ◌||◌, ⊎_elim, is_some, slice_get, subst}
-use Rattle.std.proofs.Math.Bool.{or-true}
 use Rattle.std.proofs.lemmas.Bool.{or_cases, not-true, and_parts, cases_Bool, and_from}
-use Rattle.std.{proofs.lemmas.Slice.Eq.bytes_eq-Decides, specs.List.AllByRecursion, specs.List.list_any}
 use Rattle.review_names.specs.declared.kinds.ChangeKind.TheVariants.{Rework}
 use Rattle.review_words.specs.History.{Entry, accepted, if_done, is_account, bases, is_base, with_base}
-use Rattle.review_words.specs.declared.command.{ChangeCommand.ChangeCommand, Command.Command}
-use Rattle.review_words.specs.declared.command.Command.TheVariants.{RecordBase, CreateChange, OnChange}
-use Rattle.review_words.specs.declared.reply.{Answer.Answer, Refusal.TheVariants.UnknownCaller}
-use Rattle.review_words.specs.declared.reply.Reply.{Reply, TheVariants.Done}
 use Rattle.review_core_rules.specs.Change.{Change, after, begun, current, of_number, patches_by, joined_at, current_patch}
-use Rattle.review_core_rules.specs.declared.rows.PatchRow.{PatchRow}
+use Rattle.review_machine_rows.proofs.Common.{AllByRecursion, Answer, ChangeCommand, Command, CreateChange, Done, OnChange, PatchRow, RecordBase, Reply, UnknownCaller, bytes_eq-Decides, list_any, or-true}
 use Rattle.review_machine_rows.proofs.Readings.{IsDoneBy, done_of}
 use Rattle.review_machine_rows.specs.Answer.{IsAnswerBy, IsHistory, checks, request_checks}
 use Rattle.review_machine_rows.specs.Changes.{Reading, Reads, change, change_by, change_count, is_for, is_known, setting_of, submitted, has_commit, is_sent, joined, joining_at, place_in}

@@ -1,11 +1,10 @@
 -- Lists: their items by number, by place, and in order.
 use Rattle.std.proofs.Common.{◌≡◌, ℕ, zero, suc, ◌+◌, ◌<◌, ◌≤◌, List, [], ◌∷◌, ◌++◌, length, Some, None, ◌⊎◌, inl, inr, ap, refl, arith, slice_get, sym, ◌∙◌, ⊎_elim, ◌==◌, Option, Bool, true, false, cond, ◌||◌, subst, eqb-true, eq-eqb, All, Contains, option_map}
-use Rattle.std.proofs.lemmas.{Bool.cases_lt, List.Elements.recursion_from_All}
 use Rattle.std.proofs.lemmas.Map.Keys.{IsDistinct-head, IsDistinct-tail, IsDistinct-cons}
 use Rattle.std.proofs.lemmas.Option.{slice_get_past, slice_get_within, none-some, slice_get_cases, slice_get-get_or, get_or_from_slice_get}
-use Rattle.std.specs.{List.AllByRecursion, List.IsDistinct, List.list_any, Option.option_or}
-use Rattle.{review_table.proofs.Plain.all_at, review_core_rules.specs.Change.of_number}
-use Rattle.review_machine_rows.specs.Changes.{place_in}
+use Rattle.std.specs.List.{AllByRecursion, IsDistinct, list_any}
+use Rattle.review_table.proofs.Plain.{all_at}
+use Rattle.review_machine_rows.proofs.Common.{cases_lt, of_number, option_or, place_in, recursion_from_All}
 
 -- ==== items by their numbers, which are counted from 1
 

@@ -2,23 +2,18 @@
 use Rattle.std.proofs.Common.{◌≡◌, ℕ, ◌+◌, ◌==◌, List, [], ◌∷◌, length, Option, Some, None, Bool, true, false, cond, refl, sym, ap, subst, ◌∙◌, eqb-true, option_map, ℤ, suc, not, ⊎_elim, slice_get, ◌-◌, ◌<◌, ◌≤◌, arith, AllPairs, map, slice_index_or}
 use Rattle.std.proofs.lemmas.{Bool.cases_Bool, Bool.cases_lt, List.Elements.All-get_or}
 use Rattle.std.proofs.lemmas.Option.{get_or_from_slice_get, slice_get-get_or, slice_get-map, slice_get_within}
-use Rattle.{std.specs.List.AllByRecursion, std.specs.Option.option_map_or, review_names.specs.Forms.most_patches}
-use Rattle.review_words.specs.{History.Entry, History.accepted, History.if_done, declared.changes.NewChange.NewChange}
-use Rattle.review_words.specs.declared.{changes.Role.Role, command.ChangeCommand.ChangeCommand}
-use Rattle.review_words.specs.declared.command.Command.{Command, TheVariants.CreateChange, TheVariants.OnChange}
-use Rattle.review_words.specs.declared.reply.{Answer.Answer, Reply.Reply, Reply.TheVariants.Done}
-use Rattle.review_words.specs.declared.shown.JoinedChange.{JoinedChange}
+use Rattle.review_words.specs.History.{Entry, accepted, if_done}
+use Rattle.review_words.specs.declared.command.Command.TheVariants.{CreateChange, OnChange}
 use Rattle.review_core_rules.proofs.Stays.{zero_of, begins, stays, within_parts}
 use Rattle.review_core_rules.specs.Change.{Change, after, begun, joined_at, commit, current, of_number}
 use Rattle.review_core_rules.specs.Parts.{Part, TheHeader, PatchOf, VoteOf, RoleOf, CommentOf, AttentionOf, PartRow, AHeader, APatch, AVote, ARole, AComment, AnAttentionEntry, header_of, part_row}
-use Rattle.review_core_rules.specs.{Votes.voted, declared.rows.AttentionEntry.AttentionEntry}
-use Rattle.review_core_rules.specs.declared.rows.{CommentRow.CommentRow, Header.Header, PatchRow.PatchRow}
+use Rattle.review_core_rules.specs.declared.rows.AttentionEntry.{AttentionEntry}
+use Rattle.review_machine_rows.proofs.Common.{APart, AllByRecursion, Answer, BranchKey, ChangeCommand, Command, CommentRow, Done, Header, JoinedChange, NewChange, PatchRow, Reply, Role, fact, is_merged, most_patches, option_map_or, voted}
 use Rattle.review_machine_rows.proofs.{Joins.unsent_from, Readings.IsDoneBy, Readings.done_of}
 use Rattle.review_machine_rows.specs.Answer.{IsAnswerBy, IsHistory, request_checks}
 use Rattle.review_machine_rows.specs.Changes.{Reading, Reads, change, change_by, change_count, setting_of, submitted, joined, place_in}
 use Rattle.review_machine_rows.specs.Known.{part_of, HaveJoined, IsAtPlace, IsBefore, IsCurrent, IsJoinedAt, IsLastJoined}
-use Rattle.review_machine_rows.specs.{Questions.joined_change, Rows.APart, Submits.is_merged, View.fact}
-use Rattle.review_machine_rows.specs.declared.rows.BranchKey.{BranchKey}
+use Rattle.review_machine_rows.specs.Questions.{joined_change}
 use Rattle.review_machine_laws.proofs.Changes.{joining_keeps, Passes, checks_pass, done_passes, are_sound}
 use Rattle.review_machine_laws.proofs.Joined.{has_place, joined_distinct, joined_placed, state_merged, merged_stays}
 use Rattle.review_machine_laws.proofs.Places.{none_past, last_number, of_number_there, same_order, contained_get, get_placed, placed_get}

@@ -1,26 +1,20 @@
 -- What rows show of a branch.
 use Rattle.std.proofs.Common.{◌≡◌, ℕ, zero, suc, ◌<◌, ◌≤◌, List, [], ◌∷◌, length, Option, Some, None, true, false, cond, ◌&&◌, ◌||◌, refl, sym, ap, ◌∙◌, ⊎_elim, ◌⊎◌, inl, inr, arith, option_map, bytes_eq, ◌≢◌, Bool, subst, IsSome, is_some, option_and_then}
-use Rattle.std.proofs.Math.Bool.{or-true}
 use Rattle.std.proofs.lemmas.Bool.{or_cases, cases_Bool, and_parts, and_from, cases_lt}
-use Rattle.std.proofs.lemmas.{Option.same_Some, Slice.Eq.bytes_eq-Decides}
-use Rattle.std.specs.{List.list_any, Option.option_map_or}
-use Rattle.review_words.specs.{History.Entry, History.bases, History.is_base, declared.shown.State.TheVariants.Merged}
+use Rattle.review_words.specs.History.{Entry, bases, is_base}
 use Rattle.review_chain.{proofs.Parting.Says, proofs.Parting.wanted_says, specs.Branches.IsWhole, specs.Branches.Branch}
 use Rattle.review_chain.specs.Parts.{IsPart, IsWanted, NeedsChange, Want as ChainWant, TheChange, TheCommit}
-use Rattle.review_chain.specs.{Steps.wanted, Walks.IsWalk, Walks.first_of}
-use Rattle.review_chain.specs.declared.links.{Link.Link, Standing.Standing}
+use Rattle.review_chain.specs.Walks.{IsWalk, first_of}
 use Rattle.review_chain.specs.declared.links.Standing.TheVariants.{InBranch, PatchSet, Nowhere}
 use Rattle.review_core_rules.specs.Change.{Change, commit, current_patch, of_number, current}
 use Rattle.review_core_rules.specs.Parts.{TheHeader, PatchOf, APatch, header_of}
-use Rattle.review_core_rules.specs.declared.rows.{Header.Header, PatchRow.PatchRow}
-use Rattle.review_machine_rows.proofs.{Asked.commit_known, Asked.found_of, Joins.unsent_from, Puts.based_from}
-use Rattle.review_machine_rows.specs.Answer.{IsHistory}
+use Rattle.review_machine_rows.proofs.Asked.{commit_known, found_of}
+use Rattle.review_machine_rows.proofs.Common.{APart, Base, BaseRow, Header, IsHistory, Link, Merged, PartKey, PatchRow, Rows, Standing, bytes_eq-Decides, fact, list_any, look_up, option_map_or, or-true, same_Some, view, wanted}
+use Rattle.review_machine_rows.proofs.{Joins.unsent_from, Puts.based_from}
 use Rattle.review_machine_rows.specs.Changes.{Reading, Reads, change, change_count, is_for, some_change, is_known, is_sent}
 use Rattle.review_machine_rows.specs.Known.{IsCurrent, IsInBranch, IsMergedWith, IsSender, IsSentBy, StandsAs, at_place, part_of, Agrees, Found, IsKnown, change_in, known, standing_of as standing_in}
 use Rattle.review_machine_rows.specs.Links.{link_for, link_of, links_in}
-use Rattle.review_machine_rows.specs.{Rows.APart, Rows.BaseRow, Rows.PartKey, Steps.look_up}
 use Rattle.review_machine_rows.specs.Submits.{is_in_branch, is_merged, is_merged_commit, sent_up_to, standing_of, branch_after}
-use Rattle.review_machine_rows.specs.{View.fact, View.view, declared.rows.Base.Base, declared.rows.Rows.Rows}
 use Rattle.review_machine_laws.proofs.Changes.{one_passing, some_passes, within_count}
 use Rattle.review_machine_laws.proofs.Joined.{state_merged}
 use Rattle.review_machine_laws.proofs.Patches.{commits_apart, current_there, parents_known, IsSent, sent_patch}

@@ -1,22 +1,17 @@
 -- Projects of a history are sound, and each vote stands by the file of its project.
 use Rattle.std.proofs.Common.{◌≡◌, ℕ, ◌+◌, ◌==◌, List, [], ◌∷◌, length, Option, Some, None, Bool, true, false, cond, refl, sym, ap, ◌∙◌, subst, is_some, option_map, bytes_eq, ◌++◌, int_eq, ◌&&◌, ℤ, pos, eqb-true}
-use Rattle.std.proofs.{Math.Bool.and-true, lemmas.Slice.Eq.bytes_eq-Decides}
-use Rattle.std.specs.{List.list_any, List.AllByRecursion, Option.option_map_or}
+use Rattle.std.{proofs.Math.Bool.and-true, specs.List.list_any, specs.List.AllByRecursion}
 use Rattle.review_words.specs.History.{Entry, accepted, file_text, if_done, is_account, is_project, text_put}
-use Rattle.review_words.specs.declared.changes.{Given.Given, Review.Review as ReviewOf}
-use Rattle.review_words.specs.declared.command.{ChangeCommand.ChangeCommand, Command.Command}
+use Rattle.review_words.specs.declared.changes.Review.{Review as ReviewOf}
 use Rattle.review_words.specs.declared.command.Command.TheVariants.{PutProject, CreateChange, OnChange}
-use Rattle.review_words.specs.declared.reply.{Answer.Answer, Refusal.Refusal, Refusal.TheVariants.UnknownCaller}
-use Rattle.review_words.specs.declared.reply.Reply.{Reply, TheVariants.Done}
 use Rattle.review_file_rules.proofs.Known.{OrderedLabels, covers_found, covers_itself, covers_through, label_name, values_through}
-use Rattle.review_file_rules.{proofs.Named.named, proofs.Named.all_true, proofs.Trees.OneFile, specs.Rights.covers}
+use Rattle.review_file_rules.proofs.Named.{named, all_true}
 use Rattle.review_core_rules.proofs.Stays.{some_put}
 use Rattle.review_core_rules.specs.Change.{Change, after, begun, Setting, copying, current, given_or, reviewed, vote_by}
-use Rattle.review_core_rules.specs.Votes.{voted}
+use Rattle.review_machine_rows.proofs.Common.{Answer, ChangeCommand, Command, Done, File, Given, OneFile, Refusal, Reply, UnknownCaller, bytes_eq-Decides, covers, most_depth, option_map_or, voted}
 use Rattle.review_machine_rows.proofs.Readings.{IsDoneBy, done_of, reading_of}
 use Rattle.review_machine_rows.specs.Answer.{IsAnswerBy, IsHistory, checks, is_value_of, given_checks, request_checks}
 use Rattle.review_machine_rows.specs.Changes.{Reading, Reads, change, change_by, change_count, setting_of, submitted, file_of, own_of}
-use Rattle.review_machine_rows.specs.{Files.File, Lines.most_depth}
 use Rattle.review_machine_laws.proofs.Changes.{joining_keeps, all_pass, done_passes, Passes, checks_pass}
 use Rattle.review_machine_laws.proofs.Growing.{eff_ordered}
 use Rattle.review_machine_laws.proofs.Histories.{files_grow, lines_end, sound_files, labels_known}

@@ -1,15 +1,12 @@
 -- Asking that goes on: look-ups, steps, and the texts of a line.
 use native.Mathlib.Numerals.{unary_clauses}
 use Rattle.std.proofs.Common.{append_assoc, ◌≡◌, ℕ, ◌+◌, ◌<◌, List, [], ◌∷◌, ◌++◌, length, map, take, get_or, sym, ap, ◌∙◌, Option, Some, None, refl, subst, zero, suc, ◌≤◌, ◌-◌, true, false, cond, not, is_some, option_and_then, inl, inr, arith}
-use Rattle.std.{proofs.lemmas.List.take_more, proofs.lemmas.List.map-append, specs.Option.option_map_or}
-use Rattle.review_chain.{proofs.Parting.walked_alone, specs.Branches.Branch, specs.declared.walks.Walked.Walked}
+use Rattle.review_chain.{proofs.Parting.walked_alone, specs.declared.walks.Walked.Walked}
 use Rattle.review_file_rules.specs.{Patterns.HasPattern, declared.fault.ReadFault.ReadFault}
 use Rattle.review_file_lines.specs.Texts.{IsLineFault}
 use Rattle.review_machine_rows.proofs.Asked.{change_comes, come_stays, file_comes, first_comes, to_file}
-use Rattle.review_machine_rows.specs.{Decisions.IsUnread, Decisions.SomePattern, Files.File, Known.file_in, Known.known}
-use Rattle.review_machine_rows.specs.Lines.{most_depth, line_of, with_above}
+use Rattle.review_machine_rows.proofs.Common.{Branch, File, IsUnread, Rows, SomePattern, StoredFile, Want, file_in, known, line_of, map-append, most_depth, option_map_or, take_more, with_above}
 use Rattle.review_machine_rows.specs.Steps.{Topic, HasComeTo, MayGoOnFor, change_wants, file_wants, first_wants, last_wants, line_steps, next, next_of, or_next, parent_of, steps, unknown, unless_none, known_parent, own_in}
-use Rattle.review_machine_rows.specs.declared.rows.{Rows.Rows, StoredFile.StoredFile, Want.Want}
 use Rattle.review_machine_needs.specs.inner.{Asked.IsAsked, Files.unread_cause, Walks.IsWalkIn}
 use Rattle.review_machine_rows.specs.declared.rows.Want.TheVariants as want
 use Rattle.review_machine_rows.specs.declared.step.Step.TheVariants as step

@@ -1,22 +1,16 @@
 -- What was asked is known, and asking ends.
 use Rattle.std.proofs.Common.{◌≡◌, ℕ, ◌+◌, ◌<◌, ◌≤◌, List, [], ◌∷◌, length, zero, suc, Option, Some, None, Bool, true, false, cond, not, IsSome, refl, sym, ap, ◌∙◌, subst, ⊎_elim, arith, All, is_some, ◌&&◌, ◌++◌, option_and_then, option_map, option_to_list}
-use Rattle.std.proofs.lemmas.{Bool.cases_Bool, List.Elements.All-head, List.Elements.All-tail}
-use Rattle.{std.specs.List.AllByRecursion, std.specs.Option.option_or, review_words.specs.declared.changes.Given.Given}
-use Rattle.review_words.specs.declared.command.{ChangeCommand.ChangeCommand, ChangeQuery.ChangeQuery, Command.Command}
+use Rattle.review_words.specs.declared.command.ChangeQuery.{ChangeQuery}
 use Rattle.review_words.specs.declared.command.Command.TheVariants.{CreateAccount, PutGroup, PutProject, RecordBase, CloseEpoch, CreateChange, OnChange, Submit}
 use Rattle.review_chain.proofs.LookingUp.{fewer_left, most_left}
 use Rattle.review_chain.proofs.Parting.{Says, still_wanted, walked_kept, wanted_says}
-use Rattle.review_chain.specs.Branches.{Branch}
 use Rattle.review_chain.specs.Parts.{Want as ChainWant, TheChange, TheCommit, IsPart, Knows}
-use Rattle.review_chain.specs.Steps.{wanted, left as left_in_chain}
-use Rattle.review_chain.specs.declared.{links.Link.Link, links.Standing.Standing, walks.Walked.Walked}
-use Rattle.review_file_rules.specs.Reading.{named_parent}
-use Rattle.review_core_rules.specs.Change.{Change, is_open}
-use Rattle.review_machine_rows.specs.Files.{File}
+use Rattle.review_chain.specs.{Steps.wanted, Steps.left as left_in_chain, declared.walks.Walked.Walked}
+use Rattle.review_machine_rows.proofs.Common.{All-head, All-tail, AllByRecursion, Branch, Change, ChangeCommand, Command, File, Given, Link, Rows, Standing, Want, cases_Bool, is_open, most_depth, named_parent, option_or}
 use Rattle.review_machine_rows.specs.Known.{Found, Stands, IsFound, known, number_of, change_in, standing_of, file_in, Agrees, IsKnown, AreAdded}
-use Rattle.review_machine_rows.specs.{Lines.most_depth, Links.link_for, Links.links_in, Rows.ClosedEpochs, Rows.Tables}
+use Rattle.review_machine_rows.specs.{Links.link_for, Links.links_in, Rows.ClosedEpochs, Rows.Tables}
 use Rattle.review_machine_rows.specs.Steps.{Topic, OfCommand, OfQuery, first_wants, change_wants, file_wants, given_wants, has_some, question_wants, request_wants, submit_wants, wants_by, own_in, known_parent, parent_or, needs_file, project_for, asks_file, parent_of, line_wants, line_steps, wanted_for, chain_wants, chain_left, last_of, last_wants, look_up, steps, unknown, or_next, next, next_of, left, left_before, left_if, left_of, left_where, AskingLowers, ComesTo, HasComeTo, IsWalkTo, MayGoOnFor}
-use Rattle.review_machine_rows.specs.declared.{rows.Rows.Rows, rows.Want.Want, step.Step.Step}
+use Rattle.review_machine_rows.specs.declared.step.Step.{Step}
 use Rattle.review_words.specs.declared.command.Query.TheVariants as asked
 use Rattle.review_machine_rows.specs.declared.rows.Want.TheVariants as want
 use Rattle.review_machine_rows.specs.declared.step.Step.TheVariants as step

@@ -1,11 +1,6 @@
 -- Lists by their places, and the place at which a change joined.
 use Rattle.std.proofs.Common.{option_map, ◌≡◌, ℕ, ◌+◌, ◌<◌, ◌≤◌, ◌==◌, zero, suc, true, false, cond, List, [], ◌∷◌, ◌++◌, length, Some, None, refl, sym, ap, ◌∙◌, ⊎_elim, eqb-true, eq-eqb, arith, is_some, Option, subst}
-use Rattle.std.proofs.lemmas.Bool.{cases_Bool, cases_lt}
-use Rattle.review_words.specs.declared.shown.JoinedChange.{JoinedChange}
-use Rattle.review_core_rules.specs.Parts.{PartRow, PatchOf, AHeader, APatch}
-use Rattle.review_core_rules.specs.declared.rows.{Header.Header, PatchRow.PatchRow}
-use Rattle.review_machine_rows.specs.Known.{at_place, IsAtPlace, IsCurrent, IsJoinedAt}
-use Rattle.review_machine_rows.specs.Rows.{Key, PartKey, Row, APart}
+use Rattle.review_machine_rows.proofs.Common.{AHeader, APart, APatch, Header, IsAtPlace, IsCurrent, IsJoinedAt, JoinedChange, Key, PartKey, PartRow, PatchOf, PatchRow, Row, at_place, cases_Bool, cases_lt}
 use Rattle.review_machine_rows.specs.declared.rows.BranchKey.{BranchKey as Branch}
 
 -- ==== lists by their places, which are counted from 1

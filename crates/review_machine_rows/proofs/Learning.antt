@@ -1,17 +1,15 @@
 -- Rows that learn what a look-up finds.
 use denote.Enum.Declared.{values_one}
 use Rattle.std.proofs.Common.{◌≡◌, ◌⊎◌, ℕ, List, Option, Some, None, true, false, cond, refl, sym, ap, ◌∙◌, inl, inr, ⊎_elim}
-use Rattle.std.proofs.lemmas.{Bool.cases_Bool, Cmp.then_total, Cmp.on_total, Cmp.nat_list_cmp_total, Cmp.tied_itself}
 use Rattle.std.proofs.lemmas.Map.Lookups.{both_Equal, CmpEqualImpliesEq, exact_unsigned, exact_bytes}
-use Rattle.std.{proofs.lemmas.Map.Views.tells_apart, specs.BTreeMap.is_at, specs.Cmp.IsTotalOrder}
-use Rattle.std.specs.{Cmp.Lexicographic.slice_cmp, Ordering.nat_cmp, Ordering.ordering_then, Ordering.is_eq}
-use Rattle.std.specs.{Prelude.option_map, declared.cmp.Ordering.Ordering, declared.cmp.Ordering.TheVariants.Equal}
-use Rattle.review_table.{proofs.Places.exact_by_parts, proofs.Places.by_exact, specs.Rows.row_in, specs.Rows.rows_of}
+use Rattle.std.specs.{Ordering.nat_cmp, Ordering.ordering_then, Ordering.is_eq, Prelude.option_map}
+use Rattle.review_table.proofs.Places.{exact_by_parts, by_exact}
+use Rattle.review_machine_rows.proofs.Common.{Base, Equal, IsTotalOrder, Ordering, Rows, Want, cases_Bool, is_at, nat_list_cmp_total, on_total, row_in, rows_of, slice_cmp, tells_apart, then_total, tied_itself}
 use Rattle.review_machine_rows.specs.Known.{Found, Members, known, known_by, group_of, held, meaning, want_cmp, Learns}
 use Rattle.review_machine_rows.specs.Rows.{member_cmp, branch_cmp, base_cmp}
-use Rattle.review_machine_rows.specs.{contracts.rows.WantOrd.TheImpl.Laws.total-law, declared.rows.Base.Base}
+use Rattle.review_machine_rows.specs.contracts.rows.WantOrd.TheImpl.Laws.{total-law}
 use Rattle.review_machine_rows.specs.declared.rows.{BranchKey.BranchKey as Branch, Counted.Counted, Found.Found as Kept}
-use Rattle.review_machine_rows.specs.declared.rows.{MemberKey.MemberKey as Member, Rows.Rows, Want.Want}
+use Rattle.review_machine_rows.specs.declared.rows.MemberKey.{MemberKey as Member}
 use Rattle.review_machine_rows.specs.declared.rows.Counted.TheVariants as counted
 use Rattle.review_machine_rows.specs.declared.rows.Want.TheVariants as want
 use Rattle.review_machine_rows.specs.contracts.rows.CountedOrd.TheImpl as counted_order

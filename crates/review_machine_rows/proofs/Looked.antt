@@ -1,12 +1,8 @@
 -- What rows know, and what they learn.
 use Rattle.std.proofs.Common.{◌≡◌, ℕ, List, [], ◌∷◌, Option, Some, None, Bool, true, false, cond, refl, sym, ap, ◌∙◌, nat_cmp, option_map, ◌+◌, ◌<◌, ◌++◌, length, get_or, take, subst, ⊎_elim, All, Contains, is_some}
-use Rattle.std.proofs.lemmas.List.{take_more}
 use Rattle.std.proofs.lemmas.List.Elements.{All-more, All-weaker, Contains-append_left, Contains-push}
-use Rattle.std.proofs.lemmas.Option.{same_Some}
-use Rattle.std.specs.{BTreeMap.is_at, Cmp.Lexicographic.slice_cmp, Option.option_or, declared.cmp.Ordering.Ordering}
-use Rattle.review_table.specs.Rows.{row_in, rows_of}
+use Rattle.review_machine_rows.proofs.Common.{BaseRow, Ordering, Rows, Tables, Want, is_at, option_or, row_in, rows_of, same_Some, slice_cmp, take_more}
 use Rattle.review_machine_rows.specs.Known.{known, known_by, group_of, held, meaning, want_cmp, AreAdded, Found, IsFound, IsKnown, AreAsked, Agrees, Learns, LearnsFound}
-use Rattle.review_machine_rows.specs.{Rows.BaseRow, Rows.Tables, declared.rows.Rows.Rows, declared.rows.Want.Want}
 
 -- ==== rows that know nothing, and rows that are added
 

@@ -1,12 +1,8 @@
 -- What a file or a base that is put leaves, and what a delta without one does.
 use Rattle.std.proofs.Common.{Some, option_map, ◌≡◌, ◌∙◌, ◌&&◌, ◌==◌, ℕ, List, Option, None, true, refl, ap, is_eq, nat_cmp, bytes_eq}
-use Rattle.std.proofs.lemmas.Cmp.{then_total, on_total, nat_cmp_total, nat_list_cmp_total}
 use Rattle.std.proofs.lemmas.Map.Lookups.{both_Equal, CmpEqualImpliesEq, exact_unsigned, exact_bytes}
-use Rattle.std.{proofs.lemmas.Map.Text.is_eq-slice_cmp, specs.BTreeMap.is_at}
-use Rattle.std.specs.{Cmp.unsigned_tied, Cmp.IsTotalOrder, Cmp.Lexicographic.slice_cmp, Ordering.ordering_then}
-use Rattle.std.specs.declared.cmp.Ordering.{Ordering, TheVariants.Less}
+use Rattle.review_machine_rows.proofs.Common.{Delta, IsTotalOrder, Less, Ordering, PlaceKey, is_at, is_eq-slice_cmp, nat_cmp_total, nat_list_cmp_total, on_total, ordering_then, slice_cmp, then_total, unsigned_tied}
 use Rattle.review_machine_rows.specs.Rows.{Key, FileKey, BaseKey, Row, FileRow, BaseRow, Projects, BasesOf, place_cmp, after, after_put, count_after, count_put}
-use Rattle.review_machine_rows.specs.declared.rows.{Delta.Delta, PlaceKey.PlaceKey}
 
 -- ---- places of branches as keys
 

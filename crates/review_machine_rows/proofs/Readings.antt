@@ -1,18 +1,12 @@
 -- What is read of a history, and what is known of an accepted command.
 use Rattle.std.proofs.Common.{◌≤◌, length, ◌≡◌, ℕ, List, [], ◌∷◌, Option, Some, None, Bool, true, false, refl, arith, MatchOption, nat_le, nat_lt, ◌⊎◌, inl, inr, ◌∙◌, cond, sym, ap, subst, ⊎_elim, MatchBool, ◌&&◌, bytes_eq}
-use Rattle.std.proofs.lemmas.{Bool.cases_Bool, Bool.Decides.nat_tests, Slice.Eq.bytes_eq-Decides}
 use Rattle.review_words.specs.History.{Entry, is_closed, least_open, raised, accepted, if_done, Asking, asking_of, file_text, text_put}
-use Rattle.review_words.specs.declared.changes.NewPatch.{NewPatch}
-use Rattle.review_words.specs.declared.command.ChangeCommand.{ChangeCommand, TheVariants.Upload}
-use Rattle.review_words.specs.declared.command.Command.{Command, TheVariants.PutProject, TheVariants.CloseEpoch}
+use Rattle.review_words.specs.declared.command.ChangeCommand.TheVariants.{Upload}
 use Rattle.review_words.specs.declared.faults.FileFault.TheVariants.{UnknownKey}
-use Rattle.review_words.specs.declared.reply.{Answer.Answer, Answer.TheVariants.Nothing, Refusal.Refusal}
-use Rattle.review_words.specs.declared.reply.Refusal.TheVariants.{EpochAhead, SameState, BadFile}
-use Rattle.review_words.specs.declared.reply.Reply.{Reply, TheVariants.Done, TheVariants.Refused}
 use Rattle.review_file_rules.specs.Inherited.{no_file}
+use Rattle.review_machine_rows.proofs.Common.{Answer, BadFile, ChangeCommand, CloseEpoch, Command, Done, EpochAhead, File, IsRead, NewPatch, Nothing, PutProject, Refusal, Refused, Reply, SameState, bytes_eq-Decides, cases_Bool, nat_tests}
 use Rattle.review_machine_rows.specs.Answer.{most_requests, IsAnswerBy, IsAnswerAt, epoch_checks, first_refusal, refused_by, refused_or, IsRequestOutcome, done_on, IsAnswer, IsAnswerIn, IsAnswerWithoutParents, IsHistory, IsFaultAnswer, IsFileAnswer, puts_parent}
 use Rattle.review_machine_rows.specs.Changes.{Reading, change, Reads, IsReadRight}
-use Rattle.review_machine_rows.specs.Files.{File, IsRead}
 
 -- ==== epochs of histories, and what is known of an accepted command whatever its epoch
 

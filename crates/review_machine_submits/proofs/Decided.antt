@@ -1,40 +1,32 @@
 -- A submit: the members of its chain, what it makes of the rows, and how it is decided.
 use Rattle.std.proofs.Common.{◌≡◌, ◌⊎◌, ℕ, List, [], ◌∷◌, Option, Some, None, IsSome, Bool, true, false, cond, ◌&&◌, refl, sym, ap, ◌∙◌, subst, ⊎_elim, map, All, bytes_eq, ◌==◌, arith, nat_cmp, find, ◌+◌, length, eqb-true, option_map, unwrap_or, inl, inr, is_some, not, option_and_then, option_to_list, MatchOption, if◌then◌else◌, ◌<◌, ◌≤◌, ◌^◌}
-use Rattle.std.proofs.lemmas.{Bool.and_parts, List.Elements.All-head, List.Elements.All-tail, Slice.Eq.bytes_eq-Decides}
 use Rattle.std.specs.List.{AllByRecursion, IsDistinct}
 use Rattle.review_table.specs.Rows.{NamesOnce, after_row_edit, row_edit_of}
 use Rattle.review_words.specs.History.{Entry, entry_of, base_count, project_count, least_open, is_account}
-use Rattle.review_words.specs.declared.command.Command.TheVariants.{Submit}
-use Rattle.review_words.specs.declared.reply.{Answer.TheVariants.Submitted, NotTaken.NotTaken as Cause}
+use Rattle.review_words.specs.declared.reply.NotTaken.{NotTaken as Cause}
 use Rattle.review_words.specs.declared.reply.NotTaken.TheVariants.{Memory, Damaged, Pattern}
-use Rattle.review_words.specs.declared.reply.Refusal.{Refusal}
 use Rattle.review_words.specs.declared.reply.Refusal.TheVariants.{UnknownCaller, NoChange, NotAllowed, Closed, WorkInProgress, RequirementUnsatisfied}
-use Rattle.review_words.specs.declared.reply.Reply.{Reply, TheVariants.Refused, TheVariants.Done}
-use Rattle.review_words.specs.declared.shown.ShownRequirement.{ShownRequirement}
 use Rattle.review_chain.proofs.Parting.{bad_kept, whole_sound, Says, wanted_says, chain_kept}
 use Rattle.review_chain.proofs.Walking.{chain_ready, one_end, wanted_meets}
 use Rattle.review_chain.specs.Branches.{Branch, IsWhole}
 use Rattle.review_chain.specs.{Parts.IsPart, Parts.IsWanted, Parts.Want as ChainWant, Places.places_from}
 use Rattle.review_chain.specs.{Steps.IsFault, Steps.Wants, Steps.wanted, Walks.IsChain, Walks.IsReady}
-use Rattle.review_chain.specs.declared.{links.Link.Link, walks.ChainFault.ChainFault}
 use Rattle.review_chain.specs.declared.walks.ChainFault.TheVariants.{Outdated, Abandoned, Wip, TooLong, Broken}
-use Rattle.review_file_rules.specs.Trees.{file_trees}
 use Rattle.review_core_rules.specs.Change.{Change, joined_at, Setting, is_open}
 use Rattle.review_core_rules.specs.Facts.{AreStanding, IsFirstUnsatisfied, unsatisfied_in}
 use Rattle.review_core_rules.specs.Parts.{Part, PartRow, part_row}
 use Rattle.review_machine_rows.proofs.Asked.{all_made, change_asked, each_known, file_asked, line_asked, found_of}
+use Rattle.review_machine_rows.proofs.Common.{All-head, All-tail, ChainFault, ChangeEdit, Delta, Done, File, Link, Refusal, Refused, Reply, Rows, ShownRequirement, Submit, Submitted, and_parts, bytes_eq-Decides, file_trees, most_depth}
 use Rattle.review_machine_rows.proofs.{Lined.texts_told, Puts.no_base, Puts.no_base_more, Puts.no_file, Puts.no_project}
 use Rattle.review_machine_rows.specs.Answer.{IsAnswerBy, IsHistory, first_refusal, of_change, refused_by, submit_checks, most_requests}
 use Rattle.review_machine_rows.specs.Changes.{Reading, change, joined, joining, joining_at, place_in, Reads, file_of, setting_of, texts_of, change_count}
 use Rattle.review_machine_rows.specs.Decisions.{NamesChangesOnce, NamesEachOnce, NamesRowsOnce, IsUndecided}
-use Rattle.review_machine_rows.specs.Files.{File}
 use Rattle.review_machine_rows.specs.Known.{part_of, Agrees, Found, IsKnown, known, change_in, IsLastJoined, number_of}
-use Rattle.review_machine_rows.specs.{Lines.most_depth, Links.is_for, Links.link_for, Links.link_of, Links.links_in}
+use Rattle.review_machine_rows.specs.Links.{is_for, link_for, link_of, links_in}
 use Rattle.review_machine_rows.specs.Rows.{member_cmp, Key, AccountKey, MemberKey, FileKey, BaseKey, PartKey, OddKey, APart, Count, Projects, BasesOf, ClosedEpochs, account_change, member_change, edited, after, count_after, part_change}
 use Rattle.review_machine_rows.specs.Steps.{HasFile, OfCommand, caller_in, chain_wants, last_wants, line_steps, look_up, known_parent, project_for, submit_wants, texts_in, unknown, wanted_for, wants_by}
 use Rattle.review_machine_rows.specs.Submits.{HasBadLink, refusal_of, branch_after, judged_after, IsOf, IsSubmitAnswer, checked_reply}
 use Rattle.review_machine_rows.specs.View.{IsDecided, counted, fact, AreEnough, view}
-use Rattle.review_machine_rows.specs.declared.rows.{ChangeEdit.ChangeEdit, Delta.Delta, Rows.Rows}
 use Rattle.review_core_standing.proofs.InThreads.{other_way}
 use Rattle.review_machine_laws.proofs.{Changes.changes_bound, Histories.OneEffective, SoundProjects.has_project}
 use Rattle.review_machine_accounts.proofs.Decided.{outcome_answer, refused_decided}

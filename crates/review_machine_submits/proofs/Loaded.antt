@@ -1,44 +1,38 @@
 -- What loaded rows tell for a question, and its answer.
 use Rattle.std.proofs.Common.{◌≡◌, ◌⊎◌, inl, inr, ℕ, List, [], ◌∷◌, Option, Some, None, true, false, refl, sym, ap, ◌∙◌, subst, ⊎_elim, is_some, option_and_then, ◌≤◌, arith, length, Bool, cond, map, nat_le, ◌++◌, not, nat_cmp, find, flat_map, option_map, if◌then◌else◌, bytes_eq, ℤ, ◌&&◌, ◌==◌, eqb-true, slice_get, ◌-◌, filter}
-use Rattle.std.proofs.lemmas.{Bool.Decides.nat_tests, Map.Entries.option_filter}
-use Rattle.std.specs.{List.AllByRecursion, List.Sorted.IsStrictlySortedBy, Map.keys_of, Option.option_map_or}
-use Rattle.review_names.specs.{Forms.is_within, Forms.most_patches, Groups.GroupList}
+use Rattle.std.{proofs.lemmas.Map.Entries.option_filter, specs.List.Sorted.IsStrictlySortedBy}
+use Rattle.review_names.specs.Forms.{is_within, most_patches}
 use Rattle.review_table.specs.Rows.{row_in, rows_of}
 use Rattle.review_words.specs.History.{Entry, is_project, is_account, is_branch, bases}
-use Rattle.review_words.specs.declared.changes.Role.{Role, TheVariants.Reviewer, TheVariants.Cc}
+use Rattle.review_words.specs.declared.changes.Role.TheVariants.{Reviewer, Cc}
 use Rattle.review_words.specs.declared.command.ChangeQuery.{ChangeQuery, TheVariants.Requirements}
-use Rattle.review_words.specs.declared.{command.Query.TheVariants.OnChange, reply.Answer.Answer}
+use Rattle.review_words.specs.declared.command.Query.TheVariants.{OnChange}
 use Rattle.review_words.specs.declared.reply.NotTaken.{NotTaken as Cause, TheVariants.Damaged, TheVariants.Memory}
-use Rattle.review_words.specs.declared.reply.Refusal.{Refusal}
 use Rattle.review_words.specs.declared.reply.Refusal.TheVariants.{UnknownCaller, NoProject, NoBranch, NoChange}
-use Rattle.review_words.specs.declared.reply.Reply.TheVariants.{Done, Refused}
 use Rattle.review_words.specs.declared.shown.{ShownRequirement.ShownRequirement, ShownVote.ShownVote}
 use Rattle.review_words.specs.declared.shown.Status.TheVariants.{NotApplicable, Overridden, Satisfied, Unsatisfied}
-use Rattle.review_expr_judging.specs.Holds.{holds, requirement_holds}
-use Rattle.review_expr_judging.specs.declared.facts.{ChangeFacts.ChangeFacts, ValueRange.ValueRange}
-use Rattle.review_expr.specs.{Exprs.holds_for, declared.expr.Expr.Expr}
+use Rattle.review_expr_judging.specs.{Holds.holds, Holds.requirement_holds, declared.facts.ChangeFacts.ChangeFacts}
+use Rattle.{review_expr_judging.specs.declared.facts.ValueRange.ValueRange, review_expr.specs.Exprs.holds_for}
 use Rattle.review_file_rules.specs.Named.{SameIn, SameInAll, groups_in, groups_of_requirement, required_groups}
 use Rattle.review_file_rules.specs.Rights.{greatest_value, least_value}
 use Rattle.review_file_rules.specs.Trees.{file_trees, ExprTree, OfCopy, OfRequirement, label_trees, requirement_trees, tree_of}
 use Rattle.review_file_rules.specs.View.{LabelView, RequirementView}
-use Rattle.review_core_rules.proofs.Stays.{within_parts}
 use Rattle.review_core_rules.specs.Change.{Change, label_in, range_of, current, last_uploader, of_number}
 use Rattle.review_core_rules.specs.Facts.{AreStanding, stands, unless_zero}
 use Rattle.review_core_rules.specs.{Listed.AreListed, Listed.AreThose, Seen.seen, Seen.value_of, Seen.vote_cmp}
-use Rattle.review_core_rules.specs.{Shown.AreVotes, Shown.shown_vote, Shown.IsToldOf, Sound.IsSound, Votes.voted}
-use Rattle.review_core_rules.specs.declared.rows.{ChangeRows.ChangeRows, PatchRow.PatchRow, VoteKey.VoteKey}
+use Rattle.review_core_rules.specs.Shown.{AreVotes, shown_vote, IsToldOf}
 use Rattle.review_core_tables.proofs.{Accounts.accounts_tell, Accounts.has_row, Copied.vote_key, Copied.votes_tell}
 use Rattle.review_machine_rows.proofs.Asked.{all_asked, change_asked, found_of, line_asked, file_asked}
+use Rattle.review_machine_rows.proofs.Common.{AllByRecursion, Answer, ChangeRows, Done, Expr, File, GroupList, IsSound, PatchRow, Refusal, Refused, Role, Rows, StoredFile, VoteKey, keys_of, nat_tests, option_map_or, voted, within_parts}
 use Rattle.review_machine_rows.proofs.Lined.{texts_told, there_is}
 use Rattle.review_machine_rows.specs.Answer.{IsHistory, has_role, IsOf, first_refusal}
 use Rattle.review_machine_rows.specs.Changes.{Reading, change, file_of, own_of, texts_of, joined, groups_of, setting_of}
-use Rattle.review_machine_rows.specs.{Decisions.IsUnshown, Files.File}
+use Rattle.review_machine_rows.specs.Decisions.{IsUnshown}
 use Rattle.review_machine_rows.specs.Known.{IsKnown, change_in, known, is_so, commits_of, joined_of}
 use Rattle.review_machine_rows.specs.Lines.{line_of, most_depth, with_above}
 use Rattle.review_machine_rows.specs.Questions.{joined_change, query_refused_by, IsQueryAnswerBy}
 use Rattle.review_machine_rows.specs.Steps.{HasFile, OfQuery, line_steps, known_parent, project_for, question_wants, texts_in, unknown, wants_by}
 use Rattle.review_machine_rows.specs.View.{AreEnough, view}
-use Rattle.review_machine_rows.specs.declared.rows.{Rows.Rows, StoredFile.StoredFile}
 use Rattle.review_core_standing.proofs.Made.{value_kept, some_where, order_kept, row_kept}
 use Rattle.review_machine_laws.proofs.{Histories.OneEffective, Rows.rows_tell, Rows.joined_rows}
 use Rattle.review_machine_laws.proofs.SoundProjects.{has_project}

@@ -1,18 +1,13 @@
 -- Desks of histories: that of no request, and what is on no desk.
 use Rattle.std.proofs.Common.{◌≡◌, ℕ, ◌+◌, ◌<◌, ◌⊎◌, inl, inr, Bool, true, false, cond, List, [], ◌∷◌, ◌++◌, length, get_or, take, Option, Some, None, ap, sym, ◌∙◌, subst, refl, ⊎_elim, Contains, nat_cmp, is_eq, ◌&&◌, ◌==◌, arith, option_map, nat_lt, bytes_eq, Result, Ok, Err, IfErr, IsErr, IsErrAnd, ◌≤◌}
-use Rattle.std.proofs.lemmas.{Bool.cases_Bool, Cmp.tied_itself, Cmp.nat_eq_equiv, List.take_more}
-use Rattle.std.proofs.lemmas.List.Elements.{Contains-append_left, Contains-push}
-use Rattle.std.proofs.lemmas.{Map.Lookups.exact_unsigned, Map.Views.tells_apart, Option.cond_some}
-use Rattle.std.specs.{BTreeMap.is_at, List.list_any}
+use Rattle.std.proofs.lemmas.Cmp.{tied_itself, nat_eq_equiv}
+use Rattle.std.proofs.lemmas.{List.Elements.Contains-append_left, List.Elements.Contains-push, Option.cond_some}
 use Rattle.review_names.specs.Names.{administrators, admin_name}
-use Rattle.review_table.specs.Rows.{row_in}
 use Rattle.review_words.specs.History.{bases as bases_in, Entry}
+use Rattle.review_machine_rows.proofs.Common.{BranchKey, IsDamaged, IsHistory, IsView, Reading, ShelfFault, at_place, cases_Bool, counted, exact_unsigned, fact, is_at, list_any, most_requests, row_in, take_more, tells_apart}
 use Rattle.review_machine_rows.proofs.{Looked.based_from, Readings.history_length, Readings.reading_of}
-use Rattle.review_machine_rows.specs.{Answer.IsHistory, Answer.most_requests, Changes.Reading, Known.at_place}
 use Rattle.review_machine_rows.specs.Rows.{Key, AccountKey, MemberKey, BaseKey, AccountRow, MemberRow, Count, Projects, BasesOf, ClosedEpochs, Stored, member_cmp, member_row, Tables}
-use Rattle.review_machine_rows.specs.{Shelf.IsDamaged, View.IsView, View.fact, View.counted}
-use Rattle.review_machine_rows.specs.declared.rows.{BranchKey.BranchKey, MemberKey.MemberKey as Member}
-use Rattle.review_machine_rows.specs.declared.shelf.ShelfFault.{ShelfFault}
+use Rattle.review_machine_rows.specs.declared.rows.MemberKey.{MemberKey as Member}
 use Rattle.review_memory_rows.proofs.Dropped.{at_account}
 use Rattle.review_memory_rows.specs.Bases.{IsUnlisted, AreBases, base_at}
 use Rattle.review_memory_rows.specs.{Loads.fault_of, declared.bases.BasesFault.BasesFault}

@@ -3,16 +3,11 @@ use Rattle.std.proofs.Common.{zero, suc, ◌≡◌, ℕ, ◌+◌, ◌<◌, ◌�
 use Rattle.std.proofs.lemmas.Bool.{cases_Bool, and_parts, cases_lt, eqb-false}
 use Rattle.std.proofs.lemmas.Cmp.{then_total, on_total, nat_cmp_total, nat_list_cmp_total, tied_itself}
 use Rattle.std.proofs.lemmas.Map.Lookups.{both_Equal, CmpEqualImpliesEq, exact_unsigned, exact_bytes}
-use Rattle.std.proofs.lemmas.Map.{Text.is_eq-slice_cmp, Views.tells_apart}
-use Rattle.std.proofs.lemmas.{Option.same_Some, Slice.Eq.bytes_eq-Decides}
-use Rattle.std.specs.{BTreeMap.is_at, Cmp.IsTotalOrder, Cmp.unsigned_ties, Cmp.Lexicographic.slice_cmp, Int.from_bool}
-use Rattle.std.specs.{Ordering.ordering_then, declared.cmp.Ordering.Ordering}
+use Rattle.std.specs.{Cmp.IsTotalOrder, Cmp.unsigned_ties, Int.from_bool}
 use Rattle.review_table.specs.Rows.{row_in, after_row_edit, changed, HasNoEmptyPlace, HasEmptyOnly}
-use Rattle.review_table.specs.declared.table.RowEdit.{RowEdit}
+use Rattle.review_machine_rows.proofs.Common.{BranchKey, Ordering, PlaceKey, Put, RowEdit, at_place, branch_cmp, bytes_eq-Decides, is_at, is_eq-slice_cmp, ordering_then, place_cmp, same_Some, slice_cmp, tells_apart}
 use Rattle.review_machine_rows.proofs.Joins.{nothing_at_zero, past_end, some_at, placed_more}
 use Rattle.review_machine_rows.proofs.Puts.{at_place_of, is_eq-then, exact_place, place_total}
-use Rattle.review_machine_rows.specs.{Known.at_place, Rows.branch_cmp, Rows.place_cmp}
-use Rattle.review_machine_rows.specs.declared.rows.{BranchKey.BranchKey, PlaceKey.PlaceKey, Put.Put}
 use Rattle.review_memory_rows.specs.Bases.{commit_cmp, base_at, total_in, last_in, AreLast, IsLastPlace, commit_at, greatest_place, has_commit, is_stale, AreListed, AreBases}
 use Rattle.review_memory_rows.specs.declared.keys.CommitKey.{CommitKey}
 

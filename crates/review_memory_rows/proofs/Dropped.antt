@@ -2,13 +2,11 @@
 use Rattle.std.proofs.Common.{◌≡◌, ℕ, Bool, true, false, ◌&&◌, ◌==◌, refl, sym, ◌∙◌, is_eq, nat_cmp, bytes_eq, Option, Some, None, Bor, option_copied, is_some, cond, List, ◌∷◌, subst, [], ap, ◌+◌, ◌<◌, ◌||◌, ◌++◌, length, get_or, take, map, ⊎_elim, append-nil, nat_lt}
 use Rattle.std.proofs.lemmas.Bool.{or_right, cases_Bool}
 use Rattle.std.proofs.lemmas.Cmp.{then_total, on_total, nat_cmp_total, nat_list_cmp_total, tied_itself}
-use Rattle.std.proofs.lemmas.{Grind.flat_map-append, List.map-append, List.take_more, List.Folds.list_any-append}
+use Rattle.std.proofs.lemmas.Grind.{flat_map-append}
 use Rattle.std.proofs.lemmas.Map.Lookups.{both_Equal, CmpEqualImpliesEq, exact_unsigned, exact_bytes}
-use Rattle.std.proofs.lemmas.Map.{Text.is_eq-slice_cmp, Views.tells_apart}
-use Rattle.std.specs.{BTreeMap.is_at, Cmp.IsTotalOrder, Cmp.unsigned_ties, Cmp.Lexicographic.slice_cmp}
-use Rattle.std.specs.{Map.Iter.deref_pair, Ordering.ordering_then, declared.cmp.Ordering.Ordering}
 use Rattle.review_table.specs.Rows.{row_in, is_named, place_at, HasEmptyOnly, HasNoEmptyPlace}
-use Rattle.{review_table.specs.declared.table.RowEdit.RowEdit, review_machine_rows.proofs.Puts.is_eq-then}
+use Rattle.review_machine_rows.proofs.Common.{IsTotalOrder, Ordering, RowEdit, deref_pair, is_at, is_eq-slice_cmp, list_any-append, map-append, ordering_then, slice_cmp, take_more, tells_apart, unsigned_ties}
+use Rattle.review_machine_rows.proofs.Puts.{is_eq-then}
 use Rattle.review_memory_rows.specs.Answers.{answer_cmp, is_among, if_lower, lower}
 use Rattle.review_memory_rows.specs.declared.answer_keys.{AnswerKey.AnswerKey, StoredAnswer.StoredAnswer}
 

@@ -1,22 +1,15 @@
 -- Patch sets by their commits.
 use Rattle.std.proofs.Common.{◌≡◌, List, [], ◌∷◌, ◌++◌, Option, Some, None, Bool, true, false, cond, refl, sym, ap, ◌∙◌, subst, All, is_some, is_eq, IsSome, ℕ, ◌==◌, eqb-true, option_map, nat_cmp, ◌≤◌, ◌&&◌, not, arith, is_le, is_lt, bytes_eq, Result, Ok, Err, IfOk, MatchBool}
-use Rattle.std.proofs.lemmas.Bool.{and_parts}
 use Rattle.std.proofs.lemmas.Cmp.{tied_itself, then_total, on_total, nat_cmp_total, nat_list_cmp_total}
 use Rattle.std.proofs.lemmas.List.Elements.{All-from_recursion, recursion_from_All}
 use Rattle.std.proofs.lemmas.Map.Lookups.{both_Equal, CmpEqualImpliesEq, exact_unsigned, exact_bytes}
-use Rattle.std.proofs.lemmas.{Map.Views.tells_apart, Option.same_Some, Slice.Eq.bytes_eq-Decides}
-use Rattle.std.specs.BTreeMap.{is_at}
-use Rattle.std.specs.Cmp.{IsTotalOrder, unsigned_tied, unsigned_ties, nat_cmp_is, Lexicographic.slice_cmp}
-use Rattle.std.specs.{List.AllByRecursion, Ordering.ordering_then, declared.alloc.AllocError.AllocError}
-use Rattle.std.specs.declared.cmp.Ordering.{Ordering, TheVariants.Less, TheVariants.Equal, TheVariants.Greater}
+use Rattle.std.specs.Cmp.{IsTotalOrder, unsigned_tied, unsigned_ties, nat_cmp_is}
 use Rattle.review_table.specs.Rows.{after_row_edit, changed, row_edit_of, is_named, row_in, rows_of}
-use Rattle.review_table.specs.declared.table.RowEdit.{RowEdit}
 use Rattle.review_core_rules.specs.Parts.{Part, PatchOf, PartRow, APatch, TheHeader, AHeader}
-use Rattle.review_core_rules.specs.declared.rows.{Header.Header, PatchRow.PatchRow}
+use Rattle.review_machine_rows.proofs.Common.{AllByRecursion, AllocError, Base, ChangeEdit, Equal, Greater, Header, Less, Ordering, PatchRow, RowEdit, and_parts, bytes_eq-Decides, is_at, ordering_then, same_Some, slice_cmp, tells_apart}
 use Rattle.review_machine_rows.proofs.Joins.{unsent_from}
 use Rattle.review_machine_rows.specs.Known.{IsSender, IsCurrent, IsMergedWith, IsSentBy}
 use Rattle.review_machine_rows.specs.Rows.{edited, part_change, APart}
-use Rattle.review_machine_rows.specs.declared.rows.{Base.Base, ChangeEdit.ChangeEdit}
 use Rattle.review_machine_change_rows.specs.declared.tables.ChangeTables.{ChangeTables}
 use Rattle.review_memory_rows.specs.Kept.{part_at, sent_by, sent_cmp, sent_in, with_sent, AreListed, AreNumbered, IsNumbered, has_commit, is_sent, part_where, row_of, IsCurrentOf, IsFoundSent, IsLastOf, IsSentAs, IsSentIn}
 use Rattle.review_memory_rows.specs.declared.kept.SentKey.{SentKey}

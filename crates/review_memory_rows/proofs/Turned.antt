@@ -1,16 +1,10 @@
 -- What edits make of the tables of a change.
 use Rattle.std.proofs.Common.{drop-cons, append_assoc, ◌≡◌, ℕ, ◌==◌, List, [], ◌∷◌, Option, Some, None, Bool, true, false, cond, refl, sym, ap, ◌∙◌, eqb-true, All, IsSome, nat_cmp, suc, arith, ◌+◌, ◌<◌, ◌++◌, length, take, drop, get_or, subst, flat_map, ℤ, option_map}
-use Rattle.std.proofs.lemmas.List.{take_more, Elements.All-from_recursion}
-use Rattle.std.specs.{Cmp.unsigned_tied, List.AllByRecursion}
 use Rattle.review_table.specs.Rows.{after_row_edit, changed, row_edit_of, row_in, rows_of}
-use Rattle.{review_table.specs.declared.table.RowEdit.RowEdit, review_words.specs.declared.changes.Role.Role}
-use Rattle.review_core_rules.specs.Change.{Change}
 use Rattle.review_core_rules.specs.Parts.{Part, TheHeader, PatchOf, VoteOf, RoleOf, CommentOf, AttentionOf, PartRow, AHeader, APatch, ARole, AComment, AnAttentionEntry, part_row}
-use Rattle.review_core_rules.specs.{Seen.vote_cmp, declared.rows.AttentionEntry.AttentionEntry}
-use Rattle.review_core_rules.specs.declared.rows.{CommentRow.CommentRow, PatchRow.PatchRow, VoteKey.VoteKey}
+use Rattle.review_core_rules.specs.declared.rows.AttentionEntry.{AttentionEntry}
+use Rattle.review_machine_rows.proofs.Common.{APart, All-from_recursion, AllByRecursion, Change, ChangeEdit, CommentRow, PatchRow, Role, RowEdit, VoteKey, edited, part_change, take_more, unsigned_tied, vote_cmp, vote_row}
 use Rattle.review_machine_rows.{proofs.Joins.part_from, specs.Known.HasChange}
-use Rattle.review_machine_rows.specs.Rows.{edited, part_change, vote_row, APart}
-use Rattle.review_machine_rows.specs.declared.rows.ChangeEdit.{ChangeEdit}
 use Rattle.review_machine_change_rows.specs.Tables.{part_in, HaveFault, Show}
 use Rattle.review_machine_change_rows.specs.declared.loading.ChangeFault.{ChangeFault}
 use Rattle.review_machine_change_rows.specs.declared.loading.ChangeFault.TheVariants.{Memory, Gap}

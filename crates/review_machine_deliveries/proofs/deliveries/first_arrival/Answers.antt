@@ -1,8 +1,5 @@
 use Rattle.std.proofs.Common.{◌≡◌, ◌∙◌, ◌+◌, ◌<◌, subst, arith, length, inl, inr, ⊎_elim, string_bytes}
-use Rattle.review_words.specs.{History.Identity, History.entry_of, Texts.reply_text}
-use Rattle.review_words.specs.declared.{command.Delivery.TheVariants.Write, reply.Reply.TheVariants.NotTaken}
-use Rattle.review_machine_rows.specs.{Answer.most_requests, Changes.Reading, Changes.Reads, Rows.AnswerRow}
-use Rattle.review_machine_rows.specs.{Shelf.IsCommitted, Shelf.IsCounted, Shelf.Shows, Shelf.cause_of, View.answer_row}
+use Rattle.review_machine_rows.proofs.Common.{AnswerRow, Identity, IsCommitted, IsCounted, NotTaken, Reading, Reads, Shows, Write, answer_row, cause_of, entry_of, most_requests, reply_text}
 use Rattle.review_machine_deliveries.proofs.Deciding.{next_number, undecided_keeps, undecided_served}
 use Rattle.review_machine_deliveries.proofs.Filed.{left_before}
 use Rattle.review_machine_deliveries.proofs.Histories.{stores_once, stored_shown, decided_keeps, fault_keeps, fault_counts, stored_counts}

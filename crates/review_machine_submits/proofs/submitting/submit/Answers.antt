@@ -1,8 +1,5 @@
 use Rattle.std.proofs.Common.{◌∙◌, ap, subst, sym, option_copied, option_map}
-use Rattle.std.proofs.lemmas.{Bool.not-true, Result.IfOk-weaker, Result.IfErr-weaker}
-use Rattle.review_words.specs.declared.{command.Command.TheVariants.Submit, reply.NotTaken.TheVariants.Damaged}
-use Rattle.{review_words.specs.declared.reply.Refusal.TheVariants.NoChange, review_core_rules.specs.Seen.seen}
-use Rattle.review_machine_rows.specs.{Decisions.IsUndecided, Steps.OfCommand, View.AreEnough}
+use Rattle.review_machine_rows.proofs.Common.{AreEnough, Damaged, IfErr-weaker, IfOk-weaker, IsUndecided, NoChange, OfCommand, Submit, not-true, seen}
 use Rattle.review_machine_laws.proofs.Changes.{all_pass}
 use Rattle.review_machine_accounts.proofs.Decided.{asked_beside, refused_pair}
 use Rattle.review_machine_changes.proofs.Told.{change_told}

@@ -1,7 +1,6 @@
 use Rattle.std.proofs.Common.{◌≡◌, ◌⊎◌, ◌∙◌, ap, Some, subst, sym, ⊎_elim}
-use Rattle.std.{proofs.lemmas.List.Elements.All-contains, specs.List.All, specs.List.Contains, specs.Ordering.nat_cmp}
-use Rattle.review_table.specs.Rows.{changed, row_in, rows_of}
-use Rattle.review_machine_rows.specs.{Rows.kept_row, Shelf.IsCommitted}
+use Rattle.std.{proofs.lemmas.List.Elements.All-contains, specs.List.All, specs.List.Contains}
+use Rattle.review_machine_rows.proofs.Common.{IsCommitted, changed, kept_row, nat_cmp, row_in, rows_of}
 use Rattle.review_memory.proofs.Applied.{applied_bounded, applied_indexed, applied_numbered, committed, made_held}
 use Rattle.review_memory.proofs.Lower.{on_err}
 use Rattle.review_memory.specs.Desk.{Desk, desk_of, tables_of, beside_epoch, name_cmp, AreInUse, AreIndexed, HasChanged, IsBounded, IsGiven, IsHeld, IsIndexed, IsNameOf, IsNumbered, IsUsed}

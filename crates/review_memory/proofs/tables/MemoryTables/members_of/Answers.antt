@@ -1,9 +1,8 @@
 use Rattle.std.proofs.Common.{◌≡◌, ◌∙◌, ap, sym, cond, Option, Some, None, Bool, true, false, map, not, ◌&&◌, refl, nat_cmp, is_eq, is_le, is_lt}
 use Rattle.std.proofs.lemmas.Cmp.{nat_cmp_total, nat_list_cmp_total, nat_list_eq_equiv, tied_itself}
-use Rattle.std.{proofs.lemmas.Map.Made.option_or-none, proofs.lemmas.Slice.Eq.bytes_eq-Decides, specs.BTreeMap.is_at}
-use Rattle.std.specs.{Cmp.eq_by_cmp_equiv, Cmp.Lexicographic.slice_cmp, Map.Iter.deref_pair, Option.option_or}
-use Rattle.{std.specs.Ordering.ordering_then, review_table.specs.Rows.row_in, review_table.specs.Rows.rows_of}
-use Rattle.review_machine_rows.specs.{Rows.member_cmp, declared.rows.MemberKey.MemberKey}
+use Rattle.std.{proofs.lemmas.Map.Made.option_or-none, specs.Cmp.eq_by_cmp_equiv}
+use Rattle.review_machine_rows.proofs.Common.{bytes_eq-Decides, deref_pair, is_at, member_cmp, option_or, ordering_then, row_in, rows_of, slice_cmp}
+use Rattle.review_machine_rows.specs.declared.rows.MemberKey.{MemberKey}
 use Rattle.review_memory.proofs.Applied.{member_total, row_between_numbers, taken_over}
 use Rattle.review_memory.proofs.tables.MemoryTables.members_of.Goals as goal
 
