@@ -255,8 +255,7 @@ one_walk b xs ys c v w h i k j =
 -- and it meets one thing
 pub one_end : (b : Branch) (xs ys : List ℕ) (c : ℕ) (v w : Before) → Meets b xs c v → IsEnd v → Meets b ys c w → IsEnd w → v ≡ w
 one_end b xs ys c v w h i k j =
-    let same = one_walk b xs ys c v w h i k j in
-    let there : before b (length ys) (first_of ys) ≡ v = subst (λ (z : List ℕ). before b (length z) (first_of z) ≡ v) same h.meets in
+    let there : before b (length ys) (first_of ys) ≡ v = subst (λ (z : List ℕ). before b (length z) (first_of z) ≡ v) (one_walk b xs ys c v w h i k j) h.meets in
     sym there ∙ k.meets
 
 -- ---- some walk to a change ends

@@ -116,8 +116,7 @@ put_there (y ∷ q) zero s f g x is apart stays grows =
     let here = subst (λ z. g z ≡ record { root = (f z).root; comments = (f z).comments ++ x ∷ []; unresolved = x.unresolved }) same grows in
     λ i. here i ∷ same_all (λ z. (y == z) ≡ false) f g q (λ z other. stays z (ap (λ w. w == z) same ∙ other)) apart.0 i
 put_there (y ∷ q) (suc k) s f g x is apart stays grows =
-    let other = all_at (λ z. (y == z) ≡ false) q k s apart.0 is in
-    λ i. stays y (other_way y s other) i ∷ put_there q k s f g x is apart.1 stays grows i
+    λ i. stays y (other_way y s (all_at (λ z. (y == z) ≡ false) q k s apart.0 is)) i ∷ put_there q k s f g x is apart.1 stays grows i
 
 put_last : (x : ShownComment) (ts : List Thread) → put_in (length ts) x ts ≡ ts ++ record { root = x.number; comments = x ∷ []; unresolved = x.unresolved } ∷ []
 put_last x [] = refl

@@ -36,8 +36,7 @@ module _ (reading : Reading) (h : List Entry) (history : IsHistory h) (caller : 
   own_line : (f : StoredFile) → own_of h project ≡ Some f → (p : Option (List ℕ)) → f.parent ≡ p → HasPatternIn h p → SomePattern (texts_of h project)
   own_line f has None named some = absurd some
   own_line f has (Some q) named some =
-      let sound = sound_files spelled_once reading h history enough.reads in
-      let low : ends (own_of h) 7 q ≡ true = parent_ends reading (own_of h) sound project f has q named in
+      let low : ends (own_of h) 7 q ≡ true = parent_ends reading (own_of h) (sound_files spelled_once reading h history enough.reads) project f has q named in
       let whole : texts_of h project ≡ f.text ∷ line_of (own_of h) 7 q =
       ap (λ o. with_above o (line_of (own_of h) 7)) has ∙ ap (λ o. f.text ∷ option_map_or (line_of (own_of h) 7) o []) named in
       subst SomePattern (sym whole) (inr (subst SomePattern (line_whole (own_of h) 7 q low) some))

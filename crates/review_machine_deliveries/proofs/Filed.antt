@@ -84,8 +84,7 @@ pub come_to_file : (file : Option File) (rows : Rows) (caller : ℕ) (topic : To
 come_to_file file rows caller topic none =
     let line = line_steps rows most_depth (parent_of rows topic) in
     let last = file_wants None caller topic ∷ [] in
-    let made = (all_made None rows caller topic none).0 in
-    let p = none_in (unknown rows (first_wants caller topic)) (next_of rows (change_wants rows topic ∷ (line ++ last))) made in
+    let p = none_in (unknown rows (first_wants caller topic)) (next_of rows (change_wants rows topic ∷ (line ++ last))) ((all_made None rows caller topic none).0) in
     let q = none_in (unknown rows (change_wants rows topic)) (next_of rows (line ++ last)) p.1 in
     (p.0, q.0, front_made rows line last q.1)
 
@@ -266,8 +265,7 @@ module _ (first rows : Rows) (stays : StaysKnown first rows) where
 judged : (t : Tables) (rows : Rows) (caller : ℕ) (topic : Topic) (text : List ℕ) (above : List (List ℕ)) → Agrees t rows → next None rows caller topic ≡ [] → texts_for rows topic ≡ text ∷ above →
     SomePattern (text ∷ above) → IsJudgedByPattern topic t
 judged t rows caller topic text above agree left are has = λ reading h reads v.
-    let there = subst (λ (u : Tables). Agrees u rows) (view_of reading h t (v reading reads)) agree in
-    let of = are_of reading h rows caller topic text above there left are in
+    let of = are_of reading h rows caller topic text above (subst (λ (u : Tables). Agrees u rows) (view_of reading h t (v reading reads)) agree) left are in
     subst (HasPatternIn h) (sym of.judges) (subst SomePattern (sym of.texts_are) has)
 
 -- tables with texts for which no file is effective are those of no history
@@ -275,8 +273,7 @@ damaged : (t : Tables) (rows : Rows) (caller : ℕ) (topic : Topic) (text : List
     ((f : File) → IsEffective (text ∷ above) f → ⊥) → IsDamaged t
 damaged t rows caller topic text above agree left are unread = λ h history v.
     let r = reading_of h history in
-    let there = subst (λ (u : Tables). Agrees u rows) (view_of r.0 h t (v r.0 r.1)) agree in
-    let of = are_of r.0 h rows caller topic text above there left are in
+    let of = are_of r.0 h rows caller topic text above (subst (λ (u : Tables). Agrees u rows) (view_of r.0 h t (v r.0 r.1)) agree) left are in
     let right : AreReadRight r.0 (text ∷ above) = subst (AreReadRight r.0) of.texts_are (line_read r.0 h r.1 most_depth of.project) in
     unread (effective_of r.0 (text ∷ above)) (effective_is r.0 text above right)
 

@@ -77,10 +77,7 @@ pub same_from : (a b : Identity) → is_same a b ≡ true → a ≡ b
 same_from a b t =
     let p = and_parts (a.caller == b.caller) ((a.epoch == b.epoch) && bytes_eq a.id b.id) t in
     let q = and_parts (a.epoch == b.epoch) (bytes_eq a.id b.id) p.1 in
-    let c = eqb-true a.caller b.caller p.0 in
-    let n = eqb-true a.epoch b.epoch q.0 in
-    let d = (bytes_eq-Decides a.id b.id).0 q.1 in
-    λ k. record { caller = c k; epoch = n k; id = d k }
+    λ k. record { caller = (eqb-true a.caller b.caller p.0) k; epoch = (eqb-true a.epoch b.epoch q.0) k; id = ((bytes_eq-Decides a.id b.id).0 q.1) k }
 
 pub same_to : (a b : Identity) → a ≡ b → is_same a b ≡ true
 same_to a b e =

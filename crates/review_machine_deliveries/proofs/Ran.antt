@@ -152,10 +152,9 @@ module _ (h0 : List Entry) (ds es : List Delivery) (rs ss : List Reply) (cs os :
       (get_or (cs ++ os) (length ds + j) c).0 (get_or (cs ++ os) (length ds + j) c).1
   late j d r c below =
       let same = one.replies in
-      let long = one.counted in
       let taken_rs : take (length ds + j) (rs ++ ss) ≡ rs ++ take j ss = ap (λ n. take (n + j) (rs ++ ss)) (sym same) ∙ take-append-add rs ss j in
       let got_rs : get_or (rs ++ ss) (length ds + j) r ≡ get_or ss j r = ap (λ n. get_or (rs ++ ss) (n + j) r) (sym same) ∙ get_or-append-add rs ss j r in
-      let got_cs : get_or (cs ++ os) (length ds + j) c ≡ get_or os j c = ap (λ n. get_or (cs ++ os) (n + j) c) (sym long) ∙ get_or-append-add cs os j c in
+      let got_cs : get_or (cs ++ os) (length ds + j) c ≡ get_or os j c = ap (λ n. get_or (cs ++ os) (n + j) c) (sym one.counted) ∙ get_or-append-add cs os j c in
       right_at h0 (take (length ds + j) (ds ++ es)) (take (length ds + j) (rs ++ ss))
       ((λ k. history_after h0 (take-append-add ds es j k) (taken_rs k)) ∙ history_after-append h0 ds (take j es) rs (take j ss) same)
       (sym (get_or-append-add ds es j d))

@@ -317,8 +317,7 @@ told_append h [] es [] ss a b = b
 told_append h [] es (r ∷ rs) ss a b = absurd a
 told_append h (d ∷ ds) es [] ss a b = absurd a
 told_append h (d ∷ ds) es (r ∷ rs) ss a b =
-    let g = history_after h (d ∷ []) (r ∷ []) in
-    (a.0, a.1, told_append g ds es rs ss a.2 (subst (λ x. AreTold x es ss) (history_cons h d ds r rs) b))
+    (a.0, a.1, told_append (history_after h (d ∷ []) (r ∷ [])) ds es rs ss a.2 (subst (λ x. AreTold x es ss) (history_cons h d ds r rs) b))
 
 told_take : (i : ℕ) (h : List Entry) (ds : List Delivery) (rs : List Reply) → AreTold h ds rs → AreTold h (take i ds) (take i rs)
 told_take zero h ds rs a = tt

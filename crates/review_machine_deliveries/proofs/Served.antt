@@ -181,8 +181,7 @@ pub repeat_served : (h : List Entry) (row : AnswerRow) (caller epoch : ℕ) (id 
     IsHistory h → Views h old.tables → Shows old.tables (λ t. Answers t (record { caller = caller; epoch = epoch; id = id }) (Some (Answered row))) → IsToldAgain row (content_text command) result →
     new.tables ≡ old.tables → new.faults ≡ old.faults → AddsNoStop old new → IsServed h (Write caller epoch id command) (reply_of result) old new
 repeat_served h row caller epoch id command result old new hist v there told stays quiet adds =
-    let r = found old.tables v there in
-    again result r told (views_stay h old.tables new.tables stays v)
+    again result (found old.tables v there) told (views_stay h old.tables new.tables stays v)
   where
     i : Identity
     i = record { caller = caller; epoch = epoch; id = id }

@@ -38,8 +38,7 @@ one_found one at (n ∷ ns) a b x y = of (at n) x y (one_found one at ns a b)
     of : (o : Option (Setting × Change)) → IsFoundAt at n ns a o → IsFoundAt at n ns b o → (IsFirstUnsatisfied at ns a → IsFirstUnsatisfied at ns b → a ≡ b) → a ≡ b
     of None x y later = absurd x
     of (Some c) x y later =
-        let shown = one c.0 c.1 y.0 x.0 y.1 x.1 in
-        by (unsatisfied_in x.0) x.2 (subst (λ l. IsFound at n ns b (unsatisfied_in l)) shown y.2) later
+        by (unsatisfied_in x.0) x.2 (subst (λ l. IsFound at n ns b (unsatisfied_in l)) (one c.0 c.1 y.0 x.0 y.1 x.1) y.2) later
 
 -- one chain, and what is found of it
 one_checked : OneStanding → (reading : Reading) (h : List Entry) (b : Branch) (n : ℕ) (r s : Reply) → HasChain reading h b n r → HasChain reading h b n s → r ≡ s

@@ -266,8 +266,7 @@ module _ (reading : Reading) where
     where
       by : (b : Bool) → bytes_eq x q ≡ b → option_map (λ (f : StoredFile). f.parent) (new q) ≡ option_map (λ (f : StoredFile). f.parent) (own q)
       by true is =
-          let same = (bytes_eq-Decides x q).0 is in
-          subst (λ z. option_map (λ (f : StoredFile). f.parent) (new z) ≡ option_map (λ (f : StoredFile). f.parent) (own z)) same
+          subst (λ z. option_map (λ (f : StoredFile). f.parent) (new z) ≡ option_map (λ (f : StoredFile). f.parent) (own z)) ((bytes_eq-Decides x q).0 is)
           (ap (option_map (λ (f : StoredFile). f.parent)) put.has ∙ (ap Some put.parent ∙ sym (ap (option_map (λ (f : StoredFile). f.parent)) put.had)))
       by false is = ap (option_map (λ (f : StoredFile). f.parent)) (put.others q is)
 
@@ -291,7 +290,6 @@ module _ (reading : Reading) where
       by : (m : ℕ) → m < suc n → ends own m parent ≡ true → ends own m x ≡ false → IsAbove own new n parent
       by m less e before =
           let avoid = shorter_avoids own x m parent e before in
-          let line = line_spared own new x put.others m parent avoid in
           let end : ends new m parent ≡ true = ends_spared own new x put.others m parent avoid ∙ e in
           let k = gap m n less in
           let sum : more k.0 m ≡ n = k.1 in
@@ -300,7 +298,7 @@ module _ (reading : Reading) where
             after = subst (λ i. ends new i parent ≡ true) sum (ends_later new k.0 m parent end);
             same =
                 subst (λ i. eff reading new i parent ≡ eff reading own i parent) sum
-                (eff_later new k.0 m parent end ∙ (ap (effective_of reading) line ∙ sym (eff_later own k.0 m parent e)));
+                (eff_later new k.0 m parent end ∙ (ap (effective_of reading) (line_spared own new x put.others m parent avoid) ∙ sym (eff_later own k.0 m parent e)));
           }
 
   -- The new own file makes this effective file, where its parent's stays.

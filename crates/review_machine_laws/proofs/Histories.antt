@@ -118,8 +118,7 @@ module _ (reading : Reading) where
   pub parent_ends : (own : Files) → AreSoundFiles reading own → (q : List ℕ) (f : StoredFile) → own q ≡ Some f → (p : List ℕ) → f.parent ≡ Some p → ends own 7 p ≡ true
   parent_ends own sound q f is p has =
       let b = begins own 7 q (sound.end q (some_of (own q) f is)) in
-      let same = the_same (own q) b.file f b.there is in
-      subst (λ o. ends_above o (ends own 7) ≡ true) (ap (λ (g : StoredFile). g.parent) same ∙ has) b.above
+      subst (λ o. ends_above o (ends own 7) ≡ true) (ap (λ (g : StoredFile). g.parent) (the_same (own q) b.file f b.there is) ∙ has) b.above
 
   ordered : (own : Files) → AreSoundFiles reading own → (q : List ℕ) (f : StoredFile) → own q ≡ Some f → OrderedLabels (reading f.text).labels
   ordered own sound q f is = labels_in_order f.text (reading f.text) (sound.spelled q f is)
@@ -219,9 +218,8 @@ module _ (reading : Reading) where
 
     here : covers (eff reading own most_depth x) (made now.parent) ≡ true → (n : ℕ) → ends own n x ≡ true → covers (eff reading own n x) (eff reading new n x) ≡ true
     here h n e =
-        let old = eff_same reading own n most_depth x e x_ends in
         let later = eff_same reading new n most_depth x (alike n x ∙ e) (alike most_depth x ∙ x_ends) ∙ new_is in
-        ap (λ v. covers v (eff reading new n x)) old ∙ (ap (covers (eff reading own most_depth x)) later ∙ h)
+        ap (λ v. covers v (eff reading new n x)) (eff_same reading own n most_depth x e x_ends) ∙ (ap (covers (eff reading own most_depth x)) later ∙ h)
 
     -- each project's effective file keeps what it had
     pub again_grows : covers (eff reading own most_depth x) (made now.parent) ≡ true → Grow reading own new
@@ -319,10 +317,9 @@ module _ (one : OneFile) (reading : Reading) (h : List Entry) (sound : AreSoundF
       where
         by : (o : Option (List ℕ)) → named_parent text ≡ o → option_map_or (λ p. inherits_unknown_label (eff reading (own_of h) most_depth p) (reading text)) (named_parent text) (names_unknown_label (reading text)) ≡ false
         by None none =
-            let alone = known_labels text (reading text) read in
             let parent : (reading text).parent ≡ None = names ∙ none in
             ap (λ o. option_map_or (λ p. inherits_unknown_label (eff reading (own_of h) most_depth p) (reading text)) o (names_unknown_label (reading text))) none
-            ∙ (sym (ap (λ o. is_none o && names_unknown_label (reading text)) parent) ∙ alone)
+            ∙ (sym (ap (λ o. is_none o && names_unknown_label (reading text)) parent) ∙ (known_labels text (reading text) read))
         by (Some p) is =
             ap (λ o. option_map_or (λ r. inherits_unknown_label (eff reading (own_of h) most_depth r) (reading text)) o (names_unknown_label (reading text))) is
             ∙ (sym (inherits_alike (file_of reading h p) file (reading text) trees)
@@ -394,8 +391,7 @@ labels_known one reading h history reads project is =
   where
     line_parent : AreSoundFiles reading (own_of h) → (q : List ℕ) (f : StoredFile) → own_of h q ≡ Some f → (p : List ℕ) → f.parent ≡ Some p → is_some (own_of h p) ≡ true
     line_parent sound q f there p has =
-        let low = parent_ends reading (own_of h) sound q f there p has in
-        let b = begins (own_of h) 6 p low in
+        let b = begins (own_of h) 6 p (parent_ends reading (own_of h) sound q f there p has) in
         ap is_some b.there
 
     at : AreSoundFiles reading (own_of h) → (n : ℕ) (q : List ℕ) (f : StoredFile) → own_of h q ≡ Some f → ends_above f.parent (ends (own_of h) n) ≡ true → OwnKnown reading (own_of h) n f
@@ -407,9 +403,8 @@ labels_known one reading h history reads project is =
             ∙ (sym (ap (λ o. option_map_or (λ p. inherits_unknown_label (eff reading (own_of h) most_depth p) (reading f.text)) o (names_unknown_label (reading f.text))) none) ∙ sound.known q f there)
         by (Some p) has =
             let here : ends (own_of h) n p ≡ true = subst (λ o. ends_above o (ends (own_of h) n) ≡ true) has above in
-            let whole = sound.end p (line_parent sound q f there p has) in
             ap (λ o. option_map_or (λ r. inherits_unknown_label (eff reading (own_of h) n r) (reading f.text)) o (names_unknown_label (reading f.text))) has
-            ∙ (ap (λ v. inherits_unknown_label v (reading f.text)) (eff_same reading (own_of h) n most_depth p here whole)
+            ∙ (ap (λ v. inherits_unknown_label v (reading f.text)) (eff_same reading (own_of h) n most_depth p here (sound.end p (line_parent sound q f there p has)))
             ∙ (sym (ap (λ o. option_map_or (λ r. inherits_unknown_label (eff reading (own_of h) most_depth r) (reading f.text)) o (names_unknown_label (reading f.text))) has) ∙ sound.known q f there))
 
 -- ==== the effective file that was read of a line is the one of the history

@@ -44,8 +44,7 @@ accepted_of reading h caller m (Some c) a there pass (inr good) =
 
 pub submit_accepted : (reading : Reading) (h : List Entry) (caller m : ℕ) (a : Answer) → IsAnswerBy reading h caller (Submit m) (Done a) → IsAccepted reading h m a
 submit_accepted reading h caller m a answer =
-    let none = done_passes reading h caller (Submit m) a answer in
-    let pass = (all_pass ((is_account h caller, UnknownCaller) ∷ checks reading h caller (Submit m)) none).1 in
+    let pass = (all_pass ((is_account h caller, UnknownCaller) ∷ checks reading h caller (Submit m)) (done_passes reading h caller (Submit m) a answer)).1 in
     accepted_of reading h caller m (change reading h m) a refl pass (not_refused {A = IsOutcome reading h caller (Submit m) (Done a)} (refused_by reading h caller (Submit m)) a answer)
 
 -- ==== the place of a change in the list of those that joined its branch is its place

@@ -301,8 +301,7 @@ follows_commit : (reading : Reading) (h : List Entry) (project branch : List ℕ
 follows_commit reading h project branch d n f p =
     let q = standing_patch reading h project branch (parent p.of) d f.patch p.parent_is in
     let l = linked project branch (change reading h d) f.link f.there in
-    let same = same_change reading h d l.of q.of l.there q.there in
-    let number : current q.of ≡ f.link.patch = sym (ap current same) ∙ ap (λ (x : Link). x.patch) l.link_is in
+    let number : current q.of ≡ f.link.patch = sym (ap current (same_change reading h d l.of q.of l.there q.there)) ∙ ap (λ (x : Link). x.patch) l.link_is in
     let last : suc q.place ≡ current q.of = sym q.counts ∙ (f.current ∙ sym number) in
     ap (option_map commit) q.there ∙ ap Some (current_commit q.of q.place q.patch q.stands last ∙ q.commit_is)
 
@@ -343,9 +342,8 @@ pub entry_stands : (reading : Reading) (e : Entry) (h : List Entry) (m : ℕ) (c
     e.reply ≡ Done (Submitted (front ++ n ∷ back)) → change reading h m ≡ Some c → StandsOn reading h c.project c.branch (joined h c.project c.branch ++ front) n
 entry_stands reading e h m c front n back history reads command reply there =
     let s = entry_accepted reading e h m (Submitted (front ++ n ∷ back)) history reads command reply in
-    let same = same_change reading h m s.of c s.there there in
     let chain : s.chain ≡ front ++ n ∷ back = sym (ap (λ x. joined_in (Done x)) s.told) in
-    subst (λ (x : Change). StandsOn reading h x.project x.branch (joined h x.project x.branch ++ front) n) same
+    subst (λ (x : Change). StandsOn reading h x.project x.branch (joined h x.project x.branch ++ front) n) (same_change reading h m s.of c s.there there)
     (chain_stands reading h s.of.project s.of.branch front n back m history.3 reads (subst (λ l. IsChain (branch_after reading h s.of.project s.of.branch) l m) chain s.is_chain))
 
 -- ---- in every history

@@ -103,8 +103,7 @@ pub applied_indexed : (delta : Delta) (changes : Changes) (given : List NameKey)
 applied_indexed delta changes given projects old new copies are listed keeps applied indexed number name is =
     let G : Type 0 = IsNumber number × (row_in name_cmp (rows_of new.names) (record { name = name; account = number }) ≡ Some tt) in
     let was = row_in nat_cmp (rows_of old.accounts) number in
-    let change = row_edit_of nat_cmp delta.accounts.items number in
-    account_indexed change was name G
+    account_indexed (row_edit_of nat_cmp delta.accounts.items number) was name G
     (ap (λ cs. changed nat_cmp cs number was) (sym copies.accounts) ∙ (sym (applied.accounts number) ∙ is))
     (λ row found named.
     let h = change_holds exact_unsigned (λ n r. IsNumber n × IfSome r (λ x. Contains given (record { name = x; account = n }))) delta.accounts.items are number row found in

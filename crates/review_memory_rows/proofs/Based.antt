@@ -276,8 +276,7 @@ module _ (base : Put PlaceKey (List ℕ)) (before : Option CommitKey) (commits m
       (λ (f : is_at (commit_cmp (commit_at base.key base.row)) (commit_at k commit) ≡ false).
       let had = (r.all.listed k commit).1 (sym (ap (λ b. cond b (Some tt) (row_in commit_cmp commits (commit_at k commit))) f) ∙ (sym (r.listed (commit_at k commit)) ∙ rest.1)) in ⊎_elim
       (λ (t : is_at (place_cmp base.key) k ≡ true).
-      let same = tells_apart exact_place base.key k t in
-      at_here r k t ∙ ap Some (sym (replaced k commit r same had rest.0)))
+      at_here r k t ∙ ap Some (sym (replaced k commit r (tells_apart exact_place base.key k t) had rest.0)))
       (λ (g : is_at (place_cmp base.key) k ≡ false). elsewhere r k g ∙ had)
       (cases_Bool (is_at (place_cmp base.key) k)))
       (cases_Bool (is_at (commit_cmp (commit_at base.key base.row)) (commit_at k commit)))

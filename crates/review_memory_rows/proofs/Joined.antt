@@ -289,10 +289,9 @@ module _ (row : Key → Option Row) (key : Branch) where
         ordered = all_pairs_push (IsBefore row key) joined j so.ordered
             (λ i d below p q before at.
             let a = get_or joined i d in
-            let less = (so.behind i d below p before).0 in
             let place = one_place row key j.change k.place q is.at at in
             ⊎_elim (λ lower. inl (subst (λ x. p < x) place lower)) (λ tied. inr (tied.0 ∙ place, subst (λ x. a.change < x) (sym found.0) tied.1))
-            (less_parts p k.place a.change k.change k.branch own.0 less));
+            (less_parts p k.place a.change k.change k.branch own.0 ((so.behind i d below p before).0)));
         sorted = so.sorted.1;
         own = so.own.1;
         behind = All-push (λ x. (place : ℕ) → IsAtPlace row key place x.change → AllByRecursion (λ y. place_cmp (key_at key place x.change) y ≡ Less) (keys_of rest)) joined j

@@ -6,9 +6,8 @@ use Rattle.review_core.proofs.states.abandon.Goals as goal
 
 pub returns-clause-made : goal.returns-clause-made
 returns-clause-made c =
-    let rows = c.args.rows.now in
     let same = c.in_ok-edited.ensures.same in
-    let after = settled no_copying Abandon c.args.caller c.args.request (seen rows) in
+    let after = settled no_copying Abandon c.args.caller c.args.request (seen c.args.rows.now) in
     λ i. record (same i) {
       attention = λ u. (c.in_ok-clear.ensures.rows u ∙ kept_nothing (eligible after u && (not (c.args.caller == u) && not after.wip)) None c.args.request) i;
     }

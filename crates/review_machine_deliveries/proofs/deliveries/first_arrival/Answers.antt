@@ -76,9 +76,8 @@ returns-in_err-decided-clause-unchanged g c = λ honest none.
 
 pub returns-in_err-decided-clause-counted : goal.returns-in_err-decided-clause-counted
 returns-in_err-decided-clause-counted g c =
-    let before = (g.S.Shelf.state c.args.shelf.now).faults in
     let after = (g.S.Shelf.state c.gather_and_decide.new.shelf).faults in
-    subst (λ r. CountsReply r before after) (err_reply c.from_residual.result c.in_err-decided.field-0.0 c.from_residual.ensures)
+    subst (λ r. CountsReply r ((g.S.Shelf.state c.args.shelf.now).faults) after) (err_reply c.from_residual.result c.in_err-decided.field-0.0 c.from_residual.ensures)
     c.in_err-decided.ensures.gathers.counted
 
 pub returns-in_err-store-clause-served : goal.returns-in_err-store-clause-served
