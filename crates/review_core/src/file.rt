@@ -1,19 +1,15 @@
 //! A change whose rows fit together, and what each request makes of it.
 ghost use Rattle.std.specs.Prelude.{◌≡◌, ◌↔◌, true, IfOk, MatchResult};
-ghost use Rattle.review_words.specs.declared.command.ChangeCommand.TheVariants.{Upload};
-ghost use Rattle.review_core_rules.specs.Change.{after, carried, copying, eligible, is_lost};
-ghost use Rattle.review_core_rules.specs.{EditedChanges.Makes, Seen.seen, Sound.IsSound, Sound.fits, Threads.threads};
-ghost use Rattle.review_core_rules.specs.Votes.{voted};
-ghost use Rattle.review_core_tables.specs.Copies.{AreMany, group_list};
-ghost use Rattle.{review_core_standing.specs.Grouped.IsStatus, review_core.specs.Faults.IsRefused};
+ghost use Rattle.review_core_rules.specs.{Change.eligible, Seen.seen, Sound.IsSound, Threads.threads};
+ghost use Rattle.{review_core_tables.specs.Copies.group_list, review_core_standing.specs.Grouped.IsStatus};
+ghost use Rattle.review_core.specs.Faults.{IsRefused};
 
 use crate::sound::{are_all, are_counted, are_eligible, are_in_order, are_in_place};
-use crate::uploading::{self, Copied};
-use review_core_rules::{ChangeRows, EditedChange, stays_sound};
+use review_core_rules::ChangeRows;
 use review_core_standing::last_uploader;
 use review_core_tables::GroupTables;
 use review_file::{ProjectFile, Requirement};
-use review_words::{AccountNo, Listed, NewPatch, Status, Thread};
+use review_words::{AccountNo, Listed, Status, Thread};
 use std::alloc::{AllocError, Global};
 
 /// The rows of one change, which fit together.
@@ -91,29 +87,6 @@ impl<'r> ChangeFile<'r> {
         ensures { IfOk result (IsStatus (record { file = file.now; groups = group_list groups.now }) (seen self.now.rows.now) requirement.now) }
     {
         review_core_standing::status(alloc, self.rows, file, groups, requirement)
-    }
-
-    /// A new patch set, with the numbers of votes that were copied to it and that weren't. The file and the groups are those
-    /// before the request.
-    pub fn with_patch_set(
-        &self,
-        alloc: Global,
-        patch: NewPatch,
-        caller: AccountNo,
-        file: &ProjectFile,
-        groups: &GroupTables,
-        request: u64,
-    ) -> Result<(EditedChange<'r>, Copied), AllocError>
-        requires { fits (Upload patch) (seen self.now.rows.now) ≡ true }
-        ensures change { IfOk result (λ r. Makes self.now.rows.now (after (record { file = file.now; groups = group_list groups.now }) (Upload patch) caller request (seen self.now.rows.now)) r.0) }
-        ensures copied { IfOk result (λ r. AreMany (λ l u. voted (carried (copying (record { file = file.now; groups = group_list groups.now }) (Upload patch) caller (seen self.now.rows.now)) (seen self.now.rows.now) l u)) r.1.copied) }
-        ensures outdated { IfOk result (λ r. AreMany (λ l u. is_lost (copying (record { file = file.now; groups = group_list groups.now }) (Upload patch) caller (seen self.now.rows.now)) (seen self.now.rows.now) u l) r.1.outdated) }
-    {
-        stays_sound();
-        let (edited, counts) = uploading::with_patch_set(
-            alloc, self.rows, patch, caller, file, groups, request,
-        )?;
-        Ok((edited, counts))
     }
 }
 
