@@ -113,6 +113,17 @@ some_of (Some g) f is = refl
 the_same : (o : Option StoredFile) (f g : StoredFile) → o ≡ Some f → o ≡ Some g → f ≡ g
 the_same o f g is also = let e : Some f ≡ Some g = sym is ∙ also in cc
 
+-- what holds of the file that was put, and of those that stay, holds of each
+put_at : (own new : Files) (x : List ℕ) (now : StoredFile) → new x ≡ Some now → SameBut x own new → (q : List ℕ) (f : StoredFile) → new q ≡ Some f → (P : List ℕ → StoredFile → Type 0) → P x now → (own q ≡ Some f → P q f) → P q f
+put_at own new x now has others q f is P here there = by (bytes_eq x q) refl
+  where
+    by : (b : Bool) → bytes_eq x q ≡ b → P q f
+    by true e =
+        let same = (bytes_eq-Decides x q).0 e in
+        let file : now ≡ f = the_same (new q) now f (sym (ap new same) ∙ has) is in
+        subst (P q) file (subst (λ z. P z now) same here)
+    by false e = there (sym (others q e) ∙ is)
+
 module _ (reading : Reading) where
   -- the parent of a project has a line that ends sooner
   pub parent_ends : (own : Files) → AreSoundFiles reading own → (q : List ℕ) (f : StoredFile) → own q ≡ Some f → (p : List ℕ) → f.parent ≡ Some p → ends own 7 p ≡ true
@@ -156,23 +167,13 @@ module _ (reading : Reading) where
 
     pub first_sound : IsRead now.text (reading now.text) → (reading now.text).parent ≡ now.parent → ((p : List ℕ) → now.parent ≡ Some p → ends own 7 p ≡ true) → OwnKnown reading own most_depth now → AreSoundFiles reading new
     first_sound read names below k = record {
-      spelled = λ q f is. at q f is (λ z g. IsRead g.text (reading g.text)) read (λ was. sound.spelled q f was);
-      parents = λ q f is. at q f is (λ z g. (reading g.text).parent ≡ g.parent) names (λ was. sound.parents q f was);
+      spelled = λ q f is. put_at own new x now put.has put.others q f is (λ z g. IsRead g.text (reading g.text)) read (λ was. sound.spelled q f was);
+      parents = λ q f is. put_at own new x now put.has put.others q f is (λ z g. (reading g.text).parent ≡ g.parent) names (λ was. sound.parents q f was);
       end = λ q is. end_by q is (bytes_eq x q) refl;
-      known = λ q f is. at q f is (λ z g. OwnKnown reading new most_depth g) (first_known now (λ p has. ends_later own 1 7 p (below p has)) k)
+      known = λ q f is. put_at own new x now put.has put.others q f is (λ z g. OwnKnown reading new most_depth g) (first_known now (λ p has. ends_later own 1 7 p (below p has)) k)
           (λ was. first_known f (λ p has. ends_later own 1 7 p (parent_ends own sound q f was p has)) (sound.known q f was));
     }
       where
-        at : (q : List ℕ) (f : StoredFile) → new q ≡ Some f → (P : List ℕ → StoredFile → Type 0) → P x now → (own q ≡ Some f → P q f) → P q f
-        at q f is P here there = by (bytes_eq x q) refl
-          where
-            by : (b : Bool) → bytes_eq x q ≡ b → P q f
-            by true e =
-                let same = (bytes_eq-Decides x q).0 e in
-                let file : now ≡ f = the_same (new q) now f (sym (ap new same) ∙ put.has) is in
-                subst (P q) file (subst (λ z. P z now) same here)
-            by false e = there (sym (put.others q e) ∙ is)
-
         above : (o : Option (List ℕ)) → now.parent ≡ o → ends_above o (ends new 7) ≡ true
         above None none = refl
         above (Some p) has = (spared 7 p (below p has)).0
@@ -184,18 +185,8 @@ module _ (reading : Reading) where
   -- ---- a new file of a project that has one
 
   module _ (own new : Files) (x : List ℕ) (was now : StoredFile) (sound : AreSoundFiles reading own) (put : IsPutAgain reading own new x was now) (read : IsRead now.text (reading now.text)) where
-    again_at : (q : List ℕ) (f : StoredFile) → new q ≡ Some f → (P : List ℕ → StoredFile → Type 0) → P x now → (own q ≡ Some f → P q f) → P q f
-    again_at q f is P here there = by (bytes_eq x q) refl
-      where
-        by : (b : Bool) → bytes_eq x q ≡ b → P q f
-        by true e =
-            let same = (bytes_eq-Decides x q).0 e in
-            let file : now ≡ f = the_same (new q) now f (sym (ap new same) ∙ put.has) is in
-            subst (P q) file (subst (λ z. P z now) same here)
-        by false e = there (sym (put.others q e) ∙ is)
-
     better : AreSpelled reading new
-    better q f is = again_at q f is (λ z g. IsRead g.text (reading g.text)) read (λ had. sound.spelled q f had)
+    better q f is = put_at own new x now put.has put.others q f is (λ z g. IsRead g.text (reading g.text)) read (λ had. sound.spelled q f had)
 
     alike : (n : ℕ) (q : List ℕ) → ends new n q ≡ ends own n q
     alike n q = ends_alike own new (same_parents reading own new x was now put) n q
@@ -228,9 +219,9 @@ module _ (reading : Reading) where
     pub again_sound : covers (eff reading own most_depth x) (made now.parent) ≡ true → (reading now.text).parent ≡ now.parent → OwnKnown reading own most_depth now → AreSoundFiles reading new
     again_sound h names k = record {
       spelled = better;
-      parents = λ q f is. again_at q f is (λ z g. (reading g.text).parent ≡ g.parent) names (λ had. sound.parents q f had);
+      parents = λ q f is. put_at own new x now put.has put.others q f is (λ z g. (reading g.text).parent ≡ g.parent) names (λ had. sound.parents q f had);
       end = λ q is. end_by q is (bytes_eq x q) refl;
-      known = λ q f is. again_at q f is (λ z g. OwnKnown reading new most_depth g)
+      known = λ q f is. put_at own new x now put.has put.others q f is (λ z g. OwnKnown reading new most_depth g)
           (still now (labels_in_order now.text (reading now.text) read) (λ p has. parent_ends own sound x was put.had p (sym put.parent ∙ has)) k)
           (λ had. still f (ordered own sound q f had) (λ p has. parent_ends own sound q f had p has) (sound.known q f had));
     }
