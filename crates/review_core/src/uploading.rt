@@ -81,18 +81,12 @@ fn upload_facts(
 fn sent_by(patch: NewPatch, caller: AccountNo) -> PatchRow
     ensures { result ≡ record { commit = patch.commit; parent = patch.parent; kind = patch.kind; uploader = caller; paths = patch.paths } }
 {
-    let NewPatch {
-        commit,
-        parent,
-        kind,
-        paths,
-    } = patch;
     PatchRow {
-        commit,
-        parent,
-        kind,
+        commit: patch.commit,
+        parent: patch.parent,
+        kind: patch.kind,
         uploader: caller,
-        paths,
+        paths: patch.paths,
     }
 }
 
