@@ -21,6 +21,7 @@ pub mod places;
 
 pub use answer_keys::{AnswerKey, StoredAnswer};
 pub use bases::{BasesFault, Branches};
+pub use edits::copied_changes;
 pub use kept::{KeptChanges, Prepared};
 pub use keys::CommitKey;
 pub use lower::{key_of, lower_keys, remove_keys};
