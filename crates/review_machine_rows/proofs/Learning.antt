@@ -1,9 +1,9 @@
 -- Rows that learn what a look-up finds.
 use denote.Enum.Declared.{values_one}
 use Rattle.std.proofs.Common.{◌≡◌, ◌⊎◌, ℕ, List, Option, Some, None, true, false, cond, refl, sym, ap, ◌∙◌, inl, inr, ⊎_elim}
-use Rattle.std.proofs.lemmas.Map.Lookups.{both_Equal, CmpEqualImpliesEq, exact_unsigned, exact_bytes}
+use Rattle.std.proofs.lemmas.Map.Lookups.{CmpEqualImpliesEq, exact_unsigned, exact_bytes}
 use Rattle.std.specs.{Ordering.nat_cmp, Ordering.ordering_then, Ordering.is_eq, Prelude.option_map}
-use Rattle.review_table.proofs.Places.{exact_by_parts, by_exact}
+use Rattle.review_table.proofs.Places.{both_equal, exact_by_parts, by_exact}
 use Rattle.review_machine_rows.proofs.Common.{Base, Equal, IsTotalOrder, Ordering, Rows, Want, cases_Bool, is_at, nat_list_cmp_total, on_total, row_in, rows_of, slice_cmp, tells_apart, then_total, tied_itself}
 use Rattle.review_machine_rows.specs.Known.{Found, Members, known, known_by, group_of, held, meaning, want_cmp, Learns}
 use Rattle.review_machine_rows.specs.Rows.{member_cmp, branch_cmp, base_cmp}
@@ -27,11 +27,11 @@ abbrev by_parts : Base → Base → Ordering
 by_parts a b = ordering_then (slice_cmp nat_cmp a.branch b.branch) (slice_cmp nat_cmp a.commit b.commit)
 
 exact_parts : (x y : Base) → by_parts x y ≡ Equal → (x.branch ≡ y.branch) × (x.commit ≡ y.commit)
-exact_parts x y e = let both = both_Equal (slice_cmp nat_cmp x.branch y.branch) (slice_cmp nat_cmp x.commit y.commit) e in (exact_bytes x.branch y.branch both.0, exact_bytes x.commit y.commit both.1)
+exact_parts x y e = let both = both_equal (slice_cmp nat_cmp x.branch y.branch) (slice_cmp nat_cmp x.commit y.commit) e in (exact_bytes x.branch y.branch both.0, exact_bytes x.commit y.commit both.1)
 
 pub exact_base : CmpEqualImpliesEq base_cmp
 exact_base x y e =
-    let both = both_Equal (slice_cmp nat_cmp x.project y.project) (by_parts x y) e in
+    let both = both_equal (slice_cmp nat_cmp x.project y.project) (by_parts x y) e in
     let project = exact_bytes x.project y.project both.0 in
     let rest = exact_parts x y both.1 in
     λ i. record { project = project i; branch = rest.0 i; commit = rest.1 i }

@@ -1,6 +1,7 @@
 -- What a file or a base that is put leaves, and what a delta without one does.
 use Rattle.std.proofs.Common.{Some, option_map, ◌≡◌, ◌∙◌, ◌&&◌, ◌==◌, ℕ, List, Option, None, true, refl, ap, is_eq, nat_cmp, bytes_eq}
-use Rattle.std.proofs.lemmas.Map.Lookups.{both_Equal, CmpEqualImpliesEq, exact_unsigned, exact_bytes}
+use Rattle.std.proofs.lemmas.Map.Lookups.{CmpEqualImpliesEq, exact_unsigned, exact_bytes}
+use Rattle.review_table.proofs.Places.{both_equal}
 use Rattle.review_machine_rows.proofs.Common.{Delta, IsTotalOrder, Less, Ordering, PlaceKey, is_at, is_eq-slice_cmp, nat_cmp_total, nat_list_cmp_total, on_total, ordering_then, slice_cmp, then_total, unsigned_tied}
 use Rattle.review_machine_rows.specs.Rows.{Key, FileKey, BaseKey, Row, FileRow, BaseRow, Projects, BasesOf, place_cmp, after, after_put, count_after, count_put}
 
@@ -19,8 +20,8 @@ at_place_of k p b n =
 
 pub exact_place : CmpEqualImpliesEq place_cmp
 exact_place x y e =
-    let one = both_Equal (slice_cmp nat_cmp x.project y.project) (ordering_then (slice_cmp nat_cmp x.branch y.branch) (nat_cmp x.place y.place)) e in
-    let two = both_Equal (slice_cmp nat_cmp x.branch y.branch) (nat_cmp x.place y.place) one.1 in
+    let one = both_equal (slice_cmp nat_cmp x.project y.project) (ordering_then (slice_cmp nat_cmp x.branch y.branch) (nat_cmp x.place y.place)) e in
+    let two = both_equal (slice_cmp nat_cmp x.branch y.branch) (nat_cmp x.place y.place) one.1 in
     let p = exact_bytes x.project y.project one.0 in
     let b = exact_bytes x.branch y.branch two.0 in
     let n = exact_unsigned x.place y.place two.1 in

@@ -2,8 +2,9 @@
 use Rattle.std.proofs.Common.{zero, suc, ◌≡◌, ℕ, ◌+◌, ◌<◌, ◌≤◌, ◌==◌, Bool, true, false, cond, not, ◌&&◌, List, [], ◌∷◌, Option, Some, None, ap, sym, ◌∙◌, refl, subst, ⊎_elim, ◌⊎◌, inl, inr, eqb-true, arith, All, is_some, IsSome, unwrap_or, nat_cmp, max, bytes_eq, option_map, is_eq, ◌++◌, length, eq-eqb, length-append, is_le, is_lt}
 use Rattle.std.proofs.lemmas.Bool.{cases_Bool, and_parts, cases_lt, eqb-false}
 use Rattle.std.proofs.lemmas.Cmp.{then_total, on_total, nat_cmp_total, nat_list_cmp_total, tied_itself}
-use Rattle.std.proofs.lemmas.Map.Lookups.{both_Equal, CmpEqualImpliesEq, exact_unsigned, exact_bytes}
+use Rattle.std.proofs.lemmas.Map.Lookups.{CmpEqualImpliesEq, exact_unsigned, exact_bytes}
 use Rattle.std.specs.{Cmp.IsTotalOrder, Cmp.unsigned_ties, Int.from_bool}
+use Rattle.review_table.proofs.Places.{both_equal}
 use Rattle.review_table.specs.Rows.{row_in, after_row_edit, changed, HasNoEmptyPlace, HasEmptyOnly}
 use Rattle.review_machine_rows.proofs.Common.{BranchKey, Ordering, PlaceKey, Put, RowEdit, at_place, branch_cmp, bytes_eq-Decides, is_at, is_eq-slice_cmp, ordering_then, place_cmp, same_Some, slice_cmp, tells_apart}
 use Rattle.review_machine_rows.proofs.Joins.{nothing_at_zero, past_end, some_at, placed_more}
@@ -171,9 +172,9 @@ one_has key row (suc i) d lt = absurd (omega arith)
 
 exact_commit : CmpEqualImpliesEq commit_cmp
 exact_commit x y e =
-    let one = both_Equal (slice_cmp nat_cmp x.commit y.commit) (ordering_then (slice_cmp nat_cmp x.project y.project) (ordering_then (slice_cmp nat_cmp x.branch y.branch) (nat_cmp x.place y.place))) e in
-    let two = both_Equal (slice_cmp nat_cmp x.project y.project) (ordering_then (slice_cmp nat_cmp x.branch y.branch) (nat_cmp x.place y.place)) one.1 in
-    let three = both_Equal (slice_cmp nat_cmp x.branch y.branch) (nat_cmp x.place y.place) two.1 in
+    let one = both_equal (slice_cmp nat_cmp x.commit y.commit) (ordering_then (slice_cmp nat_cmp x.project y.project) (ordering_then (slice_cmp nat_cmp x.branch y.branch) (nat_cmp x.place y.place))) e in
+    let two = both_equal (slice_cmp nat_cmp x.project y.project) (ordering_then (slice_cmp nat_cmp x.branch y.branch) (nat_cmp x.place y.place)) one.1 in
+    let three = both_equal (slice_cmp nat_cmp x.branch y.branch) (nat_cmp x.place y.place) two.1 in
     let c = exact_bytes x.commit y.commit one.0 in
     let p = exact_bytes x.project y.project two.0 in
     let b = exact_bytes x.branch y.branch three.0 in

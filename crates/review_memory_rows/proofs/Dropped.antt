@@ -3,7 +3,8 @@ use Rattle.std.proofs.Common.{◌≡◌, ℕ, Bool, true, false, ◌&&◌, ◌==
 use Rattle.std.proofs.lemmas.Bool.{or_right, cases_Bool}
 use Rattle.std.proofs.lemmas.Cmp.{then_total, on_total, nat_cmp_total, nat_list_cmp_total, tied_itself}
 use Rattle.std.proofs.lemmas.Grind.{flat_map-append}
-use Rattle.std.proofs.lemmas.Map.Lookups.{both_Equal, CmpEqualImpliesEq, exact_unsigned, exact_bytes}
+use Rattle.std.proofs.lemmas.Map.Lookups.{CmpEqualImpliesEq, exact_unsigned, exact_bytes}
+use Rattle.review_table.proofs.Places.{both_equal}
 use Rattle.review_table.specs.Rows.{row_in, is_named, place_at, HasEmptyOnly, HasNoEmptyPlace}
 use Rattle.review_machine_rows.proofs.Common.{IsTotalOrder, Ordering, RowEdit, deref_pair, is_at, is_eq-slice_cmp, list_any-append, map-append, ordering_then, slice_cmp, take_more, tells_apart, unsigned_ties}
 use Rattle.review_machine_rows.proofs.Puts.{is_eq-then}
@@ -14,8 +15,8 @@ use Rattle.review_memory_rows.specs.declared.answer_keys.{AnswerKey.AnswerKey, S
 
 pub exact_answer : CmpEqualImpliesEq answer_cmp
 exact_answer x y e =
-    let one = both_Equal (nat_cmp x.epoch y.epoch) (ordering_then (nat_cmp x.caller y.caller) (slice_cmp nat_cmp x.id y.id)) e in
-    let two = both_Equal (nat_cmp x.caller y.caller) (slice_cmp nat_cmp x.id y.id) one.1 in
+    let one = both_equal (nat_cmp x.epoch y.epoch) (ordering_then (nat_cmp x.caller y.caller) (slice_cmp nat_cmp x.id y.id)) e in
+    let two = both_equal (nat_cmp x.caller y.caller) (slice_cmp nat_cmp x.id y.id) one.1 in
     let epoch = exact_unsigned x.epoch y.epoch one.0 in
     let caller = exact_unsigned x.caller y.caller two.0 in
     let id = exact_bytes x.id y.id two.1 in

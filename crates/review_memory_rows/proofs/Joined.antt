@@ -3,10 +3,10 @@ use Rattle.std.proofs.Common.{◌≡◌, ℕ, ◌<◌, ◌==◌, List, [], ◌�
 use Rattle.std.proofs.lemmas.Cmp.{then_total, on_total, nat_cmp_total, tied_itself, ranked}
 use Rattle.std.proofs.lemmas.List.Elements.{All-push, Contains-append_left, Contains-push}
 use Rattle.std.proofs.lemmas.List.{Kept.IsStrictlySortedBy-filter, Quantifiers.all_pairs_push}
-use Rattle.std.proofs.lemmas.Map.Lookups.{both_Equal, CmpEqualImpliesEq, exact_unsigned}
+use Rattle.std.proofs.lemmas.Map.Lookups.{CmpEqualImpliesEq, exact_unsigned}
 use Rattle.std.specs.{Cmp.IsTotalOrder, Cmp.nat_cmp_is, List.Sorted.IsStrictlySortedBy}
 use Rattle.std.specs.declared.cmp.Ordering.TheVariants.{Less, Equal, Greater}
-use Rattle.review_table.proofs.{Lasts.between, Lasts.keys_filtered, Places.row_between}
+use Rattle.review_table.proofs.{Lasts.between, Lasts.keys_filtered, Places.both_equal, Places.row_between}
 use Rattle.review_table.specs.Rows.{after_row_edit, is_named, row_in, rows_of}
 use Rattle.review_core_rules.specs.Parts.{Part, TheHeader, PartRow, AHeader}
 use Rattle.review_machine_rows.proofs.Common.{AllByRecursion, ChangeEdit, Header, Included, JoinedChange, Ordering, PatchRow, RowEdit, and_parts, bytes_eq-Decides, is_at, keys_of, nat_tests, ordering_then, range_contains, tells_apart}
@@ -23,8 +23,8 @@ use Rattle.review_memory_rows.specs.declared.places.PlaceKey.{PlaceKey}
 
 pub exact_place : CmpEqualImpliesEq place_cmp
 exact_place x y e =
-    let one = both_Equal (branch_cmp x.branch y.branch) (ordering_then (nat_cmp x.place y.place) (nat_cmp x.change y.change)) e in
-    let two = both_Equal (nat_cmp x.place y.place) (nat_cmp x.change y.change) one.1 in
+    let one = both_equal (branch_cmp x.branch y.branch) (ordering_then (nat_cmp x.place y.place) (nat_cmp x.change y.change)) e in
+    let two = both_equal (nat_cmp x.place y.place) (nat_cmp x.change y.change) one.1 in
     let b = exact_branch x.branch y.branch one.0 in
     let p = exact_unsigned x.place y.place two.0 in
     let n = exact_unsigned x.change y.change two.1 in

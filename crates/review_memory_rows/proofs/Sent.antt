@@ -2,8 +2,9 @@
 use Rattle.std.proofs.Common.{◌≡◌, List, [], ◌∷◌, ◌++◌, Option, Some, None, Bool, true, false, cond, refl, sym, ap, ◌∙◌, subst, All, is_some, is_eq, IsSome, ℕ, ◌==◌, eqb-true, option_map, nat_cmp, ◌≤◌, ◌&&◌, not, arith, is_le, is_lt, bytes_eq, Result, Ok, Err, IfOk, MatchBool}
 use Rattle.std.proofs.lemmas.Cmp.{tied_itself, then_total, on_total, nat_cmp_total, nat_list_cmp_total}
 use Rattle.std.proofs.lemmas.List.Elements.{All-from_recursion, recursion_from_All}
-use Rattle.std.proofs.lemmas.Map.Lookups.{both_Equal, CmpEqualImpliesEq, exact_unsigned, exact_bytes}
+use Rattle.std.proofs.lemmas.Map.Lookups.{CmpEqualImpliesEq, exact_unsigned, exact_bytes}
 use Rattle.std.specs.Cmp.{IsTotalOrder, unsigned_tied, unsigned_ties, nat_cmp_is}
+use Rattle.review_table.proofs.Places.{both_equal}
 use Rattle.review_table.specs.Rows.{after_row_edit, changed, row_edit_of, is_named, row_in, rows_of}
 use Rattle.review_core_rules.specs.Parts.{Part, PatchOf, PartRow, APatch, TheHeader, AHeader}
 use Rattle.review_machine_rows.proofs.Common.{AllByRecursion, AllocError, Base, ChangeEdit, Equal, Greater, Header, Less, Ordering, PatchRow, RowEdit, and_parts, bytes_eq-Decides, is_at, ordering_then, same_Some, slice_cmp, tells_apart}
@@ -103,8 +104,8 @@ all_put {K} cs all puts is = subst (All (λ (c : RowEdit K (Unit {0})). IsSome c
 
 pub exact_sent : CmpEqualImpliesEq sent_cmp
 exact_sent x y e =
-    let one = both_Equal (slice_cmp nat_cmp x.commit y.commit) (ordering_then (nat_cmp x.change y.change) (nat_cmp x.patch y.patch)) e in
-    let two = both_Equal (nat_cmp x.change y.change) (nat_cmp x.patch y.patch) one.1 in
+    let one = both_equal (slice_cmp nat_cmp x.commit y.commit) (ordering_then (nat_cmp x.change y.change) (nat_cmp x.patch y.patch)) e in
+    let two = both_equal (nat_cmp x.change y.change) (nat_cmp x.patch y.patch) one.1 in
     let c = exact_bytes x.commit y.commit one.0 in
     let n = exact_unsigned x.change y.change two.0 in
     let p = exact_unsigned x.patch y.patch two.1 in

@@ -8,7 +8,7 @@ use Rattle.std.proofs.lemmas.Cmp.{tied_itself, alike_right}
 use Rattle.std.proofs.lemmas.List.Elements.{All-head, All-tail, filter-append}
 use Rattle.std.proofs.lemmas.Map.{NonePasses}
 use Rattle.std.proofs.lemmas.Map.Entries.{length-keys_of, none_past_head, lookup-filter-keys}
-use Rattle.std.proofs.lemmas.Map.{Keys.IsDistinct-tail, Lookups.both_Equal, Lookups.CmpEqualImpliesEq}
+use Rattle.std.proofs.lemmas.Map.{Keys.IsDistinct-tail, Lookups.CmpEqualImpliesEq}
 use Rattle.std.proofs.lemmas.Map.Made.{distinct_count-le, distinct_count-from_IsDistinct, IsDistinct-from_count, update_all_none, lookup-map_values, keys_of-map_values}
 use Rattle.std.proofs.lemmas.Map.Views.{btree_map_len-from_list}
 use Rattle.std.specs.BTreeMap.{BTreeMap, btree_map_len, is_at, insert_entry, IsFromIterResult, Range.range_contains}
@@ -95,9 +95,13 @@ rows_sorted R [] h = tt
 rows_sorted R ((k, None) ∷ t) h = rows_sorted R t h.1
 rows_sorted R ((k, Some v) ∷ t) h = (all_rows (λ y. R k y ≡ Less) t h.0, rows_sorted R t h.1)
 
+pub both_equal : (a b : Ordering) → ordering_then a b ≡ Equal → (a ≡ Equal) × (b ≡ Equal)
+both_equal Equal b e = (refl, e)
+both_equal _ b e = absurd (cc)
+
 -- an order by two parts ties only equal keys, where those of the parts do
 pub exact_by_parts : {K A B : Type 0} (P : A → A → Ordering) (Q : B → B → Ordering) (f : K → A) (g : K → B) → CmpEqualImpliesEq P → CmpEqualImpliesEq Q → ((x y : K) → f x ≡ f y → g x ≡ g y → x ≡ y) → CmpEqualImpliesEq (λ x y. ordering_then (P (f x) (f y)) (Q (g x) (g y)))
-exact_by_parts P Q f g p q parts x y e = let both = both_Equal (P (f x) (f y)) (Q (g x) (g y)) e in parts x y (p (f x) (f y) both.0) (q (g x) (g y) both.1)
+exact_by_parts P Q f g p q parts x y e = let both = both_equal (P (f x) (f y)) (Q (g x) (g y)) e in parts x y (p (f x) (f y) both.0) (q (g x) (g y) both.1)
 
 -- each variant's order ties only equal values
 abbrev pub Exacts : (Fss : List (List Field)) → Each Ordering Fss → Type 0
