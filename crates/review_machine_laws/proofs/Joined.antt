@@ -1,8 +1,9 @@
 -- Which changes joined a branch, and at which places.
 use Rattle.std.proofs.Common.{◌≡◌, ℕ, List, ◌∷◌, Option, Some, None, refl, subst, inl, inr, ◌⊎◌, ◌+◌, ◌==◌, [], ◌++◌, length, Bool, true, false, cond, ◌&&◌, sym, ap, ◌∙◌, ⊎_elim, arith, eqb-true, append-nil, is_some, option_map, bytes_eq, ◌<◌, ◌≤◌, leb-true, All, Contains, nat_le, ◌||◌}
 use Rattle.std.proofs.lemmas.Bool.{not-true, and_right, and_parts, and_from}
-use Rattle.std.proofs.lemmas.Map.{Keys.IsDistinct-cons, Made.option_or-none, Steps.length-le_from_distinct_below}
+use Rattle.std.proofs.lemmas.Map.{Keys.IsDistinct-cons, Steps.length-le_from_distinct_below}
 use Rattle.std.specs.{List.AllByRecursion, List.IsDistinct, List.list_any, Option.option_or, Option.option_map_or}
+use Rattle.review_table.proofs.Plain.{or_none}
 use Rattle.review_words.specs.History.{Entry, is_account, if_done, accepted, bases, is_base, with_base}
 use Rattle.review_words.specs.declared.command.Command.TheVariants.{Submit, RecordBase, CreateChange, OnChange}
 use Rattle.review_words.specs.declared.shown.State.{State, TheVariants.New, TheVariants.Merged}
@@ -155,7 +156,7 @@ submit_places reading h m a s project branch n before = by (place_in s.chain n) 
     by None none =
         behind
         ∙ (ap (λ o. option_or (place_in (joined h project branch) n) (option_map (λ j. length (joined h project branch) + j) o)) (none_either (is_made_for h project branch m) none)
-        ∙ (option_or-none (place_in (joined h project branch) n) ∙ (before ∙ ap (λ o. place_of project branch (joining_at h o (change reading h n))) (sym none))))
+        ∙ (or_none (place_in (joined h project branch) n) ∙ (before ∙ ap (λ o. place_of project branch (joining_at h o (change reading h n))) (sym none))))
     by (Some k) some =
         let u = unmerged reading h m a s n k some in
         let same = made_for reading h m s.of project branch s.there ∙ same_branches project branch s.of u.of u.is_for_it in

@@ -1,6 +1,6 @@
 -- Plain laws of options and lists.
 use Rattle.std.proofs.Common.{◌≡◌, ℕ, zero, suc, List, [], ◌∷◌, Option, Some, None, Bool, true, false, cond, ◌||◌, is_some, option_map, slice_get, refl, subst}
-use Rattle.std.specs.List.{AllByRecursion}
+use Rattle.std.specs.{List.AllByRecursion, Option.option_or}
 
 pub some_or : {X : Type 0} (b : Bool) (x : X) (o : Option X) → is_some (cond b (Some x) o) ≡ b || is_some o
 some_or true x o = refl
@@ -15,3 +15,7 @@ pub all_at : {X : Type 0} (P : X → Type 0) (xs : List X) (k : ℕ) (x : X) →
 all_at P [] k x all is = absurd (cc)
 all_at P (y ∷ ys) zero x all is = let same : y ≡ x = cc in subst P same all.0
 all_at P (y ∷ ys) (suc k) x all is = all_at P ys k x all.1 is
+
+pub or_none : {X : Type 0} (o : Option X) → option_or o None ≡ o
+or_none None = refl
+or_none (Some x) = refl

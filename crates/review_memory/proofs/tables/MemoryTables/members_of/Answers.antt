@@ -1,6 +1,6 @@
 use Rattle.std.proofs.Common.{◌≡◌, ◌∙◌, ap, sym, cond, Option, Some, None, Bool, true, false, map, not, ◌&&◌, refl, nat_cmp, is_eq, is_le, is_lt}
 use Rattle.std.proofs.lemmas.Cmp.{nat_cmp_total, nat_list_cmp_total, nat_list_eq_equiv, tied_itself}
-use Rattle.std.{proofs.lemmas.Map.Made.option_or-none, specs.Cmp.eq_by_cmp_equiv}
+use Rattle.{std.specs.Cmp.eq_by_cmp_equiv, review_table.proofs.Plain.or_none}
 use Rattle.review_machine_rows.proofs.Common.{bytes_eq-Decides, deref_pair, is_at, member_cmp, option_or, ordering_then, row_in, rows_of, slice_cmp}
 use Rattle.review_machine_rows.specs.declared.rows.MemberKey.{MemberKey}
 use Rattle.review_memory.proofs.Applied.{member_total, row_between_numbers, taken_over}
@@ -27,7 +27,7 @@ loop-key-init c = record {
       ∙ row_between_numbers c.args.group.now q.group q.account all (λ _ is. c.requires q is)
       ∙ ap (λ b. cond b all None) (nat_list_eq_equiv.refl q.group))
       ∙ ap (λ t. option_or all (row_in nat_cmp (rows_of t) n)) c.new-members.ensures
-      ∙ option_or-none all;
+      ∙ or_none all;
   own = λ q is.
       let all = row_in member_cmp (rows_of c.args.self.now.members) q in
       let there = sym (row_between_numbers c.args.group.now q.group q.account all (λ _ there. c.requires q there))
