@@ -1,17 +1,10 @@
 -- What the texts that read the tables `desk` and `epochs` show over any schema.
-use Rattle.std.proofs.Common.{◌≡◌, ◌∙◌, ◌⊎◌, inl, inr, ℕ, List, [], Option, Some, None, Ok, Err, Result, IfOk, IfErr, IsTrue, false, ◌+◌, refl, sym, ap, subst, subst₂}
-use Rattle.std.proofs.lemmas.Bool.{cases_Bool}
-use Rattle.sqlite.{proofs.StateLemmas.survives_weaker, specs.Clock.timed as in_time, specs.Effect.Reads}
-use Rattle.sqlite.specs.Listing.{understood, reads_listing, listing_schema, if_select, IsSourceOf}
-use Rattle.sqlite.specs.State.{State, Shown, HasCleanDisk, Survives, FailsToQuery, FailsToShow, IsNotRun, IsUnchanged, IsRolledBack, CommitsShowing}
-use Rattle.{sqlite.specs.declared.error.Error.Error, sqlite_ast.specs.declared.Statement.Statement}
+use Rattle.sqlite.specs.{Clock.timed as in_time, Listing.reads_listing, Listing.if_select, Listing.IsSourceOf}
+use Rattle.{sqlite.specs.State.CommitsShowing, sqlite_ast.specs.declared.Statement.Statement}
 use Rattle.sqlite_resolve.specs.Compile.{compiled, first, planned, meaning, command, returning, timed, small, with_command}
-use Rattle.sqlite_resolve.specs.Lowering.{Checked, and_then}
-use Rattle.sqlite_resolve.specs.declared.{compiled.Compiled.Compiled, error.CompileError.TheVariants.NoSuchTable}
-use Rattle.sqlite_schema.specs.declared.{command.Command.Command, command.Returning.Returning, schema.Schema.Schema}
-use Rattle.{sqlite_syntax.specs.declared.statement.Parsed.Parsed, sqlite_tied.specs.Compute.everything}
-use Rattle.{sqlite_trees.specs.Tree.Trees, sqlite_value.specs.Order.Row}
-use Rattle.review_sql_tables.specs.declared.texts.TheConstants.{FIND_DESK, FIND_EPOCHS}
+use Rattle.sqlite_resolve.specs.{Lowering.and_then, declared.error.CompileError.TheVariants.NoSuchTable}
+use Rattle.{sqlite_schema.specs.declared.command.Command.Command, sqlite_syntax.specs.declared.statement.Parsed.Parsed}
+use Rattle.review_sql_tables.proofs.Common.{◌≡◌, ◌∙◌, ◌⊎◌, inl, inr, ℕ, List, [], Option, Some, None, Ok, Err, Result, IfOk, IfErr, IsTrue, false, ◌+◌, refl, sym, ap, subst, subst₂, cases_Bool, survives_weaker, Reads, understood, listing_schema, State, Shown, HasCleanDisk, Survives, FailsToQuery, FailsToShow, IsNotRun, IsUnchanged, IsRolledBack, Error, Checked, Compiled, Returning, Schema, everything, Trees, Row, FIND_DESK, FIND_EPOCHS}
 use Rattle.review_sql.specs.{Said.ShowsRows, Shelf.Stays}
 use Rattle.sqlite_ast.specs.declared.Statement.TheVariants as written
 use Rattle.sqlite_ast.specs.declared.Select as written_select

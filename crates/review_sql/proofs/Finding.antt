@@ -1,12 +1,8 @@
 -- Look-ups one after the other.
-use Rattle.std.proofs.Common.{Some, ap, ◌≡◌, ◌∙◌, inl, inr, ℕ, ◌+◌, ◌<◌, Bool, true, false, List, take, get_or, length, Result, Ok, Err, refl, sym, subst, OnOk}
-use Rattle.std.{proofs.lemmas.Option.same_Some, specs.declared.alloc.AllocError.AllocError}
-use Rattle.sqlite.specs.{Held.Held, Held.state, State.State, declared.error.Error.Error}
-use Rattle.sqlite_trees.specs.{Tree.Trees, declared.store.Store.Ghosts}
-use Rattle.review_sql_tables.{proofs.Found.look_on, proofs.Found.look_both, specs.Ran.Looks}
+use Rattle.review_sql_tables.proofs.Common.{Some, ap, ◌≡◌, ◌∙◌, inl, inr, ℕ, ◌+◌, ◌<◌, Bool, true, false, List, take, get_or, length, Result, Ok, Err, refl, sym, subst, OnOk, same_Some, AllocError, Held, state, State, Error, Trees, Ghosts, Looks}
 use Rattle.review_machine_rows.proofs.Looked.{asked_more, looked_agrees}
-use Rattle.review_machine_rows.specs.Known.{group_of, AreAsked, Agrees, known, Found, IsFound, Learns}
-use Rattle.review_machine_rows.specs.declared.rows.{Rows.Rows, Want.Want}
+use Rattle.review_machine_rows.specs.Known.{group_of, known, Found, IsFound, Learns}
+use Rattle.review_sql_records.proofs.Common.{look_on, look_both, AreAsked, Agrees, Rows, Want}
 use Rattle.review_sql_lookups.specs.{Counts.AreBounded, Tables.tables_at, declared.counts.Counts.Counts}
 use Rattle.review_sql.specs.Loading.{HasLearnt, LearnsBounded, LearnsSeen, LooksIf, LooksOnce, WereSeen, learnt_by}
 use Rattle.review_sql.specs.declared.loading.Ended.{Ended}

@@ -1,10 +1,7 @@
 -- What a stop left of a desk of ours is opened as one.
-use Rattle.std.proofs.Common.{◌≡◌, ◌≢◌, ◌⊎◌, inl, inr, List, IsTrue, refl, sym, subst, arith}
-use Rattle.sqlite.specs.{Effect.Database, Effect.IsDatabase, State.State, State.IsLive}
-use Rattle.{sqlite_trees.specs.declared.store.Store.Ghosts, review_words.specs.History.Entry}
-use Rattle.review_sql_tables.proofs.OneSchema.{one_schema}
-use Rattle.review_sql_tables.specs.{Desk.desk_schema, Desk.schema_0, Made.IsBlank, Ran.IsReady}
-use Rattle.review_machine_rows.{proofs.Readings.reading_of, specs.Answer.IsHistory, specs.View.IsView}
+use Rattle.sqlite.specs.State.{IsLive}
+use Rattle.review_sql_tables.proofs.Common.{◌≡◌, ◌≢◌, ◌⊎◌, inl, inr, List, IsTrue, refl, sym, subst, arith, Database, IsDatabase, State, Ghosts, desk_schema, schema_0, IsBlank, IsReady}
+use Rattle.review_sql_records.proofs.Common.{Entry, one_schema, reading_of, IsHistory, IsView}
 use Rattle.review_sql_lookups.specs.Tables.{tables_at}
 use Rattle.review_sql.proofs.{Again.cause_left, Again.unfit_left, Shown.ready_ours}
 use Rattle.review_sql.specs.{Left.MakesOurs, Left.StopLeavesDesk, Migrated.IsUnfit, Opened.IsRefused}

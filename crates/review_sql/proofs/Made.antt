@@ -1,9 +1,5 @@
 -- A shelf that was made.
-use Rattle.std.proofs.Common.{◌≡◌, ◌∙◌, ◌⊎◌, inl, inr, Bool, Some, true, false, Ok, Err, IsTrue, refl, sym, ap, subst, arith}
-use Rattle.sqlite.{proofs.StateLemmas.survives_then, specs.Effect.Database}
-use Rattle.sqlite.specs.{Held.Held, Held.state, State.State, State.HasCleanDisk, declared.error.Error.Error}
-use Rattle.sqlite_trees.specs.{Tree.Trees, declared.store.Store.Ghosts}
-use Rattle.review_sql_tables.specs.{Desk.schema_0, Made.IsBlank, Ran.Transacts, Ran.IsReady}
+use Rattle.review_sql_tables.proofs.Common.{◌≡◌, ◌∙◌, ◌⊎◌, inl, inr, Bool, Some, true, false, Ok, Err, IsTrue, refl, sym, ap, subst, arith, survives_then, Database, Held, state, State, HasCleanDisk, Error, Trees, Ghosts, schema_0, IsBlank, Transacts, IsReady}
 use Rattle.review_sql_lookups.specs.Tables.{tables_at}
 use Rattle.review_sql_writes.specs.{First.MakesDesk, Numbers.IsDesk}
 use Rattle.review_sql.proofs.{Saying.never_shown, Shown.of_ours, Shown.ready_ours}

@@ -1,17 +1,7 @@
 -- Tables of an earlier version that are made those of a desk, in one transaction.
-use Rattle.std.proofs.Common.{◌≡◌, ◌≢◌, ◌∙◌, ◌⊎◌, inl, inr, Bool, true, false, Some, Ok, Err, Result, List, OnOk, OnErr, IfOk, IfErr, IsTrue, refl, sym, ap, subst, arith}
-use Rattle.std.specs.{Bool.Decides, Result.is_ok}
-use Rattle.sqlite.proofs.StateLemmas.{survives_then, survives_weaker}
-use Rattle.sqlite.specs.{Effect.Database, Held.Held, Held.state, Listing.listing_schema, Listing.understood}
-use Rattle.sqlite.specs.{State.State, State.HasCleanDisk, State.Survives, declared.error.Error.Error}
-use Rattle.{sqlite_tied.specs.Compute.everything, sqlite_trees.specs.Tree.Trees}
-use Rattle.{sqlite_trees.specs.declared.store.Store.Ghosts, review_words.specs.History.Entry}
-use Rattle.review_sql_tables.proofs.{Migrated.apart_after, Sequences.Next, Sequences.follow, Sequences.settled_as}
-use Rattle.review_sql_tables.specs.{Desk.desk_schema, Migrated.Migrates}
-use Rattle.review_sql_tables.specs.Ran.{Inside, Looks, OnDesk, Transacts, Within}
-use Rattle.review_sql_tables.specs.{Versions.schema_at, Versions.version_of, declared.texts.TheConstants.FIND_ANSWER}
-use Rattle.review_sql_tables.specs.declared.versions.{EarlierVersion.EarlierVersion, TablesVersion.TheVariants.Third}
-use Rattle.{review_sql_tables.specs.inner.Words.Then, review_machine_rows.specs.View.IsView}
+use Rattle.review_sql_tables.proofs.Common.{◌≡◌, ◌≢◌, ◌∙◌, ◌⊎◌, inl, inr, Bool, true, false, Some, Ok, Err, Result, List, OnOk, OnErr, IfOk, IfErr, IsTrue, refl, sym, ap, subst, arith, Decides, is_ok, survives_then, survives_weaker, Database, Held, state, listing_schema, understood, State, HasCleanDisk, Survives, Error, everything, Trees, Ghosts, desk_schema, Migrates, Inside, Looks, OnDesk, Transacts, Within, schema_at, version_of, FIND_ANSWER, EarlierVersion, Third, Then}
+use Rattle.review_sql_tables.proofs.{Migrated.apart_after, Sequences.settled_as}
+use Rattle.review_sql_records.proofs.Common.{Entry, Next, follow, IsView}
 use Rattle.review_sql_lookups.specs.{EarlierTables.tables_in, Tables.tables_at}
 use Rattle.review_sql_writes.specs.{declared.numbers.Numbers.Numbers, inner.Changes.SetsDesk, inner.Changes.SetsLeast}
 use Rattle.review_sql.proofs.{Again.goes_on, Made.holds_opened, Made.is_opened}

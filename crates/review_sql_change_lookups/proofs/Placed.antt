@@ -1,26 +1,13 @@
 -- What the rows of changes at places of a branch show: a change at each place, or that the tables are those of no history.
-use Rattle.std.proofs.Common.{◌≡◌, ◌∙◌, ◌⊎◌, ◌<◌, ◌≤◌, ◌+◌, ◌-◌, ◌&&◌, ℕ, pos, List, [], ◌∷◌, Bool, true, false, not, is_some, Option, Some, None, filter, length, refl, sym, ap, subst, inl, inr, arith}
-use Rattle.std.proofs.lemmas.Bool.{cases_Bool, and_from, and_parts}
-use Rattle.std.proofs.lemmas.Option.{same_Some, slice_get-get_or, slice_get_within}
-use Rattle.std.specs.{Ordering.is_eq, Prelude.slice_get, Prelude.slice_index_or}
-use Rattle.{sqlite_rules.specs.Lists.Has, sqlite_trees.specs.Tree.Trees}
-use Rattle.sqlite_value.specs.Order.{Row as Raw, column, value_cmp}
-use Rattle.sqlite_value.specs.declared.value.Value.TheVariants.{Int, Text}
-use Rattle.review_names.specs.Forms.{is_slashed_name, is_within, most_changes, most_patches}
-use Rattle.review_words.specs.{History.Entry, declared.shown.JoinedChange.JoinedChange, declared.shown.State.State}
-use Rattle.review_sql_tables.proofs.Keys.{itself, same_text}
-use Rattle.review_sql_tables.specs.{Columns.number_in, Content.has_key, Content.is_value, Greatest.HasGreatest}
-use Rattle.review_sql_tables.specs.Search.{AreFound, only, reads, row_at, rows_at}
+use Rattle.std.proofs.lemmas.Option.{slice_get-get_or, slice_get_within}
+use Rattle.review_words.specs.declared.shown.State.{State}
+use Rattle.review_sql_tables.proofs.Common.{◌≡◌, ◌∙◌, ◌⊎◌, ◌<◌, ◌≤◌, ◌+◌, ◌-◌, ◌&&◌, ℕ, pos, List, [], ◌∷◌, Bool, true, false, not, is_some, Option, Some, None, filter, length, refl, sym, ap, subst, inl, inr, arith, cases_Bool, and_from, and_parts, same_Some, is_eq, slice_get, slice_index_or, Has, Trees, Raw, column, value_cmp, Int, Text, number_in, has_key, is_value, HasGreatest, AreFound, only, reads, row_at, rows_at}
 use Rattle.review_core_rules.specs.Parts.{TheHeader, PatchOf, AHeader, APatch}
 use Rattle.review_core_rules.specs.declared.rows.{Header.Header, PatchRow.PatchRow}
-use Rattle.review_machine_rows.{proofs.Readings.reading_of, specs.Answer.IsHistory}
-use Rattle.review_machine_rows.specs.{Changes.Reading, Changes.Reads, Changes.joined, Known.IsAtPlace, Known.IsCurrent}
-use Rattle.review_machine_rows.specs.{Rows.PartKey, Rows.APart, Rows.Row, Shelf.IsDamaged, View.IsViewBy, View.fact}
-use Rattle.review_machine_rows.specs.declared.rows.{Base.Base, BranchKey.BranchKey, PlaceKey.PlaceKey}
+use Rattle.review_machine_rows.specs.{Changes.Reads, Changes.joined, Rows.Row}
 use Rattle.review_machine_laws.proofs.{Joined.joined_distinct, Places.get_placed, Places.placed_get}
 use Rattle.review_machine_laws.proofs.Rows.{joined_row, placed_row, row_placed}
-use Rattle.review_sql_records.specs.{Forms.both, Forms.where_is, Keyed.is_small}
-use Rattle.review_sql_records.specs.Laws.{at_number, both_are, one_number, passed}
+use Rattle.review_sql_records.proofs.Common.{is_slashed_name, is_within, most_changes, most_patches, Entry, JoinedChange, itself, same_text, reading_of, IsHistory, Reading, IsAtPlace, IsCurrent, PartKey, APart, IsDamaged, IsViewBy, fact, Base, BranchKey, PlaceKey, both, where_is, is_small, at_number, both_are, one_number, passed}
 use Rattle.review_sql_change_records.specs.Forms.{change_places, changes_at, headed, headers, patch_numbers, patches, sent}
 use Rattle.review_sql_change_records.specs.{Keyed.has_change, Keyed.header_keyed, Keyed.patch_keyed, Laws.at_text}
 use Rattle.review_sql_lookups.proofs.Odd.{and_false, any_has, both_missing, no_number, odd_at, only_with, unkeyed}

@@ -1,27 +1,12 @@
 -- What look-ups tell of tables.
-use Rattle.std.proofs.Common.{◌≡◌, ◌∙◌, ◌⊎◌, ◌<◌, ◌&&◌, ℕ, zero, pos, List, [], ◌∷◌, Option, Some, None, option_map, refl, sym, ap, subst, cond, Bool, true, false, inl, inr, filter, is_gt, is_some, suc, int_lt, arith}
-use Rattle.std.proofs.lemmas.Bool.{lt-ltb, cases_Bool, and_from, and_parts, both_ways, Decides.leb_tells}
-use Rattle.std.proofs.lemmas.{Cmp.nat_list_eq_equiv, Option.same_Some}
-use Rattle.std.specs.{Ordering.nat_cmp, Ordering.int_cmp, Ordering.is_eq, Str.bytes_eq, Str.is_utf8}
-use Rattle.sqlite_keyed.proofs.ListLemmas.{all_weaker, filter_none}
-use Rattle.{sqlite_rules.specs.Lists.Has, sqlite_trees.specs.Tree.Trees, sqlite_value.proofs.OrderLemmas.value_cmp-Int}
-use Rattle.sqlite_value.specs.Order.{Row as Raw, column, value_cmp}
-use Rattle.sqlite_value.specs.declared.value.Value.{Value, TheVariants.Int, TheVariants.Text}
-use Rattle.{review_names.specs.Forms.is_commit, review_names.specs.Names.is_word, review_table.specs.Rows.row_in}
-use Rattle.review_words.specs.History.{Entry, is_listed, bases as history_bases}
-use Rattle.review_sql_tables.proofs.{Keys.int_is, Keys.itself, Meaning.all_pass}
-use Rattle.review_sql_tables.specs.{Columns.number_in, Columns.text_in, Content.has_key, Content.is_value}
-use Rattle.review_sql_tables.specs.{Fronts.HaveRows, Greatest.HasGreatest, Greatest.IsGreatest}
-use Rattle.review_sql_tables.specs.Search.{only, reads, row_at, rows_at}
+use Rattle.{std.proofs.lemmas.Cmp.nat_list_eq_equiv, sqlite_keyed.proofs.ListLemmas.filter_none}
+use Rattle.review_sql_tables.proofs.Common.{◌≡◌, ◌∙◌, ◌⊎◌, ◌<◌, ◌&&◌, ℕ, zero, pos, List, [], ◌∷◌, Option, Some, None, option_map, refl, sym, ap, subst, cond, Bool, true, false, inl, inr, filter, is_gt, is_some, suc, int_lt, arith, lt-ltb, cases_Bool, and_from, and_parts, both_ways, leb_tells, same_Some, nat_cmp, int_cmp, is_eq, bytes_eq, is_utf8, all_weaker, Has, Trees, value_cmp-Int, Raw, column, value_cmp, Value, Int, Text, row_in, number_in, text_in, has_key, is_value, HaveRows, HasGreatest, only, reads, row_at, rows_at}
+use Rattle.review_sql_tables.{proofs.Keys.int_is, specs.Greatest.IsGreatest}
 use Rattle.review_core_rules.specs.Change.{of_number}
-use Rattle.review_machine_rows.{proofs.Looked.based_from, proofs.Readings.reading_of, specs.Changes.Reading}
-use Rattle.review_machine_rows.specs.Known.{HasBases, HasMembers, IsLast, at_place}
-use Rattle.review_machine_rows.specs.Rows.{Key, AccountKey, MemberKey, FileKey, BaseKey, PartKey, OddKey, Row, AccountRow, MemberRow, FileRow, BaseRow, APart, OddRow, Tables, member_row}
-use Rattle.review_machine_rows.specs.{Shelf.IsDamaged, View.fact}
-use Rattle.review_machine_rows.specs.declared.rows.{Base.Base, BranchKey.BranchKey, PlaceKey.PlaceKey, Want.Want}
+use Rattle.review_machine_rows.{proofs.Looked.based_from, specs.Known.HasBases, specs.Rows.Row, specs.Rows.member_row}
 use Rattle.review_machine_change_rows.specs.inner.Words.{AreInOrder}
-use Rattle.review_sql_records.specs.Forms.{accounts, account_names, account_numbers, member_parts, bases, base_commits, base_parts, base_places}
-use Rattle.review_sql_records.specs.Laws.{number_is, passed}
+use Rattle.review_sql_records.proofs.Common.{is_commit, is_word, Entry, is_listed, history_bases, itself, all_pass, reading_of, Reading, HasMembers, IsLast, at_place, Key, AccountKey, MemberKey, FileKey, BaseKey, PartKey, OddKey, AccountRow, MemberRow, FileRow, BaseRow, APart, OddRow, Tables, IsDamaged, fact, Base, BranchKey, PlaceKey, Want, account_names, account_numbers, member_parts, base_commits, base_parts, base_places, number_is, passed}
+use Rattle.review_sql_records.specs.Forms.{accounts, bases}
 use Rattle.review_sql_lookups.specs.{Loads.IsOrdered, Loads.Tells, Loads.last_of, Tables.tables_at, Tables.told}
 use Rattle.review_sql_lookups.specs.declared.sights.Sight.{Sight, TheVariants.Damaged}
 

@@ -1,22 +1,10 @@
 -- Rows that moved to the table of a later version read there as they did.
-use Rattle.std.proofs.Common.{◌≡◌, ◌≢◌, ◌∙◌, ◌&&◌, ◌||◌, ℕ, pos, suc, Bool, true, false, not, List, [], ◌∷◌, Option, Some, None, option_map, map, filter, length, get_or, refl, sym, ap, subst, subst₂, inl, inr}
-use Rattle.std.proofs.lemmas.{Bool.and_from, Bool.and_parts, Bool.cases_Bool, Bool.or_parts, List.length-map}
-use Rattle.std.proofs.lemmas.{List.Sorted.length_permutation, List.Sorted.list_any-IsPermutation, Option.same_Some}
-use Rattle.std.specs.List.{AllByRecursion, list_any, Sorted.IsPermutation}
-use Rattle.sqlite.proofs.Callers.{one_permutation}
-use Rattle.sqlite_keyed.proofs.ListLemmas.{IsPermutation-filter, filter-map, filter_same}
-use Rattle.sqlite_rules.specs.Cast.{as_text, cast}
-use Rattle.sqlite_schema.specs.declared.schema.Kind.TheVariants.{Integer}
-use Rattle.sqlite_value.specs.Order.{Row as Raw, column}
-use Rattle.sqlite_value.specs.declared.value.Value.{Value, TheVariants.Int, TheVariants.Text}
-use Rattle.review_sql_tables.proofs.{Keys.itself, Keys.same_int, Meaning.cast_int}
-use Rattle.review_sql_tables.specs.{Columns.number_in, Columns.text_in, Content.has_key, Content.is_value}
-use Rattle.review_sql_tables.specs.Moved.{AreMoved, columns_of, with_first_epoch, without_parent}
-use Rattle.review_sql_tables.specs.Search.{Search, only, reads, rows_at}
-use Rattle.review_machine_rows.specs.declared.rows.StoredFile.{StoredFile}
-use Rattle.review_sql_records.specs.Forms.{answered, answers, earlier_answers, earlier_key, first_epoch, stored_file, first_projects, file_without_parent, stored_parent, projects}
-use Rattle.review_sql_records.specs.Keyed.{answer_keyed, earlier_answer_keyed, is_natural, is_text, project_keyed}
-use Rattle.review_sql_records.specs.{Laws.no_text, Laws.number_is, declared.rows.Answered.Answered as Rest}
+use Rattle.{std.proofs.lemmas.List.Sorted.list_any-IsPermutation, sqlite_rules.specs.Cast.as_text}
+use Rattle.review_sql_tables.proofs.Common.{◌≡◌, ◌≢◌, ◌∙◌, ◌&&◌, ◌||◌, ℕ, pos, suc, Bool, true, false, not, List, [], ◌∷◌, Option, Some, None, option_map, map, filter, length, get_or, refl, sym, ap, subst, subst₂, inl, inr, and_from, and_parts, cases_Bool, or_parts, length-map, length_permutation, same_Some, AllByRecursion, list_any, IsPermutation, one_permutation, IsPermutation-filter, filter-map, filter_same, cast, Integer, Raw, column, Value, Int, Text, number_in, text_in, has_key, is_value, AreMoved, columns_of, with_first_epoch, without_parent, Search, only, reads, rows_at}
+use Rattle.review_sql_tables.proofs.{Keys.same_int, Meaning.cast_int}
+use Rattle.review_sql_records.proofs.Common.{itself, StoredFile, answers, earlier_answers, earlier_key, first_epoch, file_without_parent, projects, answer_keyed, earlier_answer_keyed, project_keyed, number_is, Rest}
+use Rattle.review_sql_records.specs.Forms.{answered, stored_file, first_projects, stored_parent}
+use Rattle.review_sql_records.specs.{Keyed.is_natural, Keyed.is_text, Laws.no_text}
 
 -- the column at a place of a row is that before it of its columns
 behind : (r : Raw) (at : ℕ) → column (columns_of r) at ≡ column r (suc at)

@@ -1,9 +1,5 @@
 -- Tables by their trees.
-use Rattle.std.proofs.Common.{◌≡◌, ℕ, ◌||◌, Bool, true, false, List, [], ◌∷◌, eqb, eqb-true, sym, subst, inl, inr}
-use Rattle.std.proofs.lemmas.Bool.{and_parts, both_ways, cases_Bool, or_cases}
-use Rattle.std.specs.List.{AllByRecursion, list_all, list_any}
-use Rattle.{sqlite_schema.specs.declared.schema.Table.Table, sqlite_trees.specs.Tree.Trees}
-use Rattle.sqlite_value.specs.Order.{Row}
+use Rattle.review_sql_tables.proofs.Common.{◌≡◌, ℕ, ◌||◌, Bool, true, false, List, [], ◌∷◌, eqb, eqb-true, sym, subst, inl, inr, and_parts, both_ways, cases_Bool, or_cases, AllByRecursion, list_all, list_any, Table, Trees, Row}
 
 -- one of these tables has this tree
 abbrev pub has_tree : List Table → ℕ → Bool

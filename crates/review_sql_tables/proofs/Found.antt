@@ -1,15 +1,6 @@
 -- What was found, as it reads.
-use Rattle.std.proofs.Common.{◌≡◌, ◌∙◌, List, [], ◌∷◌, map, not, Bool, true, false, Option, Some, None, Ok, Err, Result, IfOk, refl, sym, ap, subst, arith, is_some, IsTrue, inl, inr}
-use Rattle.std.proofs.lemmas.List.Elements.{recursion_from_All, All-from_recursion}
-use Rattle.std.proofs.lemmas.List.Sorted.{length_permutation, IsPermutation-map, All-permutation}
-use Rattle.std.specs.List.{list_any, AllByRecursion, Sorted.IsPermutation}
-use Rattle.sqlite.proofs.{Callers.one_permutation, StateLemmas.survives_then}
-use Rattle.sqlite.specs.{Effect.Database, State.State, State.HasCleanDisk, declared.error.Error.Error}
-use Rattle.sqlite_keyed.proofs.ListLemmas.{IsPermutation-filter, none_counted, map-map}
-use Rattle.{sqlite_rules.specs.Lists.Has, sqlite_trees.specs.Tree.Trees, sqlite_value.specs.Order.Row}
-use Rattle.review_sql_tables.{proofs.Sequences.keeps_then, specs.Greatest.HasOne, specs.Ran.Looks}
-use Rattle.review_sql_tables.specs.Search.{Search, shown, reads, only, row_at, rows_at, Finds, AreFound}
-use Rattle.review_sql_tables.specs.inner.Words.{first_as, WereRead}
+use Rattle.review_sql_tables.proofs.Common.{◌≡◌, ◌∙◌, List, [], ◌∷◌, map, not, Bool, true, false, Option, Some, None, Ok, Err, Result, IfOk, refl, sym, ap, subst, arith, is_some, IsTrue, inl, inr, recursion_from_All, All-from_recursion, length_permutation, IsPermutation-map, All-permutation, list_any, AllByRecursion, IsPermutation, one_permutation, survives_then, Database, State, HasCleanDisk, Error, IsPermutation-filter, none_counted, map-map, Has, Trees, Row, HasOne, Looks, Search, shown, reads, only, row_at, rows_at, Finds, AreFound, first_as, WereRead}
+use Rattle.review_sql_tables.proofs.Sequences.{keeps_then}
 
 -- one row of a table is shown as one row
 only_shown : {X : Type 0} (f : Row → Row) (read : Row → Option X) (xs ys : List Row) → IsPermutation (map f xs) ys → only read ys ≡ only (λ r. read (f r)) xs

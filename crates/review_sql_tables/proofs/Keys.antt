@@ -1,13 +1,6 @@
 -- Rows at keys.
-use Rattle.std.proofs.Common.{◌≡◌, ◌≢◌, ◌∙◌, ◌+◌, ◌≤◌, ℕ, ℤ, pos, List, [], ◌∷◌, filter, length, Bool, true, false, not, Some, None, refl, sym, ap, subst, inl, inr, arith}
-use Rattle.std.proofs.lemmas.{Bool.cases_Bool, Bool.both_ways, Cmp.tied_itself, Map.Lookups.exact_bytes}
-use Rattle.{std.specs.Ordering.is_eq, sqlite_keyed.proofs.ListLemmas.filter-filter, sqlite_trees.specs.Tree.Trees}
-use Rattle.sqlite_value.proofs.OrderLemmas.{value_cmp_total, value_cmp-Text}
-use Rattle.sqlite_value.specs.Order.{Row, value_cmp}
-use Rattle.sqlite_value.specs.declared.value.Value.{Value, TheVariants.Int, TheVariants.Text}
-use Rattle.review_sql_tables.specs.Content.{has_key, is_value, IsAdded, Remakes, Removes, SparesOthers}
-use Rattle.review_sql_tables.specs.Search.{At, Search, reads, only, Form, IsLawful, Puts, SetsRow}
-use Rattle.review_sql_tables.specs.inner.Words.{Sets, Then}
+use Rattle.review_sql_tables.proofs.Common.{◌≡◌, ◌≢◌, ◌∙◌, ◌+◌, ◌≤◌, ℕ, ℤ, pos, List, [], ◌∷◌, filter, length, Bool, true, false, not, Some, None, refl, sym, ap, subst, inl, inr, arith, cases_Bool, both_ways, tied_itself, exact_bytes, is_eq, filter-filter, Trees, value_cmp_total, value_cmp-Text, Row, value_cmp, Value, Int, Text, has_key, is_value, IsAdded, Remakes, Removes, SparesOthers, At, Search, reads, only, SetsRow, Then}
+use Rattle.review_sql_tables.specs.{Search.Form, Search.IsLawful, Search.Puts, inner.Words.Sets}
 pub use Rattle.review_sql_tables.proofs.Values.{equal_is, same_value, same_whole, int_is}
 
 pub same_int : (v : Value) (m n : ℕ) → is_value v (Int (pos m)) ≡ true → is_value v (Int (pos n)) ≡ true → m ≡ n

@@ -1,14 +1,6 @@
 -- Rows put into a tree, and taken out.
-use Rattle.std.proofs.Common.{◌≡◌, ◌∙◌, ℤ, ◌+◌, List, [], ◌∷◌, map, filter, length, Bool, ◌||◌, true, false, not, cond, Ordering, Less, Equal, Greater, refl, sym, ap, IsTrue, arith, inl, inr}
-use Rattle.std.proofs.lemmas.{Bool.or_parts, Bool.cases_Bool, Cmp.tied_itself, List.Sorted.length_permutation}
-use Rattle.std.specs.List.{AllByRecursion, list_any, Sorted.IsPermutation}
-use Rattle.std.specs.Ordering.{is_eq, match_ordering, ordering_reverse}
-use Rattle.sqlite_keyed.proofs.ListLemmas.{IsPermutation-filter, none_counted, filter_same}
-use Rattle.sqlite_rules.{proofs.TableLemmas.int_is, specs.Edit.id_in, specs.Edit.is_taken, specs.Edit.without_all}
-use Rattle.sqlite_trees.specs.{Tree.rowid, Tree.put_row, Tree.without_rowid, Tree.has_rowid, View.is_int}
-use Rattle.sqlite_value.proofs.OrderLemmas.{value_cmp_total}
-use Rattle.sqlite_value.specs.{Order.Row, Order.value_cmp, declared.value.Value.Value}
-use Rattle.review_sql_tables.specs.Content.{AreApart, IsAdded}
+use Rattle.sqlite_trees.specs.Tree.{without_rowid, has_rowid}
+use Rattle.review_sql_tables.proofs.Common.{◌≡◌, ◌∙◌, ℤ, ◌+◌, List, [], ◌∷◌, map, filter, length, Bool, ◌||◌, true, false, not, cond, Ordering, Less, Equal, Greater, refl, sym, ap, IsTrue, arith, inl, inr, or_parts, cases_Bool, tied_itself, length_permutation, AllByRecursion, list_any, IsPermutation, is_eq, match_ordering, ordering_reverse, IsPermutation-filter, none_counted, filter_same, int_is, id_in, is_taken, without_all, rowid, put_row, is_int, value_cmp_total, Row, value_cmp, Value, AreApart, IsAdded}
 
 module _ (new : Row) (p : Row → Bool) where
   abbrev Put : Ordering → Row → List Row → List Row

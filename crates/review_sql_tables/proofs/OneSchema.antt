@@ -1,18 +1,10 @@
 -- Trees list one schema.
-use Rattle.std.proofs.Common.{Equal, ◌≡◌, ◌∙◌, inl, inr, ℕ, ◌+◌, ◌<◌, List, [], ◌∷◌, ◌++◌, Result, Ok, true, false, refl, sym, ap, subst, arith}
-use Rattle.std.proofs.lemmas.{Bool.Decides.nat_tests, Fmt.decimal_is_IsNumeral, List.append_cancel_left}
-use Rattle.std.{proofs.lemmas.Option.same_Some, specs.Char.to_ascii_lowercase}
-use Rattle.std.specs.{Cmp.Lexicographic.slice_cmp, Fmt.decimal, List.AllByRecursion, List.AllZip}
-use Rattle.std.specs.Ordering.{is_eq, nat_cmp, ordering_then}
-use Rattle.std.specs.Prelude.{codes, filter, pos, slice_get, map}
-use Rattle.std.specs.Str.Parse.{digits_value}
-use Rattle.sqlite_catalog.specs.Listing.{IsTableRow, IsIndexRow, IsViewRow, IsDefined, IsSound, automatic, is_table_row, is_index_row, is_view_row}
-use Rattle.{sqlite_resolve.specs.Compile.table_defined_by, sqlite_rules.specs.Lists.Has}
-use Rattle.sqlite_schema.specs.Names.{same_name}
-use Rattle.sqlite_schema.specs.declared.schema.{Index.Index, Schema.Schema, Table.Table, View.View as Stored}
-use Rattle.sqlite_trees.specs.{Objects.catalog_tree, Tree.Trees, Tree.rowid, Tree.IsAscending}
-use Rattle.sqlite_value.specs.Order.{Row, column}
-use Rattle.sqlite_value.specs.declared.value.Value.{Value, TheVariants.Null, TheVariants.Int, TheVariants.Text}
+use Rattle.std.proofs.lemmas.{Fmt.decimal_is_IsNumeral, List.append_cancel_left}
+use Rattle.std.specs.{Char.to_ascii_lowercase, Fmt.decimal, Str.Parse.digits_value}
+use Rattle.sqlite_catalog.specs.Listing.{IsTableRow, IsIndexRow, IsViewRow, IsDefined, automatic, is_table_row, is_index_row, is_view_row}
+use Rattle.sqlite_schema.specs.{Names.same_name, declared.schema.Index.Index, declared.schema.View.View as Stored}
+use Rattle.sqlite_trees.specs.{Objects.catalog_tree, Tree.IsAscending}
+use Rattle.review_sql_tables.proofs.Common.{Equal, ◌≡◌, ◌∙◌, inl, inr, ℕ, ◌+◌, ◌<◌, List, [], ◌∷◌, ◌++◌, Result, Ok, true, false, refl, sym, ap, subst, arith, nat_tests, same_Some, slice_cmp, AllByRecursion, AllZip, is_eq, nat_cmp, ordering_then, codes, filter, pos, slice_get, map, IsSound, table_defined_by, Has, Schema, Table, Trees, rowid, Row, column, Value, Null, Int, Text}
 
 -- elements that stand in a relation to those of a list, each to one of its own
 one_list : {A B : Type 0} (R : A → B → Type 0) → ((a : A) (x y : B) → R a x → R a y → x ≡ y) → (es : List A) (xs ys : List B) → AllZip R es xs → AllZip R es ys → xs ≡ ys

@@ -1,17 +1,9 @@
 -- What is found of an owner's rows, as it reads.
-use Rattle.std.proofs.Common.{◌≤◌, ◌<◌, ◌+◌, ◌||◌, ℕ, not, is_some, drop, get_or, take, ◌≡◌, ◌∙◌, List, [], ◌∷◌, ◌++◌, Bool, true, false, Ordering, Option, Some, None, option_map, option_to_list, cond, map, filter, length, refl, sym, ap, subst, inl, inr, arith}
-use Rattle.std.proofs.lemmas.Bool.{cases_Bool, both_ways}
-use Rattle.std.proofs.lemmas.List.{length-map, length-append, map-append, append-nil, take_more, take-append-drop}
-use Rattle.std.proofs.lemmas.List.Elements.{filter-append, recursion_from_All, All-from_recursion}
-use Rattle.std.proofs.lemmas.List.Sorted.{length_permutation, IsPermutation-map, All-permutation, IsPermutation-sym}
-use Rattle.std.specs.{BTreeMap.is_at, List.AllByRecursion, List.list_any, List.Sorted.IsPermutation}
-use Rattle.sqlite.proofs.Callers.{one_permutation}
-use Rattle.sqlite_keyed.proofs.ListLemmas.{IsPermutation-filter, filter-map, filter-filter, map-map, all_unmap}
-use Rattle.{sqlite_trees.specs.Tree.Trees, sqlite_value.specs.Order.Row, review_table.specs.Rows.row_in}
-use Rattle.review_sql_tables.{proofs.Found.all_found, specs.Content.has_key}
-use Rattle.review_sql_tables.specs.Fronts.{IsFront, IsExact, AreParts, HaveRows}
-use Rattle.review_sql_tables.specs.Search.{Search, shown, reads, row_at, only, rows_at, Finds}
-use Rattle.review_sql_tables.specs.inner.Words.{WereApart, WereSorted, HasTwins, is_of, at_key}
+use Rattle.std.proofs.Common.{option_to_list}
+use Rattle.std.proofs.lemmas.List.{length-append, append-nil, take-append-drop, Elements.filter-append}
+use Rattle.review_sql_tables.proofs.Common.{◌≤◌, ◌<◌, ◌+◌, ◌||◌, ℕ, not, is_some, drop, get_or, take, ◌≡◌, ◌∙◌, List, [], ◌∷◌, ◌++◌, Bool, true, false, Ordering, Option, Some, None, option_map, cond, map, filter, length, refl, sym, ap, subst, inl, inr, arith, cases_Bool, both_ways, length-map, map-append, take_more, recursion_from_All, All-from_recursion, length_permutation, IsPermutation-map, All-permutation, IsPermutation-sym, is_at, AllByRecursion, list_any, IsPermutation, one_permutation, IsPermutation-filter, filter-map, filter-filter, map-map, all_unmap, Trees, Row, row_in, has_key, IsExact, AreParts, HaveRows, Search, shown, reads, row_at, only, rows_at, Finds, WereApart, WereSorted}
+use Rattle.review_sql_tables.{proofs.Found.all_found, specs.Fronts.IsFront}
+use Rattle.review_sql_tables.specs.inner.Words.{HasTwins, is_of, at_key}
 
 -- it is there
 abbrev IsThere : {X : Type 0} → Option X → Type 0

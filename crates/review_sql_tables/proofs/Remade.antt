@@ -1,12 +1,6 @@
 -- Rows that are taken out of a tree and put in again, each as another.
-use Rattle.std.proofs.Common.{◌≡◌, ◌∙◌, ℤ, ℕ, List, [], ◌∷◌, map, filter, length, Bool, true, false, not, refl, sym, ap, subst, inl, inr, IsTrue, arith}
-use Rattle.std.{proofs.lemmas.Bool.cases_Bool, specs.List.AllByRecursion}
-use Rattle.sqlite_keyed.proofs.ListLemmas.{filter-filter}
-use Rattle.sqlite_rules.specs.{Edit.put_all, Edit.are_fresh, Edit.numbered, declared.error.Rowids.TheVariants.Given}
-use Rattle.sqlite_trees.specs.{Tree.rowid, Tree.put_row, Tree.Trees, View.is_int}
-use Rattle.sqlite_value.specs.{Order.Row, declared.value.Value.Value}
+use Rattle.review_sql_tables.proofs.Common.{◌≡◌, ◌∙◌, ℤ, ℕ, List, [], ◌∷◌, map, filter, length, Bool, true, false, not, refl, sym, ap, subst, inl, inr, IsTrue, arith, cases_Bool, AllByRecursion, filter-filter, put_all, are_fresh, numbered, Given, rowid, put_row, Trees, is_int, Row, Value, has_key, AreApart, IsAdded, Remakes, SparesOthers}
 use Rattle.review_sql_tables.proofs.{Lists.added, Lists.id_of, Moves.free_first}
-use Rattle.review_sql_tables.specs.Content.{has_key, AreApart, IsAdded, Remakes, SparesOthers}
 
 -- rows that have rowids keep them
 pub numbered_given : (sources rows : List Row) → numbered Given rows sources ≡ sources

@@ -1,14 +1,9 @@
 -- Statements one after the other, and the transaction around them.
-use Rattle.std.proofs.Common.{◌≡◌, ◌∙◌, ◌⊎◌, inl, inr, ℕ, List, true, false, refl, sym, ap, subst, IsTrue, Ok, Err, Result, OnOk, OnErr, IfErr, arith, [], Option, Some, None, IfOk}
-use Rattle.{std.proofs.lemmas.Bool.cases_Bool, sqlite.proofs.Callers.IsPlain, sqlite.proofs.StateLemmas.survives_then}
-use Rattle.sqlite.specs.{Clock.timed, Effect.Database, Listing.understood}
-use Rattle.sqlite.specs.State.{RunsCommand, shows_rows, store_error, ExecutesIn, FailsToQuery, FailsToShow, Shown, ShowsRows, IsNotRun, IsTooLate, State, HasCleanDisk, Survives, KeepsCommit, IsUnchanged, IsRolledBack, Executes, ExecutesInside, Shows, KeepsCounts}
-use Rattle.sqlite.specs.{Steps.FailsToCommit, declared.error.Error.Error}
-use Rattle.{sqlite_schema.specs.declared.command.Returning.Returning, sqlite_trees.specs.Tree.Trees}
-use Rattle.sqlite_trees.specs.declared.error.StoreError.{StoreError, TheVariants.OutOfMemory}
-use Rattle.{sqlite_value.specs.Order.Row, review_sql_tables.specs.Desk.desk_schema}
-use Rattle.review_sql_tables.specs.Ran.{count_in, is_violation, IsReady, IsDeskIfOpen, Within, OnDesk, Inside, Transacts, Looks, Serves}
-use Rattle.review_sql_tables.specs.inner.Words.{Then}
+use Rattle.sqlite.specs.Clock.{timed}
+use Rattle.sqlite.specs.State.{RunsCommand, shows_rows, ExecutesIn, ShowsRows, IsTooLate, KeepsCommit, ExecutesInside, Shows, KeepsCounts}
+use Rattle.sqlite.specs.Steps.{FailsToCommit}
+use Rattle.review_sql_tables.proofs.Common.{◌≡◌, ◌∙◌, ◌⊎◌, inl, inr, ℕ, List, true, false, refl, sym, ap, subst, IsTrue, Ok, Err, Result, OnOk, OnErr, IfErr, arith, [], Option, Some, None, IfOk, cases_Bool, IsPlain, survives_then, Database, understood, store_error, FailsToQuery, FailsToShow, Shown, IsNotRun, State, HasCleanDisk, Survives, IsUnchanged, IsRolledBack, Executes, Error, Returning, Trees, StoreError, OutOfMemory, Row, desk_schema, IsReady, IsDeskIfOpen, Within, OnDesk, Inside, Transacts, Looks, Serves, Then}
+use Rattle.review_sql_tables.specs.Ran.{count_in, is_violation}
 
 kept_unchanged : (old new : State) → IsUnchanged old new ⊎ IsRolledBack old new → KeepsCommit old new
 kept_unchanged old new (inl same) = record { was_open = λ _. same.0.was_open; committed = λ _. same.0.committed_is }

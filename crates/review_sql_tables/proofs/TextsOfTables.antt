@@ -1,9 +1,6 @@
 -- What the texts for each table of the list are understood as.
-use Rattle.std.proofs.Common.{◌≡◌, ◌<◌, ℕ, zero, suc, List, [], ◌∷◌, codes, map, drop, take, length, slice_index_or, refl, arith}
-use Rattle.{sqlite.specs.Listing.understood, sqlite_schema.specs.declared.schema.Table.Table}
-use Rattle.sqlite_tied.specs.Compute.{everything}
-use Rattle.review_sql_tables.specs.{Desk.desk_tables, Texts.Asks, Texts.rows_where, declared.texts.TheConstants.ROW_IDS}
-use Rattle.review_sql_tables.specs.inner.Words.{table_at}
+use Rattle.review_sql_tables.proofs.Common.{◌≡◌, ◌<◌, ℕ, zero, suc, List, [], ◌∷◌, codes, map, drop, take, length, slice_index_or, refl, arith, understood, Table, everything, desk_tables, Asks, rows_where, table_at}
+use Rattle.review_sql_tables.specs.declared.texts.TheConstants.{ROW_IDS}
 
 infixr 2 ◌also◌
 abbrev pub ◌also◌ : {A B : Type 0} → A → B → A × B

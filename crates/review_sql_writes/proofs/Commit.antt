@@ -1,26 +1,13 @@
 -- What the statements of a commit do together.
-use Rattle.std.proofs.Common.{◌≡◌, ◌≢◌, ◌∙◌, ◌+◌, ◌≤◌, ℕ, List, [], ◌∷◌, Option, Some, None, option_map, cond, Ordering, Equal, true, false, Bool, is_some, not, pos, refl, sym, ap, subst, arith, inl, inr, length, filter, eqb-true, eq-eqb, ◌&&◌}
-use Rattle.std.proofs.lemmas.Bool.{cases_Bool, and_parts, and_from, both_ways}
-use Rattle.std.proofs.lemmas.Cmp.{nat_cmp_total, tied_itself, nat_list_cmp_total}
-use Rattle.std.{proofs.lemmas.Map.Lookups.exact_unsigned, proofs.lemmas.Map.Lookups.exact_bytes, specs.BTreeMap.is_at}
-use Rattle.std.specs.{Cmp.Lexicographic.slice_cmp, Ordering.nat_cmp, Ordering.is_eq, Ordering.ordering_then}
-use Rattle.{std.specs.Prelude.nat_lt, std.specs.Prelude.unwrap_or, std.specs.Str.bytes_eq, sqlite.specs.Effect.Database}
-use Rattle.{sqlite_trees.specs.Tree.Trees, sqlite_value.specs.Order.Row as Raw, sqlite_value.specs.Order.column}
-use Rattle.sqlite_value.specs.declared.value.Value.TheVariants.{Int, Text}
-use Rattle.review_table.specs.Rows.{row_edit_of, after_row_edit}
-use Rattle.review_words.specs.History.{Identity, is_same}
+use Rattle.std.proofs.lemmas.{Cmp.nat_cmp_total, Map.Lookups.exact_unsigned}
 use Rattle.review_sql_tables.proofs.Changed.{rows_changed, rows_spare}
-use Rattle.review_sql_tables.proofs.{Keys.equal_is, Keys.int_is, Keys.same_text, Keys.text_is, Meaning.and_true}
-use Rattle.review_sql_tables.specs.Content.{SparesOthers, has_key, is_number_below, is_natural, is_text, is_value}
-use Rattle.review_sql_tables.specs.{Desk.is_tree, Fronts.IsExact, Ran.OnDesk}
-use Rattle.review_sql_tables.specs.Search.{row_at, rows_at, only, reads, Search}
-use Rattle.review_sql_tables.specs.inner.Words.{Then}
+use Rattle.review_sql_tables.proofs.Common.{◌≡◌, ◌≢◌, ◌∙◌, ◌+◌, ◌≤◌, ℕ, List, [], ◌∷◌, Option, Some, None, option_map, cond, Ordering, Equal, true, false, Bool, is_some, not, pos, refl, sym, ap, subst, arith, inl, inr, length, filter, eqb-true, eq-eqb, ◌&&◌, cases_Bool, and_parts, and_from, both_ways, tied_itself, nat_list_cmp_total, exact_bytes, is_at, slice_cmp, nat_cmp, is_eq, ordering_then, nat_lt, unwrap_or, bytes_eq, Database, Trees, Raw, column, Int, Text, row_edit_of, after_row_edit, SparesOthers, has_key, is_number_below, is_natural, is_text, is_value, is_tree, IsExact, OnDesk, row_at, rows_at, only, reads, Search, Then}
+use Rattle.review_sql_tables.proofs.{Keys.int_is, Keys.text_is, Meaning.and_true}
 use Rattle.review_machine_rows.proofs.Puts.{exact_place, place_total}
-use Rattle.review_machine_rows.specs.Rows.{is_below, Key, AccountKey, MemberKey, FileKey, BaseKey, PartKey, OddKey, Row, AccountRow, MemberRow, FileRow, BaseRow, APart, OddRow, edited, Count, Projects, BasesOf, ClosedEpochs, Answered, member_cmp, member_change, account_change, after_put, count_put, place_cmp, kept_row, after, count_after}
-use Rattle.review_machine_rows.specs.Shelf.{IsCommitted}
-use Rattle.review_machine_rows.specs.declared.rows.{Delta.Delta, Kept.Kept, MemberKey.MemberKey as Member}
-use Rattle.review_machine_rows.specs.declared.rows.{PlaceKey.PlaceKey, Put.Put, StoredFile.StoredFile}
-use Rattle.review_sql_records.specs.Forms.{accounts, members, projects, bases, answers, epochs, is_of_lower, request_key}
+use Rattle.review_machine_rows.specs.Rows.{is_below, Row, member_cmp, member_change, account_change, after_put, place_cmp, after, count_after}
+use Rattle.review_machine_rows.specs.declared.rows.MemberKey.{MemberKey as Member}
+use Rattle.review_sql_records.proofs.Common.{Identity, is_same, equal_is, same_text, Key, AccountKey, MemberKey, FileKey, BaseKey, PartKey, OddKey, AccountRow, MemberRow, FileRow, BaseRow, APart, OddRow, edited, Count, Projects, BasesOf, ClosedEpochs, Answered, count_put, kept_row, IsCommitted, Delta, Kept, PlaceKey, Put, StoredFile, projects, answers, is_of_lower, request_key}
+use Rattle.review_sql_records.specs.Forms.{accounts, members, bases, epochs}
 use Rattle.{review_sql_change_records.specs.Laws.same_bytes, review_sql_lookups.proofs.Telling.own_bytes}
 use Rattle.review_sql_lookups.specs.Tables.{told, row_in, count_in, answer_in, least_in, stored_as, number_of, tables_at, version_in}
 use Rattle.review_sql_writes.proofs.Edits.{edits_spare, is_part_tree, part_same, parts_edited}

@@ -1,5 +1,4 @@
-use Rattle.std.proofs.Common.{rules, ◌≡◌, inl, true, false}
-use Rattle.sqlite.{proofs.StateLemmas.clean_if_open, specs.Held.state}
+use Rattle.review_sql_tables.proofs.Common.{rules, ◌≡◌, inl, true, false, clean_if_open, state}
 use Rattle.review_sql.proofs.Peeking.{part_after, whole_after}
 use Rattle.review_sql.proofs.opening.least_of_whole.Goals as goal
 

@@ -1,5 +1,4 @@
-use Rattle.std.proofs.Common.{rules, ◌≡◌, ℕ, List, true, false, inl, inr, sym, subst, get_or, arith}
-use Rattle.{std.proofs.lemmas.Bool.cases_lt, sqlite.specs.Effect.Database, sqlite.specs.Held.state}
+use Rattle.review_sql_tables.proofs.Common.{rules, ◌≡◌, ℕ, List, true, false, inl, inr, sym, subst, get_or, arith, cases_lt, Database, state}
 use Rattle.review_sql.proofs.Staying.{stays_still, stays_then}
 use Rattle.review_sql.specs.Shelf.{IsUnderstood, rows_read}
 use Rattle.review_sql.proofs.there.are_all_there.Goals as goal

@@ -1,6 +1,5 @@
-use Rattle.std.proofs.Common.{Bool, Option, Ok}
-use Rattle.{sqlite.specs.Held.state, sqlite_trees.specs.Tree.Trees, review_sql_tables.proofs.Found.look_on}
-use Rattle.review_machine_rows.specs.Known.{IsBaseOrNot}
+use Rattle.review_sql_tables.proofs.Common.{Bool, Option, Ok, state, Trees}
+use Rattle.review_sql_records.proofs.Common.{look_on, IsBaseOrNot}
 use Rattle.review_sql_lookups.specs.{Loads.IfTold, Tables.tables_at}
 use Rattle.review_sql_change_lookups.proofs.bases.find_base.Goals as goal
 

@@ -1,8 +1,6 @@
-use Rattle.std.proofs.Common.{◌≡◌, ◌∙◌, ℕ, List, Option, Some, None, Ok, subst, ap, rules}
-use Rattle.{sqlite.specs.Held.state, sqlite_trees.specs.Tree.Trees}
-use Rattle.review_sql_tables.{proofs.Found.look_both, proofs.Found.look_on, specs.Greatest.HasOne, specs.Search.row_at}
-use Rattle.review_sql_records.specs.Forms.{bases, base_commits}
-use Rattle.review_sql_lookups.proofs.Odd.{commit_damaged}
+use Rattle.review_sql_tables.proofs.Common.{◌≡◌, ◌∙◌, ℕ, List, Option, Some, None, Ok, subst, ap, rules, state, Trees, HasOne, row_at}
+use Rattle.review_sql_records.proofs.Common.{look_both, look_on, base_commits}
+use Rattle.{review_sql_records.specs.Forms.bases, review_sql_lookups.proofs.Odd.commit_damaged}
 use Rattle.review_sql_change_lookups.proofs.bases.is_base.Goals as goal
 
 pub returns-in_ok-stored-in-Some-Some-clause-looks : goal.returns-in_ok-stored-in-Some-Some-clause-looks

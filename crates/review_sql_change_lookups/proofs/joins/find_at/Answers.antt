@@ -1,7 +1,6 @@
-use Rattle.std.proofs.Common.{◌≡◌, ◌∙◌, ℕ, Option, Some, None, Ok, sym, rules}
-use Rattle.{sqlite.specs.Held.state, sqlite_trees.specs.Tree.Trees}
-use Rattle.review_sql_tables.{proofs.Found.look_both, proofs.Found.look_on, specs.Search.row_at}
+use Rattle.review_sql_tables.proofs.Common.{◌≡◌, ◌∙◌, ℕ, Option, Some, None, Ok, sym, rules, state, Trees, row_at}
 use Rattle.review_core_rules.specs.declared.rows.{Header.Header, PatchRow.PatchRow}
+use Rattle.review_sql_records.proofs.Common.{look_both, look_on}
 use Rattle.review_sql_change_records.specs.Forms.{changes_at, headers}
 use Rattle.review_sql_change_lookups.proofs.Placed.{gap_tells, place_damaged, tells_at}
 use Rattle.review_sql_change_lookups.specs.Joins.{TellsAt, TellsCurrent}

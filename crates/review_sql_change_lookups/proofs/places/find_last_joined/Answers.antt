@@ -1,7 +1,6 @@
-use Rattle.std.proofs.Common.{◌≡◌, ℕ, Option, Some, None, Ok, subst, rules}
-use Rattle.{sqlite.specs.Held.state, sqlite_trees.specs.Tree.Trees}
-use Rattle.review_sql_tables.{proofs.Found.look_both, proofs.Found.look_on, specs.Greatest.HasGreatest}
-use Rattle.{review_sql_tables.specs.Search.row_at, review_core_rules.specs.declared.rows.Header.Header}
+use Rattle.review_sql_tables.proofs.Common.{◌≡◌, ℕ, Option, Some, None, Ok, subst, rules, state, Trees, HasGreatest, row_at}
+use Rattle.review_core_rules.specs.declared.rows.Header.{Header}
+use Rattle.review_sql_records.proofs.Common.{look_both, look_on}
 use Rattle.review_sql_change_records.specs.Forms.{change_places, headers}
 use Rattle.review_sql_change_lookups.proofs.Placed.{last_joined_damaged}
 use Rattle.review_sql_change_lookups.proofs.places.find_last_joined.Goals as goal

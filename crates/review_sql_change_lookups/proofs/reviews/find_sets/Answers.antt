@@ -1,9 +1,7 @@
-use Rattle.std.proofs.Common.{◌≡◌, ℕ, ℤ, List, Option, option_map, Ok}
-use Rattle.{std.specs.Ordering.nat_cmp, sqlite.specs.Held.state, sqlite_trees.specs.Tree.Trees}
-use Rattle.review_table.specs.Rows.{rows_of}
-use Rattle.review_sql_tables.{proofs.Found.look_both, proofs.Found.look_on, specs.Fronts.AreParts, specs.Search.row_at}
+use Rattle.review_sql_tables.proofs.Common.{◌≡◌, ℕ, ℤ, List, Option, option_map, Ok, nat_cmp, state, Trees, rows_of, AreParts, row_at}
 use Rattle.review_core_rules.specs.Seen.{vote_cmp}
 use Rattle.review_core_rules.specs.declared.rows.{Header.Header, PatchRow.PatchRow, VoteKey.VoteKey}
+use Rattle.review_sql_records.proofs.Common.{look_both, look_on}
 use Rattle.review_sql_change_records.specs.Forms.{headers, patches, votes, change_patches, change_votes}
 use Rattle.review_sql_change_lookups.specs.Reviews.{AreFoundSets}
 use Rattle.review_sql_change_lookups.proofs.reviews.find_sets.Goals as goal

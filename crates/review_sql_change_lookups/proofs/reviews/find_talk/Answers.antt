@@ -1,8 +1,6 @@
-use Rattle.std.proofs.Common.{ℕ, List, Option, option_map, Ok}
-use Rattle.{std.specs.Ordering.nat_cmp, sqlite.specs.Held.state, sqlite_trees.specs.Tree.Trees}
-use Rattle.{review_table.specs.Rows.rows_of, review_words.specs.declared.changes.Role.Role}
-use Rattle.review_sql_tables.{proofs.Found.look_both, proofs.Found.look_on, specs.Fronts.AreParts}
+use Rattle.review_sql_tables.proofs.Common.{ℕ, List, Option, option_map, Ok, nat_cmp, state, Trees, rows_of, AreParts}
 use Rattle.review_core_rules.specs.declared.rows.{AttentionEntry.AttentionEntry, CommentRow.CommentRow}
+use Rattle.review_sql_records.proofs.Common.{Role, look_both, look_on}
 use Rattle.review_sql_change_records.specs.Forms.{attention_entries, comments, roles, change_attention, change_comments, change_roles}
 use Rattle.review_sql_change_lookups.specs.Reviews.{AreFoundTalk}
 use Rattle.review_sql_change_lookups.proofs.reviews.find_talk.Goals as goal

@@ -1,6 +1,5 @@
-use Rattle.std.proofs.Common.{◌≡◌, ℕ, ◌∙◌, sym, Bool, true, false, Option, Some, None, Ok, subst, rules}
-use Rattle.{sqlite.specs.Held.state, sqlite_trees.specs.Tree.Trees}
-use Rattle.review_sql_tables.proofs.Found.{look_both, look_on}
+use Rattle.review_sql_tables.proofs.Common.{◌≡◌, ℕ, ◌∙◌, sym, Bool, true, false, Option, Some, None, Ok, subst, rules, state, Trees}
+use Rattle.review_sql_records.proofs.Common.{look_both, look_on}
 use Rattle.review_sql_change_lookups.proofs.Sending.{looks_so, sent_and_last}
 use Rattle.review_sql_change_lookups.specs.Senders.{HasSent, IsLastSet, TellsIf}
 use Rattle.review_sql_change_lookups.proofs.senders.examine.Goals as goal

@@ -1,6 +1,5 @@
-use Rattle.std.proofs.Common.{ℕ, Option, Ok}
-use Rattle.{sqlite.specs.Held.state, sqlite_trees.specs.Tree.Trees, review_sql_tables.proofs.Found.look_on}
-use Rattle.{review_sql_tables.specs.Greatest.HasGreatest, review_sql_change_records.specs.Forms.patch_numbers}
+use Rattle.review_sql_tables.proofs.Common.{ℕ, Option, Ok, state, Trees, HasGreatest}
+use Rattle.{review_sql_records.proofs.Common.look_on, review_sql_change_records.specs.Forms.patch_numbers}
 use Rattle.review_sql_change_lookups.proofs.senders.find_is_last.Goals as goal
 
 pub returns-clause-looks : goal.returns-clause-looks

@@ -1,6 +1,5 @@
-use Rattle.std.proofs.Common.{◌≡◌, Some, false, Ok, subst, rules}
-use Rattle.{sqlite.specs.Held.state, review_sql_tables.proofs.Found.look_on}
-use Rattle.review_sql_change_lookups.proofs.Sending.{KnowsSent}
+use Rattle.review_sql_tables.proofs.Common.{◌≡◌, Some, false, Ok, subst, rules, state}
+use Rattle.{review_sql_records.proofs.Common.look_on, review_sql_change_lookups.proofs.Sending.KnowsSent}
 use Rattle.review_sql_change_lookups.proofs.senders.find_outside.Goals as goal
 
 pub returns-clause-looks : goal.returns-clause-looks

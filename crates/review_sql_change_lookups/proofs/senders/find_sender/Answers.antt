@@ -1,8 +1,6 @@
-use Rattle.std.proofs.Common.{◌≡◌, ◌∙◌, true, Option, Ok, sym, rules}
-use Rattle.{sqlite.specs.Held.state, sqlite_trees.specs.Tree.Trees}
-use Rattle.review_sql_tables.{proofs.Found.look_both, proofs.Found.look_on, specs.Search.row_at}
+use Rattle.review_sql_tables.proofs.Common.{◌≡◌, ◌∙◌, true, Option, Ok, sym, rules, state, Trees, row_at}
 use Rattle.review_core_rules.specs.declared.rows.{Header.Header, PatchRow.PatchRow}
-use Rattle.review_machine_rows.specs.declared.rows.BranchKey.{BranchKey}
+use Rattle.review_sql_records.proofs.Common.{look_both, look_on, BranchKey}
 use Rattle.review_sql_change_records.specs.Forms.{change_branches, headers, patches}
 use Rattle.review_sql_change_lookups.proofs.senders.find_sender.Goals as goal
 

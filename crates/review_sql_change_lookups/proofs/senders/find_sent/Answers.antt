@@ -1,7 +1,6 @@
-use Rattle.std.proofs.Common.{Vec, Global, ◌≡◌, ◌∙◌, ℕ, Option, Some, None, option_map, true, false, Ok, subst, rules, arith}
-use Rattle.{sqlite.specs.Held.state, sqlite_trees.specs.Tree.Trees}
-use Rattle.review_sql_tables.{proofs.Found.look_on, specs.Ran.Looks, specs.Search.AreFound}
-use Rattle.{review_sql_change_records.specs.Forms.sent, review_sql_change_lookups.proofs.Placed.sent_odd}
+use Rattle.review_sql_tables.proofs.Common.{Vec, Global, ◌≡◌, ◌∙◌, ℕ, Option, Some, None, option_map, true, false, Ok, subst, rules, arith, state, Trees, Looks, AreFound}
+use Rattle.{review_sql_records.proofs.Common.look_on, review_sql_change_records.specs.Forms.sent}
+use Rattle.review_sql_change_lookups.proofs.Placed.{sent_odd}
 use Rattle.review_sql_change_lookups.proofs.Sending.{KnowsSent, seen_all, seen_damaged, seen_more, seen_sent}
 use Rattle.review_sql_change_lookups.specs.Senders.{Examines}
 use Rattle.review_sql_change_lookups.proofs.senders.find_sent.Goals as goal

@@ -1,8 +1,7 @@
-use Rattle.std.proofs.Common.{◌≡◌, Bool, Option, Some, true, false, Ok, inl, subst, rules}
-use Rattle.{sqlite.specs.Held.state, sqlite_trees.specs.Tree.Trees}
-use Rattle.review_sql_tables.proofs.Found.{look_both, look_on}
-use Rattle.{review_machine_rows.specs.Known.IsBaseOrNot, review_sql_lookups.specs.Loads.IfTold}
-use Rattle.{review_sql_lookups.specs.Tables.tables_at, review_sql_change_lookups.proofs.Sending.looks_so}
+use Rattle.review_sql_tables.proofs.Common.{◌≡◌, Bool, Option, Some, true, false, Ok, inl, subst, rules, state, Trees}
+use Rattle.review_sql_records.proofs.Common.{look_both, look_on, IsBaseOrNot}
+use Rattle.review_sql_lookups.specs.{Loads.IfTold, Tables.tables_at}
+use Rattle.review_sql_change_lookups.proofs.Sending.{looks_so}
 use Rattle.review_sql_change_lookups.proofs.senders.find_standing.Goals as goal
 
 pub returns-then-is-clause-looks : goal.returns-then-is-clause-looks

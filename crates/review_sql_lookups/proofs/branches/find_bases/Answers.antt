@@ -1,8 +1,5 @@
-use Rattle.std.proofs.Common.{Option, List, ℕ, option_map, Ok}
-use Rattle.{std.specs.Ordering.nat_cmp, sqlite.specs.Held.state, sqlite_trees.specs.Tree.Trees}
-use Rattle.review_table.specs.Rows.{rows_of}
-use Rattle.review_sql_tables.{proofs.Found.look_on, specs.Fronts.AreParts}
-use Rattle.review_sql_records.specs.Forms.{branch_bases, base_parts}
+use Rattle.review_sql_tables.proofs.Common.{Option, List, ℕ, option_map, Ok, nat_cmp, state, Trees, rows_of, AreParts}
+use Rattle.review_sql_records.proofs.Common.{look_on, branch_bases, base_parts}
 use Rattle.review_sql_lookups.proofs.branches.find_bases.Goals as goal
 
 pub returns-clause-looks : goal.returns-clause-looks

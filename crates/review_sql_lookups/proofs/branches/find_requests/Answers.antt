@@ -1,7 +1,5 @@
-use Rattle.std.proofs.Common.{◌≡◌, Option, Ok}
-use Rattle.{sqlite.specs.Held.state, sqlite_trees.specs.Tree.Trees}
-use Rattle.review_sql_tables.{proofs.Found.look_on, specs.Search.row_at}
-use Rattle.review_sql_records.specs.{Forms.desk, declared.rows.DeskRow.DeskRow}
+use Rattle.review_sql_tables.proofs.Common.{◌≡◌, Option, Ok, state, Trees, row_at}
+use Rattle.review_sql_records.{proofs.Common.look_on, proofs.Common.DeskRow, specs.Forms.desk}
 use Rattle.review_sql_lookups.proofs.branches.find_requests.Goals as goal
 
 pub returns-clause-looks : goal.returns-clause-looks

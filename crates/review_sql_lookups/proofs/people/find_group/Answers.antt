@@ -1,8 +1,5 @@
-use Rattle.std.proofs.Common.{Option, List, ℕ, option_map, Ok, Some, None}
-use Rattle.{std.specs.Ordering.nat_cmp, sqlite.specs.Held.state, sqlite_trees.specs.Tree.Trees}
-use Rattle.{review_table.specs.Rows.rows_of, review_sql_tables.proofs.Found.look_on}
-use Rattle.{review_sql_tables.specs.Fronts.AreParts, review_machine_rows.specs.Known.HasMembers}
-use Rattle.review_sql_records.specs.Forms.{group_members, member_parts}
+use Rattle.review_sql_tables.proofs.Common.{Option, List, ℕ, option_map, Ok, Some, None, nat_cmp, state, Trees, rows_of, AreParts}
+use Rattle.review_sql_records.proofs.Common.{look_on, HasMembers, group_members, member_parts}
 use Rattle.review_sql_lookups.proofs.{Odd.members_damaged, Telling.group_told}
 use Rattle.review_sql_lookups.specs.{Loads.IfTold, Tables.tables_at}
 use Rattle.review_sql_lookups.proofs.people.find_group.Goals as goal

@@ -1,8 +1,6 @@
-use Rattle.std.proofs.Common.{◌≡◌, ℕ, List, Option, Some, None, Ok, subst, rules}
-use Rattle.{sqlite.specs.Held.state, sqlite_trees.specs.Tree.Trees}
-use Rattle.review_sql_tables.{proofs.Found.look_both, proofs.Found.look_on, specs.Greatest.HasOne, specs.Search.row_at}
-use Rattle.review_sql_records.specs.Forms.{accounts, account_names}
-use Rattle.review_sql_lookups.proofs.Odd.{name_damaged}
+use Rattle.review_sql_tables.proofs.Common.{◌≡◌, ℕ, List, Option, Some, None, Ok, subst, rules, state, Trees, HasOne, row_at}
+use Rattle.review_sql_records.proofs.Common.{look_both, look_on, account_names}
+use Rattle.{review_sql_records.specs.Forms.accounts, review_sql_lookups.proofs.Odd.name_damaged}
 use Rattle.review_sql_lookups.proofs.people.find_holder.Goals as goal
 
 pub returns-in_ok-named-in-Some-Some-clause-looks : goal.returns-in_ok-named-in-Some-Some-clause-looks

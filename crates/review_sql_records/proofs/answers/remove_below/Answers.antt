@@ -1,7 +1,6 @@
-use Rattle.std.proofs.Common.{rules, ◌≡◌, ◌∙◌, [], ◌∷◌, pos}
-use Rattle.{sqlite.specs.Held.state, sqlite.specs.Values.bound, sqlite_value.specs.declared.value.Value.TheVariants.Int}
+use Rattle.review_sql_tables.proofs.Common.{rules, ◌≡◌, ◌∙◌, [], ◌∷◌, pos, state, bound, Int}
 use Rattle.review_sql_tables.proofs.{Effects.deleted_below, Sequences.one_inside, Sequences.opened}
-use Rattle.{review_sql_tables.proofs.TextsOfChanges.delete_answers_below, review_sql_records.specs.Forms.answers}
+use Rattle.{review_sql_tables.proofs.TextsOfChanges.delete_answers_below, review_sql_records.proofs.Common.answers}
 use Rattle.review_sql_records.proofs.answers.remove_below.Goals as goal
 
 pub returns-clause-ran : goal.returns-clause-ran

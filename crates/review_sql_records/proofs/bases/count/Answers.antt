@@ -1,7 +1,6 @@
-use Rattle.std.proofs.Common.{Vec, Global, ◌∙◌, ◌∷◌, [], Ok}
-use Rattle.{sqlite.specs.Held.state, sqlite.specs.declared.rows.Row.Row, sqlite_trees.specs.Tree.Trees}
-use Rattle.{sqlite_value.specs.declared.value.Value.TheVariants.Text, review_sql_tables.proofs.Found.look_on}
-use Rattle.review_sql_tables.specs.{Desk.bases, Search.rows_at, inner.Words.ShowsCount}
+use Rattle.sqlite.specs.declared.rows.Row.{Row}
+use Rattle.review_sql_tables.proofs.Common.{Vec, Global, ◌∙◌, ◌∷◌, [], Ok, state, Trees, Text, bases, rows_at, ShowsCount}
+use Rattle.review_sql_records.proofs.Common.{look_on}
 use Rattle.review_sql_records.proofs.bases.count.Goals as goal
 
 pub returns-clause-looks : goal.returns-clause-looks

@@ -1,7 +1,6 @@
-use Rattle.std.proofs.Common.{Vec, Global, ◌∙◌, [], length, ap, Ok, Some}
-use Rattle.{sqlite.specs.Held.state, sqlite.specs.declared.rows.Row.Row, sqlite_trees.specs.Tree.Trees}
-use Rattle.review_sql_tables.proofs.{Found.look_on, Meaning.all_pass}
-use Rattle.review_sql_tables.specs.{Desk.projects_2, Greatest.as_counted, Search.rows_at, inner.Words.ShowsCount}
+use Rattle.sqlite.specs.declared.rows.Row.{Row}
+use Rattle.review_sql_tables.proofs.Common.{Vec, Global, ◌∙◌, [], length, ap, Ok, Some, state, Trees, projects_2, as_counted, rows_at, ShowsCount}
+use Rattle.review_sql_records.proofs.Common.{look_on, all_pass}
 use Rattle.review_sql_records.proofs.projects.count.Goals as goal
 
 pub returns-clause-looks : goal.returns-clause-looks

@@ -1,6 +1,5 @@
-use Rattle.std.proofs.Common.{rules, ◌≡◌, ◌∙◌, ◌-◌, suc, drop, get_or, ◌∷◌, Ok, Err, subst, sym, arith}
-use Rattle.{std.proofs.Math.Seq.drop-cons, sqlite.specs.Held.state}
-use Rattle.review_sql_tables.{proofs.Sequences.next, proofs.Sequences.stop, specs.Ran.Inside, specs.Search.SetsRows}
+use Rattle.review_sql_tables.proofs.Common.{rules, ◌≡◌, ◌∙◌, ◌-◌, suc, drop, get_or, ◌∷◌, Ok, Err, subst, sym, arith, drop-cons, state, Inside, SetsRows}
+use Rattle.review_sql_tables.proofs.Sequences.{next, stop}
 use Rattle.review_sql_tables.proofs.changes.change_all.Goals as goal
 
 pub loop-left-preserved : goal.loop-left-preserved

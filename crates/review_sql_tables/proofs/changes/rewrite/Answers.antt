@@ -1,7 +1,6 @@
-use Rattle.{std.proofs.Common.◌≡◌, std.proofs.Common.Some, std.proofs.Common.arith, sqlite.specs.Held.state}
+use Rattle.review_sql_tables.proofs.Common.{◌≡◌, Some, arith, state, SetsRow}
 use Rattle.review_sql_tables.proofs.Keys.{row_remade, row_again, row_then_first}
 use Rattle.review_sql_tables.proofs.Sequences.{next, told, weaker}
-use Rattle.review_sql_tables.specs.Search.{SetsRow}
 use Rattle.review_sql_tables.proofs.changes.rewrite.Goals as goal
 
 pub returns-then-count-eq1-clause-ran : goal.returns-then-count-eq1-clause-ran

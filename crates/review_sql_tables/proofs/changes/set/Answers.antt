@@ -1,6 +1,5 @@
-use Rattle.{std.proofs.Common.rules, std.proofs.Common.◌≡◌, std.proofs.Common.Some, sqlite.specs.Held.state}
-use Rattle.review_sql_tables.proofs.{Keys.row_new, Sequences.told_ready}
-use Rattle.review_sql_tables.specs.{Search.SetsRow, declared.table.Sets.TheVariants.PutsIn}
+use Rattle.review_sql_tables.proofs.{Common.rules, Common.◌≡◌, Common.Some, Common.state, Common.SetsRow, Keys.row_new}
+use Rattle.review_sql_tables.{proofs.Sequences.told_ready, specs.declared.table.Sets.TheVariants.PutsIn}
 use Rattle.review_sql_tables.proofs.changes.set.Goals as goal
 
 pub returns-in-Ok-clause-ran : goal.returns-in-Ok-clause-ran

@@ -1,9 +1,6 @@
-use Rattle.{std.proofs.Common.sym, std.proofs.Common.subst, sqlite.specs.Held.state}
+use Rattle.review_sql_tables.proofs.Common.{sym, subst, state, desk_schema, schema_0, schema_1, schema_2, Grows, Migrates, Moves, projects_move, Within, schema_at}
 use Rattle.review_sql_tables.proofs.Migrated.{grows, grows_second}
 use Rattle.review_sql_tables.proofs.Sequences.{Next, follow, retold}
-use Rattle.review_sql_tables.specs.Desk.{desk_schema, schema_0, schema_1, schema_2}
-use Rattle.review_sql_tables.specs.{Made.Grows, Migrated.Migrates, Migrated.Moves, Moved.projects_move, Ran.Within}
-use Rattle.review_sql_tables.specs.Versions.{schema_at}
 use Rattle.review_sql_tables.specs.declared.versions.EarlierVersion.TheVariants as earlier
 use Rattle.review_sql_tables.proofs.creating.create_tables.Goals as goal
 

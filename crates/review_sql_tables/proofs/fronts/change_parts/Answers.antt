@@ -1,6 +1,5 @@
-use Rattle.std.proofs.Common.{rules, ◌≡◌, ◌∙◌, ◌-◌, suc, drop, get_or, ◌∷◌, Ok, Err, subst, sym, arith}
-use Rattle.{std.proofs.Math.Seq.drop-cons, sqlite.specs.Held.state}
-use Rattle.review_sql_tables.{proofs.Sequences.next, proofs.Sequences.stop, specs.Fronts.SetsParts, specs.Ran.Inside}
+use Rattle.review_sql_tables.proofs.Common.{rules, ◌≡◌, ◌∙◌, ◌-◌, suc, drop, get_or, ◌∷◌, Ok, Err, subst, sym, arith, drop-cons, state, SetsParts, Inside}
+use Rattle.review_sql_tables.proofs.Sequences.{next, stop}
 use Rattle.review_sql_tables.proofs.fronts.change_parts.Goals as goal
 
 pub loop-left-preserved : goal.loop-left-preserved

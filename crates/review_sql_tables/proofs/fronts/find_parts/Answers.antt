@@ -1,7 +1,6 @@
-use Rattle.std.proofs.Common.{Vec, Global, rules, ◌≡◌, option_map, subst, Ok}
-use Rattle.sqlite.specs.{Held.state, declared.rows.Row.Row}
-use Rattle.{sqlite_trees.specs.Tree.Trees, review_table.specs.Rows.rows_of, review_sql_tables.proofs.Found.look_on}
-use Rattle.review_sql_tables.{proofs.Owned.sorted_owned, specs.Search.Finds, specs.inner.Words.WereSorted}
+use Rattle.sqlite.specs.declared.rows.Row.{Row}
+use Rattle.review_sql_tables.proofs.Common.{Vec, Global, rules, ◌≡◌, option_map, subst, Ok, state, Trees, rows_of, Finds, WereSorted}
+use Rattle.review_sql_tables.proofs.{Found.look_on, Owned.sorted_owned}
 use Rattle.review_sql_tables.proofs.fronts.find_parts.Goals as goal
 
 pub returns-clause-looks : goal.returns-clause-looks

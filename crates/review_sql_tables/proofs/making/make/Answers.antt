@@ -1,5 +1,4 @@
-use Rattle.{std.proofs.Common.[], sqlite.specs.Held.state}
-use Rattle.review_sql_tables.{proofs.Made.makes_by, proofs.Sequences.one, specs.Made.MakesBy}
+use Rattle.review_sql_tables.proofs.{Common.[], Common.state, Common.MakesBy, Made.makes_by, Sequences.one}
 use Rattle.review_sql_tables.proofs.making.make.Goals as goal
 
 pub returns-clause-ran : goal.returns-clause-ran

@@ -1,7 +1,5 @@
-use Rattle.std.proofs.Common.{◌≡◌, ◌∙◌, ◌+◌, suc, take, Ok, subst, arith}
-use Rattle.sqlite.specs.Held.{state}
+use Rattle.review_sql_tables.proofs.Common.{◌≡◌, ◌∙◌, ◌+◌, suc, take, Ok, subst, arith, state, tables_1, schema_0, schema_of, MakesBy, Grows, Within}
 use Rattle.review_sql_tables.proofs.{Made.makes_first, Made.makes_next, Sequences.follow, Sequences.settled_as}
-use Rattle.review_sql_tables.specs.{Desk.tables_1, Desk.schema_0, Desk.schema_of, Made.MakesBy, Made.Grows, Ran.Within}
 use Rattle.review_sql_tables.proofs.making.make_first_tables.Goals as goal
 
 pub loop-at-init : goal.loop-at-init

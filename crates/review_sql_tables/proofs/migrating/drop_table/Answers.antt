@@ -1,5 +1,4 @@
-use Rattle.{std.proofs.Common.[], sqlite.specs.Held.state}
-use Rattle.review_sql_tables.{proofs.Sequences.one, proofs.TextsOfMoves.drops, specs.inner.Moving.DropsBy}
+use Rattle.review_sql_tables.proofs.{Common.[], Common.state, Common.DropsBy, Sequences.one, TextsOfMoves.drops}
 use Rattle.review_sql_tables.proofs.migrating.drop_table.Goals as goal
 
 pub returns-clause-ran : goal.returns-clause-ran

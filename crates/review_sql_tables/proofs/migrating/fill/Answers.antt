@@ -1,5 +1,4 @@
-use Rattle.{std.proofs.Common.[], sqlite.specs.Held.state}
-use Rattle.review_sql_tables.{proofs.Sequences.one, proofs.TextsOfMoves.fills, specs.inner.Moving.FillsBy}
+use Rattle.review_sql_tables.proofs.{Common.[], Common.state, Common.FillsBy, Sequences.one, TextsOfMoves.fills}
 use Rattle.review_sql_tables.proofs.migrating.fill.Goals as goal
 
 pub returns-clause-ran : goal.returns-clause-ran

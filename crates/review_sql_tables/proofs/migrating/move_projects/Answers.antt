@@ -1,6 +1,5 @@
-use Rattle.sqlite.specs.Held.{state}
+use Rattle.review_sql_tables.proofs.Common.{state, Moves, projects_move}
 use Rattle.review_sql_tables.proofs.{Migrated.moves_projects, Sequences.follow, Sequences.settled_as}
-use Rattle.review_sql_tables.specs.{Migrated.Moves, Moved.projects_move}
 use Rattle.review_sql_tables.proofs.migrating.move_projects.Goals as goal
 
 pub returns-clause-ran : goal.returns-clause-ran

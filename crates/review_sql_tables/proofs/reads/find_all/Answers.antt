@@ -1,7 +1,6 @@
-use Rattle.std.proofs.Common.{Vec, Global, rules, ◌≡◌, subst, option_map, Ok}
-use Rattle.{sqlite.specs.Held.state, sqlite.specs.declared.rows.Row.Row, sqlite_trees.specs.Tree.Trees}
+use Rattle.sqlite.specs.declared.rows.Row.{Row}
+use Rattle.review_sql_tables.proofs.Common.{Vec, Global, rules, ◌≡◌, subst, option_map, Ok, state, Trees, Finds, WereRead}
 use Rattle.review_sql_tables.proofs.Found.{look_on, all_found}
-use Rattle.review_sql_tables.specs.{Search.Finds, inner.Words.WereRead}
 use Rattle.review_sql_tables.proofs.reads.find_all.Goals as goal
 
 pub returns-clause-looks : goal.returns-clause-looks

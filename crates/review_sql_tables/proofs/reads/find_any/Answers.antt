@@ -1,7 +1,6 @@
-use Rattle.std.proofs.Common.{Vec, Global, rules, ◌≡◌, ◌∙◌, ap, subst, sym, Ok}
-use Rattle.{sqlite.specs.Held.state, sqlite.specs.declared.rows.Row.Row, sqlite_trees.specs.Tree.Trees}
+use Rattle.sqlite.specs.declared.rows.Row.{Row}
+use Rattle.review_sql_tables.proofs.Common.{Vec, Global, rules, ◌≡◌, ◌∙◌, ap, subst, sym, Ok, state, Trees, HasOne, Finds, first_as}
 use Rattle.review_sql_tables.proofs.Found.{look_on, any_found}
-use Rattle.review_sql_tables.specs.{Greatest.HasOne, Search.Finds, inner.Words.first_as}
 use Rattle.review_sql_tables.proofs.reads.find_any.Goals as goal
 
 pub returns-clause-looks : goal.returns-clause-looks

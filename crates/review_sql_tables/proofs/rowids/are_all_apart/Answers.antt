@@ -1,7 +1,5 @@
-use Rattle.std.proofs.Common.{◌≡◌, ◌∙◌, ◌+◌, ◌&&◌, suc, take, Bool, Ok, subst, arith}
-use Rattle.{std.specs.Bool.Decides, sqlite.specs.Held.state, sqlite_trees.specs.Tree.Trees}
+use Rattle.review_sql_tables.proofs.Common.{◌≡◌, ◌∙◌, ◌+◌, ◌&&◌, suc, take, Bool, Ok, subst, arith, Decides, state, Trees, desk_tables, Looks, table_at}
 use Rattle.review_sql_tables.proofs.{Found.look_on, Found.look_both, Ids.Apart, Ids.decides_more}
-use Rattle.review_sql_tables.specs.{Desk.desk_tables, Ran.Looks, inner.Words.table_at}
 use Rattle.review_sql_tables.proofs.rowids.are_all_apart.Goals as goal
 
 pub loop-at-init : goal.loop-at-init

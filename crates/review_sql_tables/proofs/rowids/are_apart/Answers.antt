@@ -1,8 +1,6 @@
-use Rattle.std.proofs.Common.{Vec, Global, [], rules, ◌≡◌, subst, Ok}
-use Rattle.std.specs.{Bool.Decides, List.AllByRecursion}
-use Rattle.{sqlite.specs.Held.state, sqlite.specs.declared.rows.Row.Row, sqlite_trees.specs.Tree.Trees}
+use Rattle.sqlite.specs.declared.rows.Row.{Row}
+use Rattle.review_sql_tables.proofs.Common.{Vec, Global, [], rules, ◌≡◌, subst, Ok, Decides, AllByRecursion, state, Trees, AreOwn, firsts, table_at, FindsIds}
 use Rattle.review_sql_tables.proofs.{Found.look_on, Ids.decides_at, TextsOfTables.ids_at}
-use Rattle.review_sql_tables.specs.inner.{Rowids.AreOwn, Rowids.firsts, Words.table_at, Words.FindsIds}
 use Rattle.review_sql_tables.proofs.rowids.are_apart.Goals as goal
 
 pub returns-clause-looks : goal.returns-clause-looks

@@ -1,6 +1,5 @@
-use Rattle.std.proofs.Common.{◌≡◌, ◌∙◌}
-use Rattle.{sqlite.specs.Held.state, sqlite.specs.Values.bound, review_sql_tables.proofs.Effects.deleted}
-use Rattle.review_sql_tables.{proofs.Sequences.one_inside, proofs.Sequences.opened, specs.Texts.values_of}
+use Rattle.review_sql_tables.proofs.Common.{◌≡◌, ◌∙◌, state, bound, values_of}
+use Rattle.review_sql_tables.proofs.{Effects.deleted, Sequences.one_inside, Sequences.opened}
 use Rattle.review_sql_tables.proofs.table.remove.Goals as goal
 
 pub returns-clause-ran : goal.returns-clause-ran

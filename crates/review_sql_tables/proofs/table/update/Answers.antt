@@ -1,6 +1,5 @@
-use Rattle.std.proofs.Common.{◌≡◌, ◌∙◌}
-use Rattle.{sqlite.specs.Held.state, sqlite.specs.Values.bound, review_sql_tables.proofs.Effects.updated}
-use Rattle.review_sql_tables.{proofs.Sequences.one_counted, proofs.Sequences.opened, specs.Content.Remakes}
+use Rattle.review_sql_tables.proofs.Common.{◌≡◌, ◌∙◌, state, bound, Remakes}
+use Rattle.review_sql_tables.proofs.{Effects.updated, Sequences.one_counted, Sequences.opened}
 use Rattle.review_sql_tables.proofs.table.update.Goals as goal
 
 pub returns-clause-ran : goal.returns-clause-ran

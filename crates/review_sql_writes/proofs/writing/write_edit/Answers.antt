@@ -1,6 +1,5 @@
-use Rattle.std.proofs.Common.{rules, ◌≡◌, Ok, subst}
-use Rattle.sqlite.specs.Held.{state}
-use Rattle.review_sql_tables.{proofs.Sequences.next, specs.Fronts.SetsParts, specs.Ran.Inside}
+use Rattle.review_sql_tables.proofs.Common.{rules, ◌≡◌, Ok, subst, state, SetsParts, Inside}
+use Rattle.review_sql_records.proofs.Common.{next}
 use Rattle.review_sql_change_records.specs.Forms.{attention_entries, comments, patches, roles, votes}
 use Rattle.review_sql_writes.proofs.writing.write_edit.Goals as goal
 

@@ -1,7 +1,5 @@
-use Rattle.std.proofs.Common.{rules, ◌≡◌, Ok, subst}
-use Rattle.sqlite.specs.Held.{state}
-use Rattle.review_sql_tables.{proofs.Sequences.next, specs.Ran.Inside, specs.Search.SetsRows}
-use Rattle.review_sql_records.specs.Forms.{accounts, members}
+use Rattle.review_sql_tables.proofs.Common.{rules, ◌≡◌, Ok, subst, state, Inside, SetsRows}
+use Rattle.review_sql_records.{proofs.Common.next, specs.Forms.accounts, specs.Forms.members}
 use Rattle.review_sql_writes.proofs.writing.write_unowned.Goals as goal
 
 pub returns-clause-ran : goal.returns-clause-ran
