@@ -9,7 +9,7 @@ use Rattle.clap.specs.Simple.{App, Shape, argument_words, built, label_of, names
 use Rattle.clap.specs.Walk.{Held, Names, Row, Rule, Step, Text, Waiting, Walk, action_of, arg_by_id, arg_by_index, arg_by_long, arg_by_short, has_row, is_empty, is_pending, nothing_held, settled, answers_to, takes_several, next, trailing, subcommand, value, subcommand_met, walk_from, walked, walk, word_met, with_default}
 use Rattle.clap.specs.declared.builder.{action.ArgAction.ArgAction, value_parser.ValueParser.ValueParser}
 use Rattle.clap.specs.declared.error.kind.ErrorKind.{ErrorKind}
-use Rattle.review_desk_work.specs.{CommandLine.desk, WordsFaults.fault_of_kind, WordsFaults.refusal}
+use Rattle.review_desk_work.specs.{CommandLine.desk, Jobs.fault_of_kind, Jobs.refusal}
 use Rattle.clap.specs.declared.builder.action.ArgAction.TheVariants as action
 use Rattle.clap.specs.declared.error.kind.ErrorKind.TheVariants as kind
 

@@ -3,7 +3,7 @@ use Rattle.review_sql_tables.proofs.Common.{Some, ap, ◌≡◌, ◌∙◌, inl,
 use Rattle.review_machine_rows.proofs.Looked.{asked_more, looked_agrees}
 use Rattle.review_machine_rows.specs.Known.{group_of, known, Found, IsFound, Learns}
 use Rattle.review_sql_records.proofs.Common.{look_on, look_both, AreAsked, Agrees, Rows, Want}
-use Rattle.review_sql_lookups.specs.{Counts.AreBounded, Tables.tables_at, declared.counts.Counts.Counts}
+use Rattle.review_sql_lookups.specs.{Loads.AreBounded, Tables.tables_at, declared.counts.Counts.Counts}
 use Rattle.review_sql.specs.Loading.{HasLearnt, LearnsBounded, LearnsSeen, LooksIf, LooksOnce, WereSeen, learnt_by}
 use Rattle.review_sql.specs.declared.loading.Ended.{Ended}
 use Rattle.review_machine_rows.specs.declared.rows.Want.TheVariants as want

@@ -4,8 +4,8 @@ use Rattle.review_sql_tables.proofs.Common.{◌≡◌, ◌≢◌, ◌⊎◌, inl
 use Rattle.review_sql_records.proofs.Common.{Entry, one_schema, reading_of, IsHistory, IsView}
 use Rattle.review_sql_lookups.specs.Tables.{tables_at}
 use Rattle.review_sql.proofs.{Again.cause_left, Again.unfit_left, Shown.ready_ours}
-use Rattle.review_sql.specs.{Left.MakesOurs, Left.StopLeavesDesk, Migrated.IsUnfit, Opened.IsRefused}
-use Rattle.review_sql.specs.Shelf.{AreLeftOfOurs, AreOurs, no_tables}
+use Rattle.review_sql.specs.{Migrated.IsUnfit, Opened.IsRefused}
+use Rattle.review_sql.specs.Shelf.{MakesOurs, StopLeavesDesk, AreLeftOfOurs, AreOurs, no_tables}
 use Rattle.review_sql.specs.declared.faults.DeskFault.{DeskFault, TheVariants.Store, TheVariants.Memory}
 
 -- a database of trees of a desk of ours is a desk

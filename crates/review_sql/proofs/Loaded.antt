@@ -1,8 +1,8 @@
 -- What is answered of what look-ups found.
 use Rattle.review_sql_tables.proofs.Common.{◌≡◌, Bool, List, Option, Ok, IfOk, IsTrue, subst, sym, Database, Held, state, HasCleanDisk, Ghosts, Serves}
 use Rattle.review_sql_records.proofs.Common.{Agrees, AreAsked, Tables, BlamesTables, IsDamaged, KeepsTables, Shows, Want}
-use Rattle.review_sql_lookups.specs.{Counts.AreBounded, Loads.AreLoaded, Loads.WereAsked, Tables.tables_at}
-use Rattle.review_sql_lookups.specs.declared.{counts.Counts.Counts, sights.Loaded.Loaded}
+use Rattle.review_sql_lookups.specs.Loads.{AreBounded, AreLoaded, WereAsked}
+use Rattle.review_sql_lookups.specs.{Tables.tables_at, declared.counts.Counts.Counts, declared.sights.Loaded.Loaded}
 use Rattle.review_sql_writes.specs.declared.numbers.Numbers.{Numbers}
 use Rattle.review_sql.proofs.Shown.{desk_if_open, same_shown, shown_now}
 use Rattle.review_sql.specs.{Loading.AreLoadedBounded, Shelf.Holds, Shelf.KnowsCounts, Shelf.answer_of, Shelf.tables_of}

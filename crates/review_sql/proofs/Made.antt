@@ -1,10 +1,10 @@
 -- A shelf that was made.
 use Rattle.review_sql_tables.proofs.Common.{◌≡◌, ◌∙◌, ◌⊎◌, inl, inr, Bool, Some, true, false, Ok, Err, IsTrue, refl, sym, ap, subst, arith, survives_then, Database, Held, state, State, HasCleanDisk, Error, Trees, Ghosts, schema_0, IsBlank, Transacts, IsReady}
 use Rattle.review_sql_lookups.specs.Tables.{tables_at}
-use Rattle.review_sql_writes.specs.{First.MakesDesk, Numbers.IsDesk}
+use Rattle.review_sql_writes.specs.Commits.{MakesDesk, IsDesk}
 use Rattle.review_sql.proofs.{Saying.never_shown, Shown.of_ours, Shown.ready_ours}
-use Rattle.review_sql.specs.{Created.IsCreated, Opened.IsOpened, Opened.IsRefused, Opened.IsSeen}
-use Rattle.review_sql.specs.Shelf.{AreOurs, Holds, IsAnyThere, IsUnmade, Stays}
+use Rattle.review_sql.specs.Opened.{IsOpened, IsRefused, IsSeen}
+use Rattle.review_sql.specs.Shelf.{IsCreated, AreOurs, Holds, IsAnyThere, IsUnmade, Stays}
 use Rattle.review_sql.specs.declared.faults.DeskFault.{DeskFault}
 use Rattle.review_sql.specs.declared.faults.DeskFault.TheVariants.{NotADesk, WrongVersion, Store, NotEmpty, NotOurs, Memory}
 use Rattle.review_sql.specs.declared.seen.Seen.{Seen}

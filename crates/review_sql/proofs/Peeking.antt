@@ -3,8 +3,7 @@ use Rattle.review_sql_tables.proofs.Common.{◌≡◌, ◌∙◌, ◌⊎◌, inl
 use Rattle.review_sql_tables.proofs.Sequences.{taken_back, survives_from}
 use Rattle.review_sql_records.proofs.Common.{at_tree, begun}
 use Rattle.{review_sql_writes.specs.declared.numbers.Numbers.Numbers, review_sql.proofs.Saying.desk_of_ours}
-use Rattle.review_sql.specs.Opened.{AreAllApart, Peeks, IsLacking, IsSeen, IsRefused}
-use Rattle.review_sql.specs.Said.{IsSaid, IsDeskThere, IsNone, IsThere, LacksLeast, SaysLeast, least_shown, ShowsEpochs}
+use Rattle.review_sql.specs.Opened.{AreAllApart, Peeks, IsLacking, IsSeen, IsRefused, IsSaid, IsDeskThere, IsNone, IsThere, LacksLeast, SaysLeast, least_shown, ShowsEpochs}
 use Rattle.review_sql.specs.Shelf.{AreAllRead}
 use Rattle.review_sql.specs.declared.{faults.DeskFault.DeskFault, faults.DeskFault.TheVariants.NotADesk, seen.Said.Said}
 

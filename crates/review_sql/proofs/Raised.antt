@@ -2,14 +2,14 @@
 use Rattle.review_sql_tables.proofs.Common.{◌≡◌, ◌≢◌, ◌∙◌, ◌⊎◌, inl, inr, Bool, true, false, Some, Ok, Err, Result, List, OnOk, OnErr, IfOk, IfErr, IsTrue, refl, sym, ap, subst, arith, Decides, is_ok, survives_then, survives_weaker, Database, Held, state, listing_schema, understood, State, HasCleanDisk, Survives, Error, everything, Trees, Ghosts, desk_schema, Migrates, Inside, Looks, OnDesk, Transacts, Within, schema_at, version_of, FIND_ANSWER, EarlierVersion, Third, Then}
 use Rattle.review_sql_tables.proofs.{Migrated.apart_after, Sequences.settled_as}
 use Rattle.review_sql_records.proofs.Common.{Entry, Next, follow, IsView}
-use Rattle.review_sql_lookups.specs.{EarlierTables.tables_in, Tables.tables_at}
-use Rattle.review_sql_writes.specs.{declared.numbers.Numbers.Numbers, inner.Changes.SetsDesk, inner.Changes.SetsLeast}
+use Rattle.review_sql_lookups.specs.Tables.{tables_in, tables_at}
+use Rattle.review_sql_writes.specs.{declared.numbers.Numbers.Numbers, inner.Words.SetsDesk, inner.Words.SetsLeast}
 use Rattle.review_sql.proofs.{Again.goes_on, Made.holds_opened, Made.is_opened}
 use Rattle.review_sql.proofs.Saying.{earlier_of_ours, first_least, not_ok}
 use Rattle.review_sql.proofs.{Shown.of_ours, Shown.ready_ours, Staying.stays_then}
 use Rattle.review_sql.proofs.Upgraded.{Looked, upgrades, upgrades_others}
 use Rattle.review_sql.specs.Migrated.{IsBrought, IsNotMigrated, IsOpenedAsIs, IsRaised, IsUnfit, IsUpgraded, IsViewIn, LeavesUpgraded, Upgrades, if_whole}
-use Rattle.review_sql.specs.{Opened.AreAllApart, Opened.AreApartIn, Said.IsThere}
+use Rattle.review_sql.specs.Opened.{AreAllApart, AreApartIn, IsThere}
 use Rattle.review_sql.specs.Shelf.{AreOurs, Holds, Stays}
 use Rattle.review_sql.specs.declared.faults.DeskFault.{DeskFault, TheVariants.NotADesk, TheVariants.WrongVersion}
 use Rattle.review_sql_tables.specs.declared.versions.EarlierVersion.TheVariants as earlier

@@ -3,9 +3,9 @@ use Rattle.review_sql_tables.proofs.Common.{◌≡◌, ◌∙◌, Option, Some, 
 use Rattle.review_machine_rows.specs.{Shelf.Answers, declared.rows.Recalled.Recalled}
 use Rattle.review_sql_records.proofs.Common.{Identity, AnswerRow, Answered, Tables, kept_row, BlamesTables, IsDamaged, IsRecalled, KeepsTables, LeavesBy, Shows, Blames, cause_of, Kept, ShelfFault, Damaged, request_key}
 use Rattle.review_sql_lookups.specs.Tables.{least_in, stored_as, tables_at}
-use Rattle.review_sql_writes.specs.{Numbers.IsDesk, declared.numbers.Numbers.Numbers}
+use Rattle.review_sql_writes.specs.{Commits.IsDesk, declared.numbers.Numbers.Numbers}
 use Rattle.review_sql.proofs.Shown.{odd_is_damage, shown_now}
-use Rattle.review_sql.specs.{LookedUp.IsLookedUp, LookedUp.IsLookedUpIn, Shelf.tables_of}
+use Rattle.review_sql.specs.Shelf.{IsLookedUp, IsLookedUpIn, tables_of}
 use Rattle.review_sql.specs.declared.serving.LookedUp.{LookedUp, TheVariants.Closed, TheVariants.Open}
 
 -- a stored request with its identity is what is told of it

@@ -5,9 +5,9 @@ use Rattle.review_sql_tables.proofs.{Meaning.plain, Queries.passes, Queries.sele
 use Rattle.review_sql_tables.specs.declared.texts.TheConstants.{READ_ROWS}
 use Rattle.review_sql_records.proofs.Common.{first_epoch, where_is, DeskRow}
 use Rattle.review_sql_records.specs.Forms.{desk, desk_row, epochs}
-use Rattle.review_sql_lookups.specs.EarlierTables.{IsEarlierDesk}
-use Rattle.review_sql_writes.specs.{Numbers.IsDesk, declared.numbers.Numbers.Numbers}
-use Rattle.review_sql.specs.Said.{number_of_one, version_shown, requests_shown, ShowsDesk, ShowsEpochs, ShowsRows, IsDeskThere, IsThere, IsNoDesk, IsNone, IsOtherVersion, LacksDesk, least_shown, SaysLeast}
+use Rattle.review_sql_lookups.specs.Tables.{IsEarlierDesk}
+use Rattle.review_sql_writes.specs.{Commits.IsDesk, declared.numbers.Numbers.Numbers}
+use Rattle.review_sql.specs.Opened.{number_of_one, version_shown, requests_shown, ShowsDesk, ShowsEpochs, ShowsRows, IsDeskThere, IsThere, IsNoDesk, IsNone, IsOtherVersion, LacksDesk, least_shown, SaysLeast}
 use Rattle.review_sql.specs.Shelf.{AreAllRead, IsUnderstood}
 use Rattle.review_sql_tables.specs.declared.versions.EarlierVersion.TheVariants as earlier
 

@@ -5,9 +5,9 @@ use Rattle.review_machine_rows.specs.{Rows.OddAnswer, Shelf.StaysOrShuts, View.s
 use Rattle.review_machine_rows.specs.declared.rows.Kept.{Kept as Request}
 use Rattle.review_machine_rows.specs.declared.shelf.ShelfFault.TheVariants.{Memory, Store}
 use Rattle.review_sql_records.proofs.Common.{Entry, Identity, is_same, reading_of, AnswerRow, Tables, kept_row, Blames, LeavesBy, Shows, IsCommitted, IsDamaged, cause_of, kept_answer, Delta, ShelfFault, Damaged}
-use Rattle.review_sql_lookups.specs.{Counts.AreBounded, Tables.tables_at, declared.counts.Counts.Counts}
-use Rattle.review_sql_writes.specs.Commits.{AreSingle, Commits}
-use Rattle.review_sql_writes.specs.{Numbers.IsDesk, Numbers.with_request, declared.numbers.Numbers.Numbers}
+use Rattle.review_sql_lookups.specs.{Loads.AreBounded, Tables.tables_at, declared.counts.Counts.Counts}
+use Rattle.review_sql_writes.specs.Commits.{AreSingle, Commits, IsDesk, with_request}
+use Rattle.review_sql_writes.specs.declared.numbers.Numbers.{Numbers}
 use Rattle.review_sql.specs.Shelf.{AreOurs, Holds, KnowsCounts, ShowsLeft, Stays, tables_of, stops_of}
 
 -- a stored request that is odd is one of no history

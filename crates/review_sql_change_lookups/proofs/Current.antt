@@ -6,7 +6,7 @@ use Rattle.review_sql_records.proofs.Common.{is_within, most_patches, IsCurrent,
 use Rattle.review_sql_change_records.specs.Forms.{patch_numbers, patches}
 use Rattle.review_sql_lookups.proofs.Telling.{filter_both, last_none, last_some}
 use Rattle.review_sql_lookups.specs.{Loads.IfTold, Tables.tables_at, Tables.told}
-use Rattle.review_sql_change_lookups.specs.{Joins.TellsCurrent, Senders.IsLastSet, Senders.TellsIf}
+use Rattle.review_sql_change_lookups.specs.Joins.{TellsCurrent, IsLastSet, TellsIf}
 
 two : (a b : Bool) → ((a && true) && (b && true)) ≡ (a && (b && true))
 two true b = refl

@@ -8,8 +8,8 @@ use Rattle.review_machine_rows.specs.{Changes.Reads, Changes.joined, Rows.Row}
 use Rattle.review_machine_laws.proofs.{Joined.joined_distinct, Places.get_placed, Places.placed_get}
 use Rattle.review_machine_laws.proofs.Rows.{joined_row, placed_row, row_placed}
 use Rattle.review_sql_records.proofs.Common.{is_slashed_name, is_within, most_changes, most_patches, Entry, JoinedChange, itself, same_text, reading_of, IsHistory, Reading, IsAtPlace, IsCurrent, PartKey, APart, IsDamaged, IsViewBy, fact, Base, BranchKey, PlaceKey, both, where_is, is_small, at_number, both_are, one_number, passed}
-use Rattle.review_sql_change_records.specs.Forms.{change_places, changes_at, headed, headers, patch_numbers, patches, sent}
-use Rattle.review_sql_change_records.specs.{Keyed.has_change, Keyed.header_keyed, Keyed.patch_keyed, Laws.at_text}
+use Rattle.review_sql_change_records.specs.Forms.{change_places, changes_at, headed, headers, patch_numbers, patches, sent, has_change, header_keyed, patch_keyed}
+use Rattle.review_sql_change_records.specs.Laws.{at_text}
 use Rattle.review_sql_lookups.proofs.Odd.{and_false, any_has, both_missing, no_number, odd_at, only_with, unkeyed}
 use Rattle.review_sql_lookups.proofs.Telling.{has_in, in_has, odd_damage}
 use Rattle.review_sql_lookups.specs.{Loads.IfTold, Tables.tables_at, Tables.told}

@@ -10,7 +10,7 @@ use Rattle.review_sql_change_records.specs.{Forms.headers, Forms.patches, Forms.
 use Rattle.review_sql_change_records.specs.inner.Words.{sent_by_key, sent_is}
 use Rattle.review_sql_lookups.proofs.Telling.{has_in, in_has, odd_damage, own_bytes, stored_row}
 use Rattle.review_sql_lookups.specs.{Loads.IfTold, Tables.tables_at, Tables.told}
-use Rattle.review_sql_change_lookups.specs.Senders.{Examines, HasSent, IsFoundSent, IsLastSet, IsOutside, IsSentIn, IsSentWith, TellsIf}
+use Rattle.review_sql_change_lookups.specs.Joins.{Examines, HasSent, IsFoundSent, IsLastSet, IsOutside, IsSentIn, IsSentWith, TellsIf}
 
 -- a row of a kind that was told is one that was found
 pub part_found : {X : Type 0} (kind : X → PartRow) (found : Option (Option X)) (row : PartRow) → told (λ x. APart (kind x)) found ≡ Some (APart row) → (x : X) × (kind x ≡ row) × (found ≡ Some (Some x))

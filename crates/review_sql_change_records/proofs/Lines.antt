@@ -3,7 +3,7 @@ use Rattle.std.proofs.Common.{◌≡◌, ℕ, suc, ◌+◌, ◌<◌, ◌==◌, �
 use Rattle.std.proofs.lemmas.{Bool.cases_Bool, List.append_assoc}
 use Rattle.std.specs.List.{list_all, position_or_len, before_first, after_first}
 use Rattle.review_names.specs.Forms.{is_path, with_front}
-use Rattle.review_sql_change_records.specs.Paths.{lines, paths_in, set_in}
+use Rattle.review_sql_change_records.specs.Forms.{lines, paths_in, set_in}
 
 abbrev pub is_feed : ℕ → Bool
 is_feed b = b == 10

@@ -5,10 +5,8 @@ use Rattle.review_sql_tables.proofs.Common.{◌≡◌, ◌∙◌, ◌⊎◌, ◌
 use Rattle.review_core_rules.specs.Parts.{PatchOf, VoteOf, RoleOf, CommentOf, AttentionOf, APatch, ARole, AComment, AnAttentionEntry}
 use Rattle.review_core_rules.specs.Seen.{vote_cmp}
 use Rattle.review_sql_records.proofs.Common.{is_commit, is_within, most_changes, most_patches, is_word, history_bases, same_text, reading_of, at_place, MemberKey, AccountKey, BaseKey, PartKey, OddKey, AccountRow, MemberRow, BaseRow, APart, IsDamaged, Base, BranchKey, PlaceKey, where_is, both, account_names, account_numbers, base_commits, base_places, branch_bases, base_parts, group_members, member_parts, is_small, at_number, passed, DeskRow}
-use Rattle.review_sql_records.specs.Forms.{alone, accounts, bases, desk, epochs}
-use Rattle.review_sql_records.specs.Keyed.{account_keyed, member_keyed, base_keyed, is_number, is_text}
-use Rattle.review_sql_change_records.specs.Forms.{patches, votes, roles, comments, attention_entries, change_patches, change_votes, change_roles, change_comments, change_attention, vote_key, change_numbers}
-use Rattle.review_sql_change_records.specs.Keyed.{header_keyed, has_change, patch_keyed, vote_keyed, comment_keyed, account_keyed as of_account}
+use Rattle.review_sql_records.specs.Forms.{alone, accounts, bases, desk, epochs, account_keyed, member_keyed, base_keyed, is_number, is_text}
+use Rattle.review_sql_change_records.specs.Forms.{patches, votes, roles, comments, attention_entries, change_patches, change_votes, change_roles, change_comments, change_attention, vote_key, change_numbers, header_keyed, has_change, patch_keyed, vote_keyed, comment_keyed, account_keyed as of_account}
 use Rattle.review_sql_change_records.specs.Laws.{at_text}
 use Rattle.review_sql_lookups.proofs.Telling.{has_in, in_has, odd_damage}
 use Rattle.review_sql_lookups.specs.Loads.{last_of}

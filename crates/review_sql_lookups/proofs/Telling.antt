@@ -1,7 +1,7 @@
 -- What look-ups tell of tables.
 use Rattle.{std.proofs.lemmas.Cmp.nat_list_eq_equiv, sqlite_keyed.proofs.ListLemmas.filter_none}
 use Rattle.review_sql_tables.proofs.Common.{◌≡◌, ◌∙◌, ◌⊎◌, ◌<◌, ◌&&◌, ℕ, zero, pos, List, [], ◌∷◌, Option, Some, None, option_map, refl, sym, ap, subst, cond, Bool, true, false, inl, inr, filter, is_gt, is_some, suc, int_lt, arith, lt-ltb, cases_Bool, and_from, and_parts, both_ways, leb_tells, same_Some, nat_cmp, int_cmp, is_eq, bytes_eq, is_utf8, all_weaker, Has, Trees, value_cmp-Int, Raw, column, value_cmp, Value, Int, Text, row_in, number_in, text_in, has_key, is_value, HaveRows, HasGreatest, only, reads, row_at, rows_at}
-use Rattle.review_sql_tables.{proofs.Keys.int_is, specs.Greatest.IsGreatest}
+use Rattle.review_sql_tables.{proofs.Keys.int_is, specs.Search.IsGreatest}
 use Rattle.review_core_rules.specs.Change.{of_number}
 use Rattle.review_machine_rows.{proofs.Looked.based_from, specs.Known.HasBases, specs.Rows.Row, specs.Rows.member_row}
 use Rattle.review_machine_change_rows.specs.inner.Words.{AreInOrder}

@@ -23,7 +23,7 @@ pub use Rattle.review_machine_rows.specs.declared.shelf.ShelfFault.{ShelfFault, 
 pub use Rattle.review_sql_records.specs.Forms.{account_names, account_numbers, answers, base_commits, base_parts, base_places, both, branch_bases}
 pub use Rattle.review_sql_records.specs.Forms.{earlier_answers, earlier_key, file_without_parent, first_epoch, group_members, is_of_lower}
 pub use Rattle.review_sql_records.specs.Forms.{member_parts, projects, request_key, where_is}
-pub use Rattle.review_sql_records.specs.Keyed.{answer_keyed, earlier_answer_keyed, is_small, project_keyed}
+pub use Rattle.review_sql_records.specs.Forms.{answer_keyed, earlier_answer_keyed, is_small, project_keyed}
 pub use Rattle.review_sql_records.specs.Laws.{at_number, both_are, number_is, one_number, passed}
 pub use Rattle.review_sql_records.specs.declared.rows.{Answered.Answered as Rest, DeskRow.DeskRow}
 unfoldable pub use Rattle.review_names.specs.Forms.{is_within}

@@ -3,8 +3,8 @@ use Rattle.{std.proofs.lemmas.List.Sorted.list_any-IsPermutation, sqlite_rules.s
 use Rattle.review_sql_tables.proofs.Common.{◌≡◌, ◌≢◌, ◌∙◌, ◌&&◌, ◌||◌, ℕ, pos, suc, Bool, true, false, not, List, [], ◌∷◌, Option, Some, None, option_map, map, filter, length, get_or, refl, sym, ap, subst, subst₂, inl, inr, and_from, and_parts, cases_Bool, or_parts, length-map, length_permutation, same_Some, AllByRecursion, list_any, IsPermutation, one_permutation, IsPermutation-filter, filter-map, filter_same, cast, Integer, Raw, column, Value, Int, Text, number_in, text_in, has_key, is_value, AreMoved, columns_of, with_first_epoch, without_parent, Search, only, reads, rows_at}
 use Rattle.review_sql_tables.proofs.{Keys.same_int, Meaning.cast_int}
 use Rattle.review_sql_records.proofs.Common.{itself, StoredFile, answers, earlier_answers, earlier_key, first_epoch, file_without_parent, projects, answer_keyed, earlier_answer_keyed, project_keyed, number_is, Rest}
-use Rattle.review_sql_records.specs.Forms.{answered, stored_file, first_projects, stored_parent}
-use Rattle.review_sql_records.specs.{Keyed.is_natural, Keyed.is_text, Laws.no_text}
+use Rattle.review_sql_records.specs.Forms.{answered, stored_file, first_projects, stored_parent, is_natural, is_text}
+use Rattle.review_sql_records.specs.Laws.{no_text}
 
 -- the column at a place of a row is that before it of its columns
 behind : (r : Raw) (at : ℕ) → column (columns_of r) at ≡ column r (suc at)

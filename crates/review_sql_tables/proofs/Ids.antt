@@ -4,7 +4,7 @@ use Rattle.std.proofs.lemmas.List.{Filters.dedup_is, Kept.IsStrictlySortedBy-ded
 use Rattle.std.proofs.lemmas.Map.Keys.{IsDistinct-from_sorted, IsDistinct-IsPermutation}
 use Rattle.std.specs.List.{dedup, dedup_from, Retain.IsFiltered, Retain.DiffersFromLast, Sorted.IsSorted}
 use Rattle.review_sql_tables.proofs.Common.{◌≡◌, ◌∙◌, ◌&&◌, ℕ, zero, suc, ℤ, ◌+◌, ◌≤◌, List, [], ◌∷◌, ◌++◌, take, drop, map, length, Bool, true, false, cond, nat_eq, eqb-true, eq-eqb, Some, None, refl, sym, ap, subst, IsTrue, arith, inl, inr, or_parts, cases_Bool, IsPermutation-sym, IsPermutation-map, length_permutation, Decides, AllByRecursion, IsDistinct, IsPermutation, int_cmp, int_eq, is_eq, map-map, is_taken, Table, all-permutation, Trees, rowid, is_int, value_cmp-Int, Row, column, Value, Int, AreApart, desk_tables, firsts, AreOwn, AreIds, table_at, FindsIds}
-use Rattle.review_sql_tables.{proofs.Lists.eq_back, specs.inner.Rowids.is_same}
+use Rattle.review_sql_tables.{proofs.Lists.eq_back, specs.inner.Words.is_same}
 
 int_back : (m n : ℤ) → int_eq m n ≡ int_eq n m
 int_back m n = int_eq_equiv.symm m n

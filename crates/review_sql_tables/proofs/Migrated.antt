@@ -3,7 +3,7 @@ use Rattle.review_sql_tables.proofs.ByTree.{all_after, all_both, all_weaker, at_
 use Rattle.review_sql_tables.proofs.Common.{◌≡◌, ◌≢◌, ◌∙◌, ℕ, Bool, true, false, List, [], ◌∷◌, ◌++◌, map, refl, sym, subst, eqb, eqb-true, eqb-false, or_parts, length_permutation, AllByRecursion, list_all, IsPermutation, Database, understood, next_tree, Table, everything, Row, AreApart, answers_3, desk_schema, desk_tables, epochs, projects_2, schema_0, schema_1, schema_2, schema_of, tables_1, tables_2, IsBlank, Grows, IsMade, MakesBy, MakesText, Migrates, Moves, AreMoved, Move, answers_move, columns_of, projects_move, with_first_epoch, without_parent, is_new, schema_at, version_of, DROP_ANSWERS, DROP_PROJECTS, MOVE_ANSWERS, MOVE_PROJECTS, EarlierVersion, DropsText, FillsText, DropsBy, FillsBy, Drops, Fills, with_both}
 use Rattle.review_sql_tables.proofs.Sequences.{Next}
 use Rattle.review_sql_tables.proofs.TextsOfMoves.{answers_dropped, answers_filled, projects_dropped, projects_filled}
-use Rattle.review_sql_tables.specs.{Moved.tables_without_epochs, Versions.tables_since}
+use Rattle.review_sql_tables.specs.Versions.{tables_without_epochs, tables_since}
 use Rattle.review_sql_tables.specs.declared.texts.TheConstants.{CREATE_ANSWERS_3, CREATE_EPOCHS, CREATE_PROJECTS_2}
 use Rattle.review_sql_tables.specs.declared.versions.EarlierVersion.TheVariants as earlier
 

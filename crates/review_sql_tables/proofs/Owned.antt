@@ -2,7 +2,7 @@
 use Rattle.std.proofs.Common.{option_to_list}
 use Rattle.std.proofs.lemmas.List.{length-append, append-nil, take-append-drop, Elements.filter-append}
 use Rattle.review_sql_tables.proofs.Common.{◌≤◌, ◌<◌, ◌+◌, ◌||◌, ℕ, not, is_some, drop, get_or, take, ◌≡◌, ◌∙◌, List, [], ◌∷◌, ◌++◌, Bool, true, false, Ordering, Option, Some, None, option_map, cond, map, filter, length, refl, sym, ap, subst, inl, inr, arith, cases_Bool, both_ways, length-map, map-append, take_more, recursion_from_All, All-from_recursion, length_permutation, IsPermutation-map, All-permutation, IsPermutation-sym, is_at, AllByRecursion, list_any, IsPermutation, one_permutation, IsPermutation-filter, filter-map, filter-filter, map-map, all_unmap, Trees, Row, row_in, has_key, IsExact, AreParts, HaveRows, Search, shown, reads, row_at, only, rows_at, Finds, WereApart, WereSorted}
-use Rattle.review_sql_tables.{proofs.Found.all_found, specs.Fronts.IsFront}
+use Rattle.review_sql_tables.{proofs.Found.all_found, specs.Search.IsFront}
 use Rattle.review_sql_tables.specs.inner.Words.{HasTwins, is_of, at_key}
 
 -- it is there

@@ -2,7 +2,7 @@
 use Rattle.sqlite_schema.specs.declared.command.Source.TheVariants.{Query}
 use Rattle.review_sql_tables.proofs.Common.{◌≡◌, ◌≢◌, ◌∙◌, ℕ, List, [], ◌∷◌, map, filter, slice_get, Some, Ok, refl, ap, sym, subst, pos, IsPermutation-map, IsPermutation-trans, AllByRecursion, IsPermutation, statement_of, runs_as, is_acted_on, understood, State, Executes, without_table, KeepsRows, map-map, cast_row, Insert, DropTable, Enforced, Schema, lit, col, everything, Row, Binary, Null, Int, Text, schema_of, simple, Move, columns_of, projects_move, answers_move, MOVE_PROJECTS, DROP_PROJECTS, MOVE_ANSWERS, DROP_ANSWERS, FillsText, DropsText, HasNoKeys, with_both, Fills, Drops}
 use Rattle.review_sql_tables.proofs.{Meaning.plain, Meaning.cast_int, Queries.selects_by, Queries.shows, Queries.passes}
-use Rattle.review_sql_tables.{proofs.Statements.copies_in, proofs.Statements.drops_in, specs.inner.Moving.all_rows}
+use Rattle.review_sql_tables.{proofs.Statements.copies_in, proofs.Statements.drops_in, specs.inner.Words.all_rows}
 
 -- ---- the texts of both steps
 

@@ -1,8 +1,8 @@
 //! Tables are made by their texts.
 ghost use Rattle.std.specs.Prelude.{◌≡◌, ◌<◌, ℕ, List, map, slice_index_or};
 ghost use Rattle.sqlite.specs.Held.{state};
-ghost use Rattle.review_sql_tables.specs.{Desk.schema_0, Desk.schema_1, Made.MakesBy, Made.Grows};
-ghost use Rattle.review_sql_tables.specs.{Ran.Within, Ran.Opens, declared.texts.TheConstants.CREATE};
+ghost use Rattle.review_sql_tables.specs.{Desk.schema_0, Desk.schema_1, Ran.Within, Ran.Opens};
+ghost use Rattle.review_sql_tables.specs.{Versions.MakesBy, Versions.Grows, declared.texts.TheConstants.CREATE};
 
 use crate::texts;
 use sqlite::{Alter, Error, Transaction};

@@ -1,8 +1,8 @@
 //! Tables of an earlier version become those of the latest, a version after the other.
 ghost use Rattle.std.specs.Prelude.{◌≡◌};
-ghost use Rattle.sqlite.specs.Held.{state};
-ghost use Rattle.review_sql_tables.specs.{Migrated.Migrates, Migrated.Moves, Moved.answers_move, Moved.projects_move};
-ghost use Rattle.review_sql_tables.specs.{Ran.Within, Ran.Opens, inner.Moving.DropsBy, inner.Moving.FillsBy};
+ghost use Rattle.{sqlite.specs.Held.state, review_sql_tables.specs.Ran.Within, review_sql_tables.specs.Ran.Opens};
+ghost use Rattle.review_sql_tables.specs.Versions.{Migrates, Moves, answers_move, projects_move};
+ghost use Rattle.review_sql_tables.specs.inner.Words.{DropsBy, FillsBy};
 ghost use Rattle.review_sql_tables.specs.declared.versions.EarlierVersion.TheVariants as earlier;
 
 use crate::making::make;

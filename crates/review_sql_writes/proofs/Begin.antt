@@ -10,7 +10,7 @@ use Rattle.review_sql_change_records.specs.Forms.{headers, patches, votes, roles
 use Rattle.{review_sql_change_records.specs.Laws.same_bytes, review_sql_lookups.proofs.Telling.own_bytes}
 use Rattle.review_sql_lookups.specs.Tables.{part_in, vote_told, told, row_in, count_in, stored_as, number_of, tables_at, least_in, version_in}
 use Rattle.review_sql_writes.proofs.Unkeyed.{first_keeps, none_unkeyed, unkeyed_same}
-use Rattle.review_sql_writes.specs.{First.MakesDesk, Numbers.IsDesk, inner.Words.SetsFirst}
+use Rattle.review_sql_writes.specs.{Commits.MakesDesk, Commits.IsDesk, inner.Words.SetsFirst}
 
 module _ (a b : Trees) (blank : (t : ℕ) → is_tree t ≡ true → a t ≡ []) (h : SetsFirst a b) where
   abbrev m1 : Trees

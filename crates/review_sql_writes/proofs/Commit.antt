@@ -12,9 +12,9 @@ use Rattle.{review_sql_change_records.specs.Laws.same_bytes, review_sql_lookups.
 use Rattle.review_sql_lookups.specs.Tables.{told, row_in, count_in, answer_in, least_in, stored_as, number_of, tables_at, version_in}
 use Rattle.review_sql_writes.proofs.Edits.{edits_spare, is_part_tree, part_same, parts_edited}
 use Rattle.review_sql_writes.proofs.{Rest.keeps_rest, Unkeyed.commit_keeps, Unkeyed.unkeyed_same}
-use Rattle.review_sql_writes.specs.Commits.{Commits, AreSingle}
-use Rattle.review_sql_writes.specs.{Numbers.IsDesk, Numbers.with_request, declared.numbers.Numbers.Numbers}
-use Rattle.review_sql_writes.specs.inner.Changes.{GivesUp, SetsDelta, SetsKept, SetsDesk, SetsPut}
+use Rattle.review_sql_writes.specs.Commits.{Commits, AreSingle, IsDesk, with_request}
+use Rattle.review_sql_writes.specs.declared.numbers.Numbers.{Numbers}
+use Rattle.review_sql_writes.specs.inner.Words.{GivesUp, SetsDelta, SetsKept, SetsDesk, SetsPut}
 
 -- ---- keys
 

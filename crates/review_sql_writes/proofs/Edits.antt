@@ -9,7 +9,7 @@ use Rattle.review_sql_records.specs.Laws.{numbers_exact}
 use Rattle.review_sql_change_records.specs.Forms.{headers, patches, votes, roles, comments, attention_entries}
 use Rattle.review_sql_change_records.specs.Laws.{votes_exact}
 use Rattle.review_sql_lookups.specs.Tables.{part_in, told, vote_told}
-use Rattle.review_sql_writes.specs.inner.Changes.{SetsEdit, SetsEdits, SetsUnless, is_named}
+use Rattle.review_sql_writes.specs.inner.Words.{SetsEdit, SetsEdits, SetsUnless, is_named}
 
 -- ---- rows as they are told
 

@@ -4,8 +4,8 @@ use Rattle.review_sql_records.proofs.Common.{kept_row, ChangeEdit, Delta, Kept, 
 use Rattle.review_sql_records.specs.Forms.{accounts, members, bases, desk, epochs}
 use Rattle.review_sql_change_records.specs.Forms.{headers, patches, votes, roles, comments, attention_entries}
 use Rattle.review_sql_writes.proofs.Unkeyed.{not_not, pass_still}
-use Rattle.review_sql_writes.specs.Named.{Test, Spares, SparesAll, SparesParts, SparesEdit, SparesNamed, KeepsRest}
-use Rattle.review_sql_writes.specs.inner.Changes.{GivesUp, SetsDelta, SetsEdit, SetsEdits, SetsUnless, SetsKept, SetsPut, SetsDesk, is_named}
+use Rattle.review_sql_writes.specs.Commits.{Test, Spares, SparesAll, SparesParts, SparesEdit, SparesNamed, KeepsRest}
+use Rattle.review_sql_writes.specs.inner.Words.{GivesUp, SetsDelta, SetsEdit, SetsEdits, SetsUnless, SetsKept, SetsPut, SetsDesk, is_named}
 
 module _ (tree : ℕ) (test : Test) (is : is_tree tree ≡ true) where
   abbrev Same : Trees → Trees → Type 0

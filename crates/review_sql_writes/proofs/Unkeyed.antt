@@ -4,8 +4,7 @@ use Rattle.review_sql_records.proofs.Common.{ChangeEdit, Delta, Kept, Put, proje
 use Rattle.review_sql_records.specs.Forms.{accounts, members, bases, desk, epochs}
 use Rattle.review_sql_change_records.specs.Forms.{headers, patches, votes, roles, comments, attention_entries}
 use Rattle.review_sql_lookups.specs.Tables.{has_unkeyed, keyed_tables}
-use Rattle.review_sql_writes.specs.inner.Changes.{GivesUp, SetsDelta, SetsDesk, SetsEdit, SetsEdits, SetsKept, SetsPut, SetsUnless, is_named}
-use Rattle.review_sql_writes.specs.inner.Words.{SetsFirst}
+use Rattle.review_sql_writes.specs.inner.Words.{GivesUp, SetsDelta, SetsDesk, SetsEdit, SetsEdits, SetsKept, SetsPut, SetsUnless, is_named, SetsFirst}
 
 -- which rows of a tree have a key
 abbrev keyed_of : ℕ → Raw → Bool

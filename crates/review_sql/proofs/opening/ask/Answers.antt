@@ -1,5 +1,5 @@
 use Rattle.review_sql_tables.proofs.Common.{rules, ◌≡◌, false, inl, subst, clean_if_open, Database, state, Third}
-use Rattle.review_sql.{proofs.Peeking.lacking, specs.Said.ShowsDesk}
+use Rattle.review_sql.{proofs.Peeking.lacking, specs.Opened.ShowsDesk}
 use Rattle.review_sql.proofs.opening.ask.Goals as goal
 
 pub returns-in-Ok-false-clause-lacking : goal.returns-in-Ok-false-clause-lacking

@@ -1,6 +1,6 @@
 use Rattle.review_sql_tables.proofs.Common.{rules, ◌≡◌, ◌∙◌, sym, ap, not, subst, IsTrue, Err, clean_if_open, Held, state, Serves}
 use Rattle.review_sql_records.proofs.Common.{look_failed, look_ended}
-use Rattle.review_sql.specs.LookedUp.{IsLookedUp}
+use Rattle.review_sql.specs.Shelf.{IsLookedUp}
 use Rattle.review_sql.proofs.serving.find_stored.Goals as goal
 
 pub returns-in_err-looked-clause-serves : goal.returns-in_err-looked-clause-serves

@@ -1,6 +1,6 @@
 use Rattle.review_sql_tables.proofs.Common.{◌≡◌, ℕ, Option, Ok, true, false, arith, nat_tests, nat_lt, state, Trees, row_at}
 use Rattle.review_sql_records.{proofs.Common.look_on, proofs.Common.answers, specs.Forms.epochs}
-use Rattle.{review_sql_records.specs.declared.rows.Answered.Answered, review_sql.specs.LookedUp.IsLookedUp}
+use Rattle.{review_sql_records.specs.declared.rows.Answered.Answered, review_sql.specs.Shelf.IsLookedUp}
 use Rattle.review_sql.specs.declared.serving.LookedUp.TheVariants.{Closed, Open}
 use Rattle.review_sql.proofs.serving.look_up.Goals as goal
 

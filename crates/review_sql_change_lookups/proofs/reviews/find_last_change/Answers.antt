@@ -1,6 +1,6 @@
 use Rattle.review_sql_tables.proofs.Common.{rules, ◌≡◌, Option, ℕ, None, Some, Ok, state, Trees, HasGreatest}
 use Rattle.review_sql_records.proofs.Common.{look_both, look_on, is_small}
-use Rattle.{review_sql_records.specs.Keyed.where_is, review_sql_change_records.specs.Forms.change_numbers}
+use Rattle.{review_sql_records.specs.Forms.where_is, review_sql_change_records.specs.Forms.change_numbers}
 use Rattle.review_sql_lookups.specs.{Loads.Sees, Loads.last_of, declared.sights.Sight.Sight}
 use Rattle.review_sql_change_lookups.proofs.Reviewing.{fresh, none_after}
 use Rattle.review_sql_change_lookups.specs.Reviews.{IsFresh, number_after}

@@ -1,7 +1,7 @@
 use Rattle.review_sql_tables.proofs.Common.{◌≡◌, ℕ, ◌∙◌, sym, Bool, true, false, Option, Some, None, Ok, subst, rules, state, Trees}
 use Rattle.review_sql_records.proofs.Common.{look_both, look_on}
 use Rattle.review_sql_change_lookups.proofs.Sending.{looks_so, sent_and_last}
-use Rattle.review_sql_change_lookups.specs.Senders.{HasSent, IsLastSet, TellsIf}
+use Rattle.review_sql_change_lookups.specs.Joins.{HasSent, IsLastSet, TellsIf}
 use Rattle.review_sql_change_lookups.proofs.senders.examine.Goals as goal
 
 pub returns-in-Some-false-clause-looks : goal.returns-in-Some-false-clause-looks

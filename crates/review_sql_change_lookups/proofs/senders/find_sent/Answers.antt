@@ -2,7 +2,7 @@ use Rattle.review_sql_tables.proofs.Common.{Vec, Global, ◌≡◌, ◌∙◌, �
 use Rattle.{review_sql_records.proofs.Common.look_on, review_sql_change_records.specs.Forms.sent}
 use Rattle.review_sql_change_lookups.proofs.Placed.{sent_odd}
 use Rattle.review_sql_change_lookups.proofs.Sending.{KnowsSent, seen_all, seen_damaged, seen_more, seen_sent}
-use Rattle.review_sql_change_lookups.specs.Senders.{Examines}
+use Rattle.review_sql_change_lookups.specs.Joins.{Examines}
 use Rattle.review_sql_change_lookups.proofs.senders.find_sent.Goals as goal
 
 pub returns-in-Some-true-clause-looks : goal.returns-in-Some-true-clause-looks

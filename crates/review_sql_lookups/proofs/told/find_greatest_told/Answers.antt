@@ -1,5 +1,5 @@
 use Rattle.{std.proofs.Common.Ok, sqlite.specs.Held.state}
-use Rattle.review_sql_tables.{proofs.Found.look_on, specs.Greatest.HasGreatest}
+use Rattle.review_sql_tables.{proofs.Found.look_on, specs.Search.HasGreatest}
 use Rattle.review_sql_lookups.proofs.told.find_greatest_told.Goals as goal
 
 pub returns-clause-looks : goal.returns-clause-looks

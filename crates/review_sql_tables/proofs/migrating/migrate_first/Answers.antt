@@ -1,5 +1,5 @@
 use Rattle.{sqlite.specs.Held.state, review_sql_tables.proofs.Migrated.migrates_first}
-use Rattle.review_sql_tables.{proofs.Sequences.follow, proofs.Sequences.retold, specs.Migrated.Migrates}
+use Rattle.review_sql_tables.{proofs.Sequences.follow, proofs.Sequences.retold, specs.Versions.Migrates}
 use Rattle.review_sql_tables.specs.declared.versions.EarlierVersion.TheVariants as earlier
 use Rattle.review_sql_tables.proofs.migrating.migrate_first.Goals as goal
 

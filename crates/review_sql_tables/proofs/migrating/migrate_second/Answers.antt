@@ -1,5 +1,5 @@
 use Rattle.{sqlite.specs.Held.state, review_sql_tables.proofs.Migrated.migrates_second}
-use Rattle.review_sql_tables.{proofs.Sequences.follow, proofs.Sequences.settled_as, specs.Migrated.Migrates}
+use Rattle.review_sql_tables.{proofs.Sequences.follow, proofs.Sequences.settled_as, specs.Versions.Migrates}
 use Rattle.review_sql_tables.specs.declared.versions.EarlierVersion.TheVariants as earlier
 use Rattle.review_sql_tables.proofs.migrating.migrate_second.Goals as goal
 

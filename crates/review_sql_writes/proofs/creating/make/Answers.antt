@@ -1,6 +1,6 @@
 use Rattle.sqlite.specs.Held.{state}
 use Rattle.review_sql_tables.proofs.Sequences.{follow, retold}
-use Rattle.review_sql_writes.{proofs.Begin.makes_desk, specs.First.MakesDesk}
+use Rattle.review_sql_writes.{proofs.Begin.makes_desk, specs.Commits.MakesDesk}
 use Rattle.review_sql_writes.proofs.creating.make.Goals as goal
 
 pub returns-clause-ran : goal.returns-clause-ran

@@ -1,5 +1,5 @@
 use Rattle.review_sql_tables.proofs.Common.{rules, ◌≡◌, [], subst, state, Inside}
-use Rattle.{review_sql_records.proofs.Common.next, review_sql_writes.specs.inner.Changes.SetsEdits}
+use Rattle.{review_sql_records.proofs.Common.next, review_sql_writes.specs.inner.Words.SetsEdits}
 use Rattle.review_sql_writes.proofs.writing.write_delta.Goals as goal
 
 pub returns-clause-ran : goal.returns-clause-ran

@@ -1,5 +1,5 @@
 use Rattle.review_sql_tables.proofs.Common.{◌≡◌, ◌≤◌, length, drop, take, Ok, state, Inside}
-use Rattle.review_sql_writes.specs.inner.Changes.{SetsEdits}
+use Rattle.review_sql_writes.specs.inner.Words.{SetsEdits}
 use Rattle.review_sql_writes.proofs.writing.write_edits.Given as goal
 
 abbrev pub invariant-loop-left : goal.invariant-loop-left
