@@ -1,7 +1,7 @@
 -- Look-ups one after the other.
 use Rattle.review_sql_tables.proofs.Common.{Some, ap, ◌≡◌, ◌∙◌, inl, inr, ℕ, ◌+◌, ◌<◌, Bool, true, false, List, take, get_or, length, Result, Ok, Err, refl, sym, subst, OnOk, same_Some, AllocError, Held, state, State, Error, Trees, Ghosts, Looks}
 use Rattle.review_machine_rows.proofs.Looked.{asked_more, looked_agrees}
-use Rattle.review_machine_rows.specs.Known.{group_of, known, Found, IsFound, Learns}
+use Rattle.review_machine_rows.specs.Known.{group_of, Found, IsFound, Learns}
 use Rattle.review_sql_records.proofs.Common.{look_on, look_both, AreAsked, Agrees, Rows, Want}
 use Rattle.review_sql_lookups.specs.{Loads.AreBounded, Tables.tables_at, declared.counts.Counts.Counts}
 use Rattle.review_sql.specs.Loading.{HasLearnt, LearnsBounded, LearnsSeen, LooksIf, LooksOnce, WereSeen, learnt_by}

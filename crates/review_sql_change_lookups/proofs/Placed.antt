@@ -203,9 +203,6 @@ found_stands db key n found =
       | inr stands ↦ inr (subst (IsAtPlace (tables_at db).row (branch_of key) key.place) (same_Some _ _ (sym stands.is ∙ r.3)) stands.at)
     ]
 
-header_from : (x y : Header) → AHeader x ≡ AHeader y → x ≡ y
-header_from x y is = cc
-
 -- a change whose header is not so is not at the place
 pub not_there : (db : Trees) (key : BranchKey) (place n : ℕ) (found : Option (Option Header)) → found ≡ row_at headers db n → (IsHeaderAt found key.project key.branch place → ⊥)
     → IsAtPlace (tables_at db).row key place n → ⊥
@@ -219,7 +216,7 @@ not_there db key place n found is other at = by found refl
     by (Some None) odd = let bad = sym (ap (told a_header) odd) ∙ stands in cc
     by (Some (Some h)) some =
         let part : AHeader h ≡ AHeader at.header = (let e = sym (ap (told a_header) some) ∙ stands in cc) in
-        let same = header_from h at.header part in
+        let same : h ≡ at.header = cc in
         other (h, some, ap (λ (x : Header). x.project) same ∙ at.project, ap (λ (x : Header). x.branch) same ∙ at.branch, ap (λ (x : Header). x.place) same ∙ at.placed)
 
 -- the change that was found at a place has no such header

@@ -259,12 +259,12 @@ vote_lawful = record {
       (and_from _ _ (ap (λ v. is_some (where_is is_label (text_in v))) label ∙ ap is_some (reads_text is_label a.1.label best.0)) (keyed_number is_account_number (column r 4) a.1.account best.1 (and_parts _ _ three.1).0)));
 }
 
-both_equal : (o p : Ordering) → is_eq (ordering_then o p) ≡ true → (is_eq o ≡ true) × (is_eq p ≡ true)
+pub both_equal : (o p : Ordering) → is_eq (ordering_then o p) ≡ true → (is_eq o ≡ true) × (is_eq p ≡ true)
 both_equal Less p is = absurd (cc)
 both_equal Equal p is = (refl, is)
 both_equal Greater p is = absurd (cc)
 
-then_equal : (o p : Ordering) → o ≡ Equal → p ≡ Equal → ordering_then o p ≡ Equal
+pub then_equal : (o p : Ordering) → o ≡ Equal → p ≡ Equal → ordering_then o p ≡ Equal
 then_equal o p a b = rw (a, b) refl
 
 pub votes_exact : IsExact vote_cmp

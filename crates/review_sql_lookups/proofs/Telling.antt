@@ -1,12 +1,13 @@
 -- What look-ups tell of tables.
 use Rattle.{std.proofs.lemmas.Cmp.nat_list_eq_equiv, sqlite_keyed.proofs.ListLemmas.filter_none}
-use Rattle.review_sql_tables.proofs.Common.{◌≡◌, ◌∙◌, ◌⊎◌, ◌<◌, ◌&&◌, ℕ, zero, pos, List, [], ◌∷◌, Option, Some, None, option_map, refl, sym, ap, subst, cond, Bool, true, false, inl, inr, filter, is_gt, is_some, suc, int_lt, arith, lt-ltb, cases_Bool, and_from, and_parts, both_ways, leb_tells, same_Some, nat_cmp, int_cmp, is_eq, bytes_eq, is_utf8, all_weaker, Has, Trees, value_cmp-Int, Raw, column, value_cmp, Value, Int, Text, row_in, number_in, text_in, has_key, is_value, HaveRows, HasGreatest, only, reads, row_at, rows_at}
+use Rattle.review_sql_tables.proofs.Common.{◌≡◌, ◌∙◌, ◌⊎◌, ◌<◌, ◌&&◌, ℕ, zero, pos, List, [], ◌∷◌, Option, Some, None, option_map, refl, sym, ap, subst, cond, Bool, true, false, inl, inr, filter, is_gt, is_some, suc, int_lt, arith, lt-ltb, cases_Bool, and_from, and_parts, both_ways, leb_tells, same_Some, nat_cmp, int_cmp, bytes_eq, all_weaker, Has, Trees, value_cmp-Int, Raw, column, value_cmp, Value, Int, Text, row_in, number_in, has_key, is_value, HaveRows, HasGreatest, only, reads, row_at, rows_at}
 use Rattle.review_sql_tables.{proofs.Keys.int_is, specs.Search.IsGreatest}
 use Rattle.review_core_rules.specs.Change.{of_number}
 use Rattle.review_machine_rows.{proofs.Looked.based_from, specs.Known.HasBases, specs.Rows.Row, specs.Rows.member_row}
 use Rattle.review_machine_change_rows.specs.inner.Words.{AreInOrder}
 use Rattle.review_sql_records.proofs.Common.{is_commit, is_word, Entry, is_listed, history_bases, itself, all_pass, reading_of, Reading, HasMembers, IsLast, at_place, Key, AccountKey, MemberKey, FileKey, BaseKey, PartKey, OddKey, AccountRow, MemberRow, FileRow, BaseRow, APart, OddRow, Tables, IsDamaged, fact, Base, BranchKey, PlaceKey, Want, account_names, account_numbers, member_parts, base_commits, base_parts, base_places, number_is, passed}
 use Rattle.review_sql_records.specs.Forms.{accounts, bases}
+use Rattle.review_sql_change_records.specs.Laws.{at_text}
 use Rattle.review_sql_lookups.specs.{Loads.IsOrdered, Loads.Tells, Loads.last_of, Tables.tables_at, Tables.told}
 use Rattle.review_sql_lookups.specs.declared.sights.Sight.{Sight, TheVariants.Damaged}
 
@@ -81,13 +82,6 @@ told_from : {X : Type 0} (kind : X → Row) → ((x : X) → kind x ≡ OddRow �
 told_from kind apart None row some is = absurd (cc)
 told_from kind apart (Some None) row some is = absurd (some (sym (same_Some _ _ is)))
 told_from kind apart (Some (Some x)) row some is = (x, same_Some _ _ is, refl)
-
-text_is : (v : Value) (t : List ℕ) → text_in v ≡ Some t → v ≡ Text t
-text_is (Text s) t is = elim (cases_Bool (is_utf8 s)) [ inl good ↦ ap Text (same_Some _ _ (let e = rw good at is in e)) | inr bad ↦ absurd (let e = rw bad at is in cc) ]
-text_is _ t is = absurd (cc)
-
-at_text : (v : Value) (t : List ℕ) → text_in v ≡ Some t → is_eq (value_cmp v (Text t)) ≡ true
-at_text v t is = subst (λ w. is_eq (value_cmp w (Text t)) ≡ true) (sym (text_is v t is)) (itself (Text t))
 
 -- rows that pass two tests, one after the other
 pub filter_both : {X : Type 0} (q p both : X → Bool) → ((x : X) → (q x && p x) ≡ both x) → (xs : List X) → filter p (filter q xs) ≡ filter both xs

@@ -1,6 +1,7 @@
 -- Rows put into a tree, and taken out.
+use Rattle.std.proofs.lemmas.List.Sorted.{list_any-IsPermutation}
 use Rattle.sqlite_trees.specs.Tree.{without_rowid, has_rowid}
-use Rattle.review_sql_tables.proofs.Common.{◌≡◌, ◌∙◌, ℤ, ◌+◌, List, [], ◌∷◌, map, filter, length, Bool, ◌||◌, true, false, not, cond, Ordering, Less, Equal, Greater, refl, sym, ap, IsTrue, arith, inl, inr, or_parts, cases_Bool, tied_itself, length_permutation, AllByRecursion, list_any, IsPermutation, is_eq, match_ordering, ordering_reverse, IsPermutation-filter, none_counted, filter_same, int_is, id_in, is_taken, without_all, rowid, put_row, is_int, value_cmp_total, Row, value_cmp, Value, AreApart, IsAdded}
+use Rattle.review_sql_tables.proofs.Common.{sym, ◌≡◌, ◌∙◌, ℤ, ◌+◌, List, [], ◌∷◌, map, filter, length, Bool, ◌||◌, true, false, not, cond, Ordering, Less, Equal, Greater, refl, ap, IsTrue, arith, inl, inr, or_parts, cases_Bool, tied_itself, AllByRecursion, list_any, IsPermutation, is_eq, match_ordering, ordering_reverse, filter_same, int_is, id_in, is_taken, without_all, rowid, put_row, is_int, value_cmp_total, Row, value_cmp, Value, AreApart, IsAdded}
 
 module _ (new : Row) (p : Row → Bool) where
   abbrev Put : Ordering → Row → List Row → List Row
@@ -148,21 +149,8 @@ without_is (id ∷ ids) rows = without_is ids (without_rowid id rows) ∙ both r
       | inr apart ↦ rw apart (ap (λ l. cond (not (list_any (λ i. has_rowid i x) ids)) (x ∷ l) l) (both xs))
     ]
 
-any_permuted : (q : ℤ → Bool) (xs ys : List ℤ) → IsPermutation xs ys → list_any q ys ≡ list_any q xs
-any_permuted q xs ys same =
-    let len = length_permutation _ _ (IsPermutation-filter q xs ys same) in
-    let a = none_counted q xs in
-    let b = none_counted q ys in
-    either (list_any q xs) (list_any q ys) (sym a ∙ (ap (λ n. Rattle.std.proofs.Common.eqb n 0) (sym len) ∙ b))
-  where
-    either : (x y : Bool) → not x ≡ not y → y ≡ x
-    either true true e = refl
-    either true false e = absurd (cc)
-    either false true e = absurd (cc)
-    either false false e = refl
-
 -- what a DELETE takes out is what passed its test
 pub removed : (p : Row → Bool) (rows : List Row) (ids : List ℤ) → AreApart rows → IsPermutation (map id_of (filter p rows)) ids → without_all rows ids ≡ filter (λ r. not (p r)) rows
 removed p rows ids all same =
     let mine = map id_of (filter p rows) in
-    without_is ids rows ∙ (filter_same _ _ (λ r. ap not (any_permuted (λ id. has_rowid id r) mine ids same)) rows ∙ filter_on (has_one mine) p rows (passing p rows all))
+    without_is ids rows ∙ (filter_same _ _ (λ r. ap not (sym (list_any-IsPermutation (λ id. has_rowid id r) mine ids same))) rows ∙ filter_on (has_one mine) p rows (passing p rows all))

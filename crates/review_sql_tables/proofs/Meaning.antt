@@ -1,10 +1,10 @@
 -- What the parts of texts mean: the tests of a WHERE, the values of an INSERT, and whole queries.
-use Rattle.std.proofs.{Common.◌^◌, lemmas.Bool.ltb-true, lemmas.List.get_or-drop}
+use Rattle.std.proofs.{Common.◌^◌, lemmas.Bool.ltb-true, lemmas.List.get_or-drop, lemmas.List.Folds.list_all-append}
 use Rattle.sqlite_sql.specs.Ops.{unary, is_true, from_truth}
 use Rattle.sqlite_sql.specs.{Term.eval, declared.ops.BinaryOp.TheVariants.Compare}
 use Rattle.sqlite_sql.specs.declared.ops.CompareOp.TheVariants.{Eq, Lt}
 use Rattle.sqlite_sql.specs.declared.ops.UnaryOp.TheVariants.{Not, ToNumeric, TypeOf}
-use Rattle.review_sql_tables.proofs.Common.{arith, inl, inr, codes, ◌≡◌, ◌∙◌, ◌&&◌, ◌++◌, ◌-◌, ℕ, zero, suc, ℤ, get_or, List, [], ◌∷◌, Bool, cond, Some, true, false, refl, sym, ap, map, filter, drop, nat_le, subst, subst₂, cases_Bool, slice_cmp, list_all, IsPermutation, is_eq, is_lt, nat_cmp, int_lt, pos, negsuc, nat_lt, not, Less, Equal, Greater, reads_as, State, Shown, filter_same, map-map, cast, Integer, binary, is_null, overlay, col, holds, Trees, rowid, is_int, value_cmp-Int, value_cmp-Null, value_cmp-Text, Row, column, value_cmp, Binary, Value, Null, Int, Real, Text, Blob, has_key, is_number_below, is_natural, is_text, is_value, desk_schema, At, Asks, tests_from, values_of, rows_where, FindsIds, tests_below}
+use Rattle.review_sql_tables.proofs.Common.{arith, inl, inr, codes, ◌≡◌, ◌∙◌, ◌&&◌, ◌-◌, ℕ, zero, suc, ℤ, get_or, List, [], ◌∷◌, Bool, cond, Some, true, false, refl, sym, ap, map, filter, drop, nat_le, subst, subst₂, cases_Bool, slice_cmp, list_all, IsPermutation, is_eq, is_lt, nat_cmp, int_lt, pos, negsuc, nat_lt, not, Less, Equal, Greater, reads_as, State, Shown, filter_same, map-map, cast, Integer, binary, is_null, overlay, col, holds, Trees, rowid, is_int, value_cmp-Int, value_cmp-Null, value_cmp-Text, Row, column, value_cmp, Binary, Value, Null, Int, Real, Text, Blob, has_key, is_number_below, is_natural, is_text, is_value, desk_schema, At, Asks, tests_from, values_of, rows_where, FindsIds, tests_below}
 use Rattle.review_sql_tables.proofs.Queries.{passes, shows, selects}
 use Rattle.review_sql_tables.specs.{Content.is_integer, Texts.number_at, Texts.tests_for}
 
@@ -106,10 +106,6 @@ below _ least b = and_false _
 
 -- ---- the tests of a key
 
-all_append : {X : Type 0} (p : X → Bool) (xs ys : List X) → list_all p (xs ++ ys) ≡ (list_all p xs && list_all p ys)
-all_append p [] ys = refl
-all_append p (x ∷ xs) ys = elim (p x) as (λ b. (b && list_all p (xs ++ ys)) ≡ ((b && list_all p xs) && list_all p ys)) [ true ↦ all_append p xs ys | false ↦ refl ]
-
 module _ (params row : Row) where
   abbrev env : List Row
   env = params ∷ row ∷ []
@@ -131,7 +127,7 @@ module _ (params row : Row) where
   passes_from : (key : At) (at : ℕ) → drop at params ≡ values_of key → list_all (holds env) (tests_from at key) ≡ has_key key row
   passes_from [] at bound = refl
   passes_from (c ∷ key) at bound =
-      all_append (holds env) (tests_for c.0 c.1 at) (tests_from (suc at) key)
+      list_all-append (holds env) (tests_for c.0 c.1 at) (tests_from (suc at) key)
       ∙ (λ i. passes_one c.0 at c.1 (first params at c.1 (values_of key) bound) i && passes_from key (suc at) (rest params at c.1 (values_of key) bound) i)
     where
       first : (xs : Row) (at : ℕ) (v : Value) (vs : Row) → drop at xs ≡ v ∷ vs → column xs at ≡ v

@@ -227,7 +227,7 @@ abbrev pub Follows : {X : Type 0} → X → Result (Unit {0}) Error → Result X
 Follows x (Ok u) q = q ≡ Ok x
 Follows x (Err e) q = (f : Error) × (q ≡ Err f)
 
-fails_keeps : (sql : List ℕ) (params : Row) (old new : State) (e : Error) → FailsToQuery sql params old new e → IsUnchanged old new ⊎ IsRolledBack old new
+pub fails_keeps : (sql : List ℕ) (params : Row) (old new : State) (e : Error) → FailsToQuery sql params old new e → IsUnchanged old new ⊎ IsRolledBack old new
 unfolding FailsToQuery IsNotRun
 fails_keeps sql params old new e (inl (inl none)) = inl none.1
 fails_keeps sql params old new e (inl (inr fails)) = inr fails.3
