@@ -1,5 +1,6 @@
 -- Parts of a word.
 use Rattle.std.specs.Prelude.{[], ℕ, List, ◌∷◌, ◌==◌, Option, Some, None, if◌then◌else◌, option_map}
+use Rattle.review_names.specs.Numerals.{◌>>=◌}
 
 -- what follows a front, where the text begins with it
 unfoldable pub behind : List ℕ → List ℕ → Option (List ℕ)

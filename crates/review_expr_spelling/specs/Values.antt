@@ -1,7 +1,7 @@
 -- Values that stand in words: numbers, votes, kinds of change.
 use Rattle.std.specs.Ordering.{int_eq}
 use Rattle.std.specs.Prelude.{ℕ, ℤ, pos, neg_ℤ, List, nat_le, if◌then◌else◌, Bool, false, int_lt, int_le, codes, Option, Some, None, option_map}
-use Rattle.{std.specs.Str.bytes_eq, review_names.specs.Numerals.number_of}
+use Rattle.{std.specs.Str.bytes_eq, review_names.specs.Numerals.◌>>=◌, review_names.specs.Numerals.number_of}
 use Rattle.review_expr_terms.specs.declared.terms.{Comparison.Comparison, VoteValue.VoteValue}
 use Rattle.review_expr_spelling.specs.Cuts.{behind}
 use Rattle.review_expr_terms.specs.declared.terms.VoteValue.TheVariants as value

@@ -6,7 +6,7 @@ use Rattle.review_expr_terms.specs.Patterns.{is_pattern, IsDeepPattern, IsEngine
 use Rattle.review_expr_terms.specs.Words.{Reading, Good, Bad}
 use Rattle.review_expr_terms.specs.declared.terms.{CopyTerm.CopyTerm, RequirementTerm.RequirementTerm}
 use Rattle.review_expr_spelling.specs.{Cuts.behind, Cuts.cut_at, Cuts.key_and_value, Labels.label_in}
-use Rattle.review_expr_spelling.specs.Readings.{in_term, in_value, unless_zero}
+use Rattle.review_expr_spelling.specs.Readings.{◌>>=◌, in_term, in_value, unless_zero}
 use Rattle.review_expr_spelling.specs.Values.{vote_in, is_met_by_zero}
 use Rattle.review_expr_spelling.specs.declared.keys.{CopyKey.CopyKey, RequirementKey.RequirementKey}
 use Rattle.review_expr_terms.specs.declared.terms.Comparison.TheVariants as comparison

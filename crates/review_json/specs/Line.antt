@@ -1,8 +1,9 @@
 -- The delivery that a line spells.
 use Rattle.std.specs.Prelude.{ℕ, List, if◌then◌else◌, Option, Some, option_map, option_and_then, codes}
 use Rattle.serde_json.specs.{Data.Data, Data.object, Data.no_members, Find.get}
-use Rattle.{review_names.specs.Names.is_word, review_words.specs.declared.command.Command.Command}
-use Rattle.review_words.specs.declared.command.Delivery.{Delivery, TheVariants.Write, TheVariants.Read}
+use Rattle.review_names.specs.{Names.is_word, Numerals.◌>>=◌}
+use Rattle.review_words.specs.declared.command.{Command.Command, Delivery.Delivery}
+use Rattle.review_words.specs.declared.command.Delivery.TheVariants.{Write, Read}
 use Rattle.review_json_routes.specs.Commands.{command_in}
 use Rattle.review_json_routes.specs.Parts.{or_absent, text_at, name_at, account_at, epoch_or_first}
 use Rattle.review_json_routes.specs.{Questions.query_of, Questions.is_question, Texts.value_spelled, Texts.if_object}

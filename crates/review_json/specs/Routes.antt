@@ -1,7 +1,8 @@
 -- The routes that lines spell.
 use Rattle.std.specs.Prelude.{ℕ, List, if◌then◌else◌, Option, Some, None, option_map, option_and_then, codes}
-use Rattle.{std.specs.Str.bytes_eq, serde_json.specs.Data.Data, review_names.specs.Forms.is_slashed_name}
-use Rattle.{review_names.specs.Names.is_word, review_words.specs.declared.command.ChangeQuery.ChangeQuery}
+use Rattle.{std.specs.Str.bytes_eq, serde_json.specs.Data.Data}
+use Rattle.review_names.specs.{Forms.is_slashed_name, Names.is_word, Numerals.◌>>=◌}
+use Rattle.review_words.specs.declared.command.ChangeQuery.{ChangeQuery}
 use Rattle.review_words.specs.declared.command.ChangeQuery.TheVariants.{Change, Requirements, Threads, Attention}
 use Rattle.review_json_routes.specs.Parts.{name_at, account_at, change_at}
 use Rattle.review_json_routes.specs.{Reviews.patch_in, declared.route.ChangeRoute.ChangeRoute}

@@ -1,7 +1,7 @@
 -- The bodies of new changes and new patch sets.
 use Rattle.std.specs.Prelude.{Option, Some, Bool, false, option_map, unwrap_or, codes}
 use Rattle.serde_json.specs.Data.{Data}
-use Rattle.review_names.specs.Forms.{is_slashed_name, is_line, is_commit}
+use Rattle.review_names.specs.{Forms.is_slashed_name, Forms.is_line, Forms.is_commit, Numerals.◌>>=◌}
 use Rattle.review_words.specs.declared.changes.{NewChange.NewChange, NewPatch.NewPatch}
 use Rattle.review_json_routes.specs.Parts.{name_at, flag_at, kind_at, paths_at}
 

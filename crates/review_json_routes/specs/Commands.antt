@@ -1,7 +1,7 @@
 -- The commands that bodies complete routes to.
 use Rattle.std.specs.Prelude.{ℕ, List, if◌then◌else◌, Option, Some, None, option_map, option_and_then, codes}
 use Rattle.serde_json.specs.Data.{Data}
-use Rattle.review_names.specs.{Forms.is_commit, Forms.is_line, Names.is_word}
+use Rattle.review_names.specs.{Forms.is_commit, Forms.is_line, Names.is_word, Numerals.◌>>=◌}
 use Rattle.review_words.specs.declared.command.{ChangeCommand.ChangeCommand, Command.Command}
 use Rattle.review_json_routes.specs.Changes.{new_change, new_patch}
 use Rattle.review_json_routes.specs.Parts.{text_at, name_at, members_at, epoch_at}

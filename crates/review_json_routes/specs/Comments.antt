@@ -2,7 +2,7 @@
 use Rattle.std.specs.Prelude.{ℕ, List, [], ◌∷◌, ◌++◌, nat_le, if◌then◌else◌, Option, Some, None, option_map, option_and_then, codes}
 use Rattle.serde_json.specs.Data.{Data, Items, no_items, item, Members, no_members, member}
 use Rattle.serde_json.specs.Find.{get, as_u64, as_number, as_array, as_object}
-use Rattle.review_names.specs.Forms.{is_message, is_place, most_comments}
+use Rattle.review_names.specs.{Forms.is_message, Forms.is_place, Forms.most_comments, Numerals.◌>>=◌}
 use Rattle.review_words.specs.{Reviews.all_written, declared.changes.NewComment.NewComment}
 use Rattle.review_json_routes.specs.Parts.{formed, or_absent, optional, name_at, number_of, flag_at}
 

@@ -2,7 +2,7 @@
 use Rattle.std.specs.List.{list_any}
 use Rattle.std.specs.Prelude.{ℕ, List, [], ◌∷◌, Bool, false, if◌then◌else◌, Option, Some, None, is_some, option_map, option_and_then, unwrap_or, codes}
 use Rattle.{std.specs.Str.bytes_eq, serde_json.specs.Data.Data, serde_json.specs.Find.get, serde_json.specs.Find.as_str}
-use Rattle.review_names.specs.Forms.{is_message, most_patches}
+use Rattle.review_names.specs.{Forms.is_message, Forms.most_patches, Numerals.◌>>=◌}
 use Rattle.{review_words.specs.declared.changes.Review.Review, review_json_routes.specs.Comments.comments_in}
 use Rattle.review_json_routes.specs.{Parts.formed, Parts.or_absent, Parts.number_of, Votes.labels_in}
 

@@ -2,7 +2,7 @@
 use Rattle.std.specs.Prelude.{ℕ, ℤ, pos, neg_ℤ, int_le, ◌&&◌, List, [], ◌∷◌, if◌then◌else◌, Option, Some, None, option_map, option_and_then, codes}
 use Rattle.serde_json.specs.Data.{Data, Members, no_members, member}
 use Rattle.serde_json.specs.Find.{get, as_i64, as_number, as_object}
-use Rattle.review_names.specs.Forms.{is_label}
+use Rattle.review_names.specs.{Forms.is_label, Numerals.◌>>=◌}
 use Rattle.review_words.specs.{Reviews.label_set, declared.changes.Given.Given}
 use Rattle.review_json_routes.specs.Parts.{formed, or_absent}
 
