@@ -189,8 +189,7 @@ of_entered a alone stop = each stop (λ p. of_found a.subs alone p.1 (λ s. answ
 of_built : (a : App) → a.top.disable_help_subcommand ≡ true → list_all (λ s. s.disable_help_subcommand) a.subs ≡ true → (words : List Text)
     → Agree (built_fault a nothing_held words)
 of_built a alone subs words =
-    let stop = (walk a.top.rules (names_of a) nothing_held words).stopped in
-    of_level a.top alone (names_of a) nothing_held words _ _ (of_entered a subs stop)
+    of_level a.top alone (names_of a) nothing_held words _ _ (of_entered a subs ((walk a.top.rules (names_of a) nothing_held words).stopped))
 
 -- the kinds that an error of the program's command line may have give one fault
 pub desk_agrees : (words : List Text) → Agree (fault_of desk words)

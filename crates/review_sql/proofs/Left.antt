@@ -11,8 +11,7 @@ use Rattle.review_sql.specs.declared.faults.DeskFault.{DeskFault, TheVariants.St
 -- a database of trees of a desk of ours is a desk
 ready_again : (db : Database) → IsDatabase db → AreOurs db.trees → IsReady db
 ready_again db sound ours =
-    let same = one_schema db.trees db.schema desk_schema refl sound ours.ready.sound in
-    subst IsReady (λ i. record { schema = sym same i; trees = db.trees }) ours.ready
+    subst IsReady (λ i. record { schema = sym (one_schema db.trees db.schema desk_schema refl sound ours.ready.sound) i; trees = db.trees }) ours.ready
 
 -- one of the two, where it can't be neither
 either : (fault : DeskFault) → (((fault ≢ Memory) × (fault ≢ Store)) → ⊥) → (fault ≡ Memory) ⊎ (fault ≡ Store)

@@ -34,8 +34,7 @@ module _ {S : Type 0} (g : Ghosts S) (c0 c1 c2 : Held S) (is_ours : Bool) (decid
         let d = acts.done clean in
         let same : (state g c2).now.trees ≡ left.0 = ap (λ (d : Database). d.trees) (settled d.1) ∙ sym (law left.0 d.1 left.1) in
         let made : IsTrue is_ours → AreOurs (state g c2).now.trees = λ ours. let b = blank (decided ours) in ready_ours (state g c2).now _ (d.2.ready b) (d.2.desk b) in
-        let tables = of_ours is_ours left.0 t left.2 (λ ours. subst AreOurs same (made ours)) in
-        rw d.1 (ap (λ (t : Trees). Some (tables_at t)) same ∙ ap Some (sym tables));
+        rw d.1 (ap (λ (t : Trees). Some (tables_at t)) same ∙ ap Some (sym (of_ours is_ours left.0 t left.2 (λ ours. subst AreOurs same (made ours)))));
     survives = survives_then (state g c0) (state g c1) (state g c2) _ _ _ (λ _ db h. absurd h)
         (λ clean db h. let was = stays.kept h.0 in (was.0, (h.1.0, h.1.1, subst (λ (d : Database). MakesDesk d h.1.0) was.1 h.1.2))) stays.survives acts.survives;
   }
@@ -53,8 +52,7 @@ module _ {S : Type 0} (g : Ghosts S) (c0 c1 : Held S) (seen : Seen) where
   holds_opened is_ours seen_ours mode stays it = record {
     autocommit = mode;
     ready = λ ours is_open.
-        let same = (stays.kept is_open).1 in
-        subst (λ (d : Database). IsReady d × IsDesk seen.numbers d.trees) (sym same) ((it is_open).ready (seen_ours ours));
+        subst (λ (d : Database). IsReady d × IsDesk seen.numbers d.trees) (sym ((stays.kept is_open).1)) ((it is_open).ready (seen_ours ours));
   }
 
   pub is_opened : Stays (state g c0) (state g c1) → IsOpened g c0 (record { conn = c1; numbers = seen.numbers; faults = 0 })

@@ -184,8 +184,7 @@ never_there_earlier version other db has numbers is n there = other (same_Some _
 
 pub never_other_version : (db : Database) → db.schema ≡ desk_schema → (numbers : Numbers) → IsDesk numbers db.trees → IsOtherVersion db → ⊥
 never_other_version db has numbers is other =
-    let it = desk_says Third db has other.0 other.1 numbers is in
-    other.2.2.0 (same_Some _ _ (sym other.2.1 ∙ it.0))
+    other.2.2.0 (same_Some _ _ (sym other.2.1 ∙ (desk_says Third db has other.0 other.1 numbers is).0))
 
 -- where there is no table nothing is shown of one
 pub never_shown : (db : Database) → db.schema ≡ schema_0 → (rows : List Row) → ShowsDesk db rows → ⊥

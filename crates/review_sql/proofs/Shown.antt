@@ -132,10 +132,9 @@ module _ {S : Type 0} (g : Ghosts S) (old new : Held S) where
           → ((db : Trees) → IsTrue (state g new).is_open → (state g new).may_leave db → db ≡ (state g new).committed.trees) → (t : Tables) → stops_of g is_ours new t → tables_of g new ≡ Some t
       alone is clean settled law t left =
           let d = done_as is clean in
-          let is_open = d.1 in
           let same : (state g new).now.trees ≡ left.0 = ap (λ (d : Database). d.trees) (settled d.1) ∙ sym (law left.0 d.1 left.1) in
           let tables = of_ours is_ours left.0 t left.2 (λ yes. subst AreOurs same (ours_after yes d.0 (state g new).now d.2)) in
-          rw is_open (ap (λ (t : Trees). Some (tables_at t)) same ∙ ap Some (sym tables))
+          rw d.1 (ap (λ (t : Trees). Some (tables_at t)) same ∙ ap Some (sym tables))
 
       pub holds_undone : {e : Error} → r ≡ Err e → new.in_transaction ≡ false → Holds g new is_ours numbers
       holds_undone {e} is mode = record {

@@ -310,8 +310,7 @@ set_damaged db n q found great is other =
     let row = has_in (has_key (patch_numbers.at n)) (db 11) r great.1.among in
     let number = passed (is_within most_patches) (number_in (column r 2)) q (sym great.2) in
     let here : has_key (patches.at (n, q)) r ≡ true = and_from _ _ (and_parts _ _ row.1).0 (and_from _ _ (at_number (column r 2) q number) refl) in
-    let among = in_has (has_key (patches.at (n, q))) (db 11) r row.0 here in
-    elim (only_with (reads patches) (rows_at (patches.at (n, q)) (db 11)) r among) [
+    elim (only_with (reads patches) (rows_at (patches.at (n, q)) (db 11)) r (in_has (has_key (patches.at (n, q))) (db 11) r row.0 here)) [
       | inl odd ↦ odd_damage (tables_at db) (PartKey n (PatchOf q)) (ap (told (λ x. APart (APatch x))) odd)
       | inr so ↦ by (reads patches r) refl so
     ]

@@ -260,8 +260,7 @@ holder_damaged db name number named one is other =
     let r = one.0 in
     let row = has_in (has_key (account_names.at name)) (db 0) r one.1 in
     let here : has_key (accounts.at number) r ≡ true = and_from _ _ (at_number (column r 0) number (passed is_account_number _ number (sym one.2))) refl in
-    let among = in_has (has_key (accounts.at number)) (db 0) r row.0 here in
-    elim (only_with (reads accounts) (rows_at (accounts.at number) (db 0)) r among) [
+    elim (only_with (reads accounts) (rows_at (accounts.at number) (db 0)) r (in_has (has_key (accounts.at number)) (db 0) r row.0 here)) [
       | inl odd ↦ odd_damage (tables_at db) (AccountKey number) (ap (told AccountRow) odd)
       | inr reads_so ↦ by (reads accounts r) refl reads_so (and_parts _ _ row.1).0
     ]
@@ -285,8 +284,7 @@ base_damaged db base place found one is other =
     let p = and_parts _ _ row.1 in
     let q = and_parts _ _ p.1 in
     let here : has_key (bases.at key) r ≡ true = and_from _ _ p.0 (and_from _ _ q.0 (and_from _ _ (at_number (column r 3) place (sym one.2)) refl)) in
-    let among = in_has (has_key (bases.at key)) (db 6) r row.0 here in
-    elim (only_with (reads bases) (rows_at (bases.at key) (db 6)) r among) [
+    elim (only_with (reads bases) (rows_at (bases.at key) (db 6)) r (in_has (has_key (bases.at key)) (db 6) r row.0 here)) [
       | inl odd ↦ odd_damage (tables_at db) (BaseKey base.project base.branch place) (ap (told BaseRow) odd)
       | inr reads_so ↦ by (reads bases r) refl reads_so (and_parts _ _ q.1).0
     ]

@@ -1,7 +1,7 @@
 -- What was found, as it reads.
 use Rattle.std.proofs.lemmas.List.Sorted.{list_any-IsPermutation}
-use Rattle.review_sql_tables.proofs.Common.{◌||◌, ◌≡◌, ◌∙◌, List, [], ◌∷◌, map, not, Bool, Option, Some, None, Ok, Err, Result, IfOk, refl, sym, ap, subst, arith, is_some, IsTrue, inl, inr, recursion_from_All, All-from_recursion, length_permutation, IsPermutation-map, All-permutation, list_any, AllByRecursion, IsPermutation, one_permutation, survives_then, Database, State, HasCleanDisk, Error, map-map, Has, Trees, Row, HasOne, Looks, Search, shown, reads, only, row_at, rows_at, Finds, AreFound, first_as, WereRead}
-use Rattle.review_sql_tables.proofs.Sequences.{keeps_then}
+use Rattle.review_sql_tables.proofs.Common.{◌||◌, ◌≡◌, ◌∙◌, List, [], ◌∷◌, map, not, Bool, Option, Some, None, Ok, Err, Result, IfOk, refl, sym, ap, subst, arith, is_some, IsTrue, inl, inr, recursion_from_All, All-from_recursion, length_permutation, IsPermutation-map, All-permutation, list_any, AllByRecursion, IsPermutation, one_permutation, survives_then, Database, State, Error, map-map, Has, Trees, Row, HasOne, Looks, Search, shown, reads, only, row_at, rows_at, Finds, AreFound, first_as, WereRead}
+use Rattle.review_sql_tables.proofs.Sequences.{clean_before, keeps_then}
 
 -- one row of a table is shown as one row
 only_shown : {X : Type 0} (f : Row → Row) (read : Row → Option X) (xs ys : List Row) → IsPermutation (map f xs) ys → only read ys ≡ only (λ r. read (f r)) xs
@@ -41,20 +41,16 @@ pub look_both : {X Y : Type 0} (F : Trees → X → Type 0) (G : Trees → Y →
     → Looks F a b (Ok x) → Looks G b c r → Looks (λ db y. F db x × G db y) a c r
 look_both {X} {Y} F G a b c x r one two = record {
   found = λ clean on desk.
-      let earlier = back clean in
+      let earlier = clean_before two.survives clean in
       let first = one.found earlier on desk in
       by_found r first (two.found clean (one.kept earlier on).1 (λ is_open. ap (λ (d : Database). d.schema) first.0 ∙ desk ((one.kept earlier on).0.was_open is_open)));
   kept = λ clean on.
-      let earlier = back clean in
-      let first = one.kept earlier on in
+      let first = one.kept (clean_before two.survives clean) on in
       let second = two.kept clean first.1 in
       (keeps_then a b c first.0 second.0, second.1);
   survives = survives_then a b c _ _ _ (λ _ db h. h) (λ _ db h. h) one.survives two.survives;
 }
   where
-    back : HasCleanDisk c → HasCleanDisk b
-    back clean = omega (arith, two.survives.clean)
-
     by_found : (r : Result Y Error) → (b.now ≡ a.now) × IsTrue b.is_open × F a.now.trees x → IfOk r (λ y. (c.now ≡ b.now) × IsTrue c.is_open × G b.now.trees y)
         → IfOk r (λ y. (c.now ≡ a.now) × IsTrue c.is_open × (F a.now.trees x × G a.now.trees y))
     by_found (Ok y) first second = (second.0 ∙ first.0, second.1, (first.2, subst (λ (t : Trees). G t y) (ap (λ (d : Database). d.trees) first.0) second.2))

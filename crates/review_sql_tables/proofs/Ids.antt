@@ -53,8 +53,7 @@ differ old up new same sorted filtered =
     let is = dedup_is int_eq up new filtered in
     let long = length_permutation old up same in (
       λ yes.
-          let e = eqb-true (length new) (length old) yes in
-          let all = whole_kept up (sym (ap length is) ∙ (e ∙ sym long)) in
+          let all = whole_kept up (sym (ap length is) ∙ ((eqb-true (length new) (length old) yes) ∙ sym long)) in
           IsDistinct-IsPermutation int_eq int_back up old (IsPermutation-sym old up same) (subst (IsDistinct int_eq) all (strictly up sorted)),
       λ apart. eq-eqb (length new) (length old) (ap length is ∙ (ap length (whole_untouched up (IsDistinct-IsPermutation int_eq int_back old up same apart)) ∙ long)),
     )

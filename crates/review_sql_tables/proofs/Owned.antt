@@ -81,31 +81,28 @@ module _ {O K X : Type 0} (cmp : K → K → Ordering) (front : Search O (K × X
     ])
   ]
 
+  -- where each of an owner's rows reads, those of a key are those that read so
+  of_key : (k : K) → AllByRecursion (λ r. IsThere (reads front r)) mine → filter (has_key (whole.at (o, k))) (db whole.tree) ≡ filter (λ r. is_of cmp k (reads front r)) mine
+  of_key k there =
+      let both = all_both (λ r. has_key (front.at o) r ≡ true) (λ r. IsThere (reads front r)) mine (all_pass (has_key (front.at o)) (db front.tree)) there in
+      ap (λ t. filter (has_key (whole.at (o, k))) (db t)) (sym law.tree)
+      ∙ (sym (filter-filter (has_key (whole.at (o, k))) (has_key (front.at o)) (λ r. law.within o k r) (db front.tree))
+      ∙ filter_where (λ r. (has_key (front.at o) r ≡ true) × IsThere (reads front r)) _ _ (agree k) mine both)
+
   pub owned : (rows : List Row) (entries : List (K × X)) → WereApart cmp front.read rows entries → Finds front o db rows → HaveRows cmp whole o db entries
   owned rows entries were found k =
       let same : IsPermutation (map (reads front) mine) (map Some were.items) =
       subst (IsPermutation (map (reads front) mine)) were.read_as (subst (λ l. IsPermutation l (map front.read rows)) (map-map front.read (shown front) mine) (IsPermutation-map front.read (map (shown front) mine) rows found)) in
       let there : AllByRecursion (λ r. IsThere (reads front r)) mine =
       all_unmap IsThere (reads front) mine (recursion_from_All IsThere _ (All-permutation IsThere _ _ (IsPermutation-sym _ _ same) (All-from_recursion IsThere _ (some_all were.items)))) in
-      let both = all_both (λ r. has_key (front.at o) r ≡ true) (λ r. IsThere (reads front r)) mine (all_pass (has_key (front.at o)) (db front.tree)) there in
-      let here : filter (has_key (whole.at (o, k))) (db whole.tree) ≡ filter (λ r. is_of cmp k (reads front r)) mine =
-      ap (λ t. filter (has_key (whole.at (o, k))) (db t)) (sym law.tree)
-      ∙ (sym (filter-filter (has_key (whole.at (o, k))) (has_key (front.at o)) (λ r. law.within o k r) (db front.tree))
-      ∙ filter_where (λ r. (has_key (front.at o) r ≡ true) × IsThere (reads front r)) _ _ (agree k) mine both) in
       let picked : IsPermutation (map (reads front) (filter (λ r. is_of cmp k (reads front r)) mine)) (map Some (at_key cmp k were.items)) =
       subst (IsPermutation _) (has_some cmp k were.items) (subst (λ l. IsPermutation l (filter (is_of cmp k) (map Some were.items))) (filter-map (is_of cmp k) (reads front) mine) (IsPermutation-filter (is_of cmp k) _ _ same)) in
-      ap (only (reads whole)) here
+      ap (only (reads whole)) (of_key k there)
       ∙ read_one (reads front) (reads whole) (λ e. e.1) (filter (λ r. is_of cmp k (reads front r)) mine) (at_key cmp k were.items) (row_in cmp entries k) picked (were.each k) (λ r y is. law.shows o y.0 y.1 r is)
 
   -- where each row reads, two that read with one key stand at one key
   twins : (k : K) → AllByRecursion (λ r. IsThere (reads front r)) mine → 1 < length (filter (λ r. is_of cmp k (reads front r)) mine) → row_at whole db (o, k) ≡ Some None
-  twins k there two =
-      let both = all_both (λ r. has_key (front.at o) r ≡ true) (λ r. IsThere (reads front r)) mine (all_pass (has_key (front.at o)) (db front.tree)) there in
-      let here : filter (has_key (whole.at (o, k))) (db whole.tree) ≡ filter (λ r. is_of cmp k (reads front r)) mine =
-      ap (λ t. filter (has_key (whole.at (o, k))) (db t)) (sym law.tree)
-      ∙ (sym (filter-filter (has_key (whole.at (o, k))) (has_key (front.at o)) (λ r. law.within o k r) (db front.tree))
-      ∙ filter_where (λ r. (has_key (front.at o) r ≡ true) × IsThere (reads front r)) _ _ (agree k) mine both) in
-      ap (only (reads whole)) here ∙ several (reads whole) (filter (λ r. is_of cmp k (reads front r)) mine) two
+  twins k there two = ap (only (reads whole)) (of_key k there) ∙ several (reads whole) (filter (λ r. is_of cmp k (reads front r)) mine) two
 
   pub sorted_owned : (rows : List Row) (found : Option (List (K × X))) → WereSorted cmp front.read rows found → Finds front o db rows → AreParts cmp front whole o db found
   sorted_owned rows None (inl odd) h = inl (all_found front db o rows None odd h)

@@ -218,8 +218,7 @@ module _ (name : List ℕ) (tree : ℕ) (columns : List Column) (key : Option �
         → (row : Row) → (edit_of old.now.trees the [] Chosen 0 (value_rows params width (length terms / width) terms)).news ≡ row ∷ []
         → IsReady new.now × Adds tree row old.now.trees new.now.trees
     inserts terms width is count h row news =
-        let command = Insert at (Values terms width) in
-        let w = runs_as sql params old new desk_schema has.schema command is plain count h in
+        let w = runs_as sql params old new desk_schema has.schema (Insert at (Values terms width)) is plain count h in
         let it = inserts_in old.step_limit params old.now (statement_of sql (understood desk_schema sql)) at here none w.tally new.now terms width w.changed in
         let rows : new.now.trees tree ≡ put_row row (old.now.trees tree) = it.1.is ∙ ap (put_all (old.now.trees tree)) news in
         let keyed : IsTrue (is_int (rowid row)) = (and_parts _ _ (ap have_rowids (sym news) ∙ it.2.keyed)).0 in
@@ -236,8 +235,7 @@ module _ (name : List ℕ) (tree : ℕ) (columns : List Column) (key : Option �
         → IsReady new.now × (new.now.trees tree ≡ filter (λ r. not (test r)) (old.now.trees tree)) × SparesOthers tree old.now.trees new.now.trees
     deletes tests is own count h test same =
         let q : Program = record { lets = []; body = over_table tree tests (col 1 0 ∷ []) [] } in
-        let command = Delete at q in
-        let w = runs_as sql params old new desk_schema has.schema command is plain count h in
+        let w = runs_as sql params old new desk_schema has.schema (Delete at q) is plain count h in
         let it = deletes_in old.step_limit params old.now (statement_of sql (understood desk_schema sql)) at here none w.tally new.now q w.changed in
         let found = selects tree tests (col 1 0 ∷ []) [] old.now.trees params it.1 own (it.2.answer Null) in
         let up = has.apart tree listed in
@@ -255,8 +253,7 @@ module _ (name : List ℕ) (tree : ℕ) (columns : List Column) (key : Option �
         → IsReady new.now × Remakes tree key stored count old.now.trees new.now.trees
     updates tests project is own count h key same stored keyed cast =
         let q : Program = record { lets = []; body = over_table tree tests (col 1 0 ∷ project) [] } in
-        let command = Update at q in
-        let w = runs_as sql params old new desk_schema has.schema command is plain count h in
+        let w = runs_as sql params old new desk_schema has.schema (Update at q) is plain count h in
         let it = updates_in old.step_limit params old.now (statement_of sql (understood desk_schema sql)) at here none w.tally new.now q w.changed in
         let before = old.now.trees tree in
         let up = has.apart tree listed in

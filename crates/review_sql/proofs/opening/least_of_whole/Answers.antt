@@ -19,6 +19,5 @@ returns-clause-whole g c is_open =
 
 pub returns-clause-part : goal.returns-clause-part
 returns-clause-part g c is_open =
-    let back = c.least_said.ensures.stays.kept is_open in
-    let first = c.are_all_there.ensures.stays.kept back.0 in
+    let first = c.are_all_there.ensures.stays.kept (c.least_said.ensures.stays.kept is_open).0 in
     part_after c.args.version (state g.S.Store c.args.conn.now) (state g.S.Store c.are_all_there.new.conn) c.least_said.result first.1 (c.least_said.ensures.none is_open)

@@ -7,9 +7,8 @@ use Rattle.review_sql_change_lookups.proofs.places.find_last_joined.Goals as goa
 
 pub returns-in_ok-header-in-Some-Some-clause-looks : goal.returns-in_ok-header-in-Some-Some-clause-looks
 returns-in_ok-header-in-Some-Some-clause-looks g c =
-    let key = c.args.branch.now in
     let last = c.in-Some-Some.last in
-    let G : Trees → Option (Option (ℕ × ℕ)) → Type 0 = λ db found. HasGreatest change_places 8 key db found in
+    let G : Trees → Option (Option (ℕ × ℕ)) → Type 0 = λ db found. HasGreatest change_places 8 c.args.branch.now db found in
     let H : Trees → Option (Option Header) → Type 0 = λ db found. found ≡ row_at headers db last.0 in
     let s0 = state g.S.Store c.args.tx.now.conn.now in
     let s1 = state g.S.Store c.find_greatest.new.tx.conn.now in

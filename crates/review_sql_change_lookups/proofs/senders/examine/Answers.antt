@@ -6,9 +6,8 @@ use Rattle.review_sql_change_lookups.proofs.senders.examine.Goals as goal
 
 pub returns-in-Some-false-clause-looks : goal.returns-in-Some-false-clause-looks
 returns-in-Some-false-clause-looks g c =
-    let base = c.args.base.now in
     let e : ℕ × ℕ = (c.args.change, c.args.patch) in
-    let F : Trees → Option Bool → Type 0 = λ db is. TellsIf db (HasSent c.args.merged base e db) is in
+    let F : Trees → Option Bool → Type 0 = λ db is. TellsIf db (HasSent c.args.merged c.args.base.now e db) is in
     let s0 = state g.S.Store c.args.tx.now.conn.now in
     let s1 = state g.S.Store c.find_sender.new.tx.conn.now in
     let is : c.in_ok-sent.sent ≡ Some false = search rules in
@@ -16,9 +15,8 @@ returns-in-Some-false-clause-looks g c =
 
 pub returns-then-not-merged-clause-looks : goal.returns-then-not-merged-clause-looks
 returns-then-not-merged-clause-looks g c =
-    let base = c.args.base.now in
     let e : ℕ × ℕ = (c.args.change, c.args.patch) in
-    let F : Trees → Option Bool → Type 0 = λ db is. TellsIf db (HasSent c.args.merged base e db) is in
+    let F : Trees → Option Bool → Type 0 = λ db is. TellsIf db (HasSent c.args.merged c.args.base.now e db) is in
     let s0 = state g.S.Store c.args.tx.now.conn.now in
     let s1 = state g.S.Store c.find_sender.new.tx.conn.now in
     let is : c.in_ok-sent.sent ≡ Some true = search rules in
@@ -41,9 +39,8 @@ returns-clause-looks g c =
 
 pub returns-in-None-clause-looks : goal.returns-in-None-clause-looks
 returns-in-None-clause-looks g c =
-    let base = c.args.base.now in
     let e : ℕ × ℕ = (c.args.change, c.args.patch) in
-    let F : Trees → Option Bool → Type 0 = λ db is. TellsIf db (HasSent c.args.merged base e db) is in
+    let F : Trees → Option Bool → Type 0 = λ db is. TellsIf db (HasSent c.args.merged c.args.base.now e db) is in
     let s0 = state g.S.Store c.args.tx.now.conn.now in
     let s1 = state g.S.Store c.find_sender.new.tx.conn.now in
     let is : c.in_ok-sent.sent ≡ None = search rules in

@@ -15,8 +15,7 @@ returns-then-is-clause-looks g c =
 
 pub returns-clause-looks : goal.returns-clause-looks
 returns-clause-looks g c =
-    let base = c.args.base.now in
-    let F : Trees → Option Bool → Type 0 = λ db is. IfTold db (IsBaseOrNot (tables_at db).row base) is in
+    let F : Trees → Option Bool → Type 0 = λ db is. IfTold db (IsBaseOrNot (tables_at db).row c.args.base.now) is in
     let s0 = state g.S.Store c.args.tx.now.conn.now in
     let s1 = state g.S.Store c.is_base.new.tx.conn.now in
     let s2 = state g.S.Store c.find_merged.new.tx.conn.now in

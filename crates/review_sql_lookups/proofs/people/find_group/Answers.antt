@@ -7,11 +7,10 @@ use Rattle.review_sql_lookups.proofs.people.find_group.Goals as goal
 pub returns-clause-looks : goal.returns-clause-looks
 returns-clause-looks g c =
     let group = c.args.group.now in
-    let a = state g.S.Store c.args.tx.now.conn.now in
     let m = state g.S.Store c.find_parts.new.tx.conn.now in
     let found = c.in_ok-found.found in
     let F : Trees → Option (List (ℕ × Option (Unit {0}))) → Type 0 = λ db found. AreParts nat_cmp group_members member_parts group db (option_map (λ t. rows_of t) found) in
-    look_on F _ a m found (Ok found) c.in_ok-found.ensures.looks (λ db h. told db group found h)
+    look_on F _ (state g.S.Store c.args.tx.now.conn.now) m found (Ok found) c.in_ok-found.ensures.looks (λ db h. told db group found h)
   where
     told : (db : Trees) (group : List ℕ) (found : Option (List (ℕ × Option (Unit {0})))) → AreParts nat_cmp group_members member_parts group db (option_map (λ t. rows_of t) found) → IfTold db (λ t. HasMembers (tables_at db).row group (rows_of t)) found
     told db group None h = members_damaged db group h

@@ -5,9 +5,8 @@ use Rattle.review_sql_lookups.proofs.people.find_holder.Goals as goal
 
 pub returns-in_ok-named-in-Some-Some-clause-looks : goal.returns-in_ok-named-in-Some-Some-clause-looks
 returns-in_ok-named-in-Some-Some-clause-looks g c =
-    let name = c.args.name.now in
     let number = c.in-Some-Some.number in
-    let N : Trees → Option (Option ℕ) → Type 0 = λ db found. HasOne account_names name db found in
+    let N : Trees → Option (Option ℕ) → Type 0 = λ db found. HasOne account_names c.args.name.now db found in
     let A : Trees → Option (Option (List ℕ)) → Type 0 = λ db named. named ≡ row_at accounts db number in
     let s0 = state g.S.Store c.args.tx.now.conn.now in
     let s1 = state g.S.Store c.find_any.new.tx.conn.now in

@@ -17,5 +17,4 @@ returns-in-Ok c =
 pub returns-in-Err : goal.returns-in-Err
 returns-in-Err c =
     let is : column c.args.row.now c.args.at ≡ Text c.in-Ok-Text.bytes.now = search rules in
-    let h = c.in-Err.ensures.cases in
-    sym (is_odd _ c.in-Ok-Text.bytes.now is h.0)
+    sym (is_odd _ c.in-Ok-Text.bytes.now is c.in-Err.ensures.cases.0)

@@ -11,7 +11,6 @@ loop-at-preserved g c =
     let s1 = state g.S.Store c.loop-at.tx.conn.now in
     let s2 = state g.S.Store c.are_apart-in-loop-at.new.tx.conn.now in
     let at = c.loop-at.at in
-    let low = c.loop-at-test.true in
     let up : suc at ≡ at + 1 = omega arith in
     let F : Trees → Bool → Type 0 = λ db is. Decides is (Apart db (take at desk_tables)) in
     let G : Trees → Bool → Type 0 = λ db is. Decides is (Apart db (table_at at)) in
@@ -20,7 +19,7 @@ loop-at-preserved g c =
     let both = look_both F G s0 s1 s2 a (Ok b) c.loop-at.invariant.looks c.in_ok-are-2.ensures.looks in
     let all = look_on (λ db y. F db a × G db y) (λ db is. Decides is (Apart db (take (suc at) desk_tables))) s0 s2 b (Ok (a && b)) both (λ db h. decides_more at db a b h.0 h.1) in
     record {
-      within = omega (arith, low);
+      within = omega (arith, c.loop-at-test.true);
       reference = c.are_apart-in-loop-at.ensures.same_reference ∙ c.loop-at.invariant.reference;
       looks = subst (λ n. Looks (λ db is. Decides is (Apart db (take n desk_tables))) s0 s2 (Ok (a && b))) up all;
     }

@@ -13,6 +13,4 @@ returns-clause-ran g c =
 
 pub returns-clause-open : goal.returns-clause-open
 returns-clause-open g c clean on =
-    let old = state g.S.Store c.args.tx.now.conn.now in
-    let new = state g.S.Store c.execute.new.self.conn.now in
-    opened _ _ old new c.execute.result (c.execute.ensures.runs clean on)
+    opened _ _ (state g.S.Store c.args.tx.now.conn.now) (state g.S.Store c.execute.new.self.conn.now) c.execute.result (c.execute.ensures.runs clean on)
