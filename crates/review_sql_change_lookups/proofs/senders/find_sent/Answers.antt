@@ -52,7 +52,5 @@ pub returns-in_default-clause-looks : goal.returns-in_default-clause-looks
 returns-in_default-clause-looks g c =
     let base = c.args.base.now in
     let F : Trees → Option (Vec (ℕ × ℕ) Global) → Type 0 = λ db found. AreFound sent db base.commit (option_map (λ items. items.items) found) in
-    let s0 = state g.S.Store c.args.tx.now.conn.now in
-    let s1 = state g.S.Store c.find_all.new.tx.conn.now in
     let is : c.in_ok-found.found ≡ None = search rules in
-    look_on F (KnowsSent c.args.merged base) s0 s1 c.in_ok-found.found (Ok None) c.in_ok-found.ensures.looks (λ db h. sent_odd base db (subst (F db) is h))
+    look_on F (KnowsSent c.args.merged base) _ _ c.in_ok-found.found (Ok None) c.in_ok-found.ensures.looks (λ db h. sent_odd base db (subst (F db) is h))

@@ -8,7 +8,6 @@ loop-at-init g c = record { within = omega arith; reference = c.are_apart.ensure
 pub loop-at-preserved : goal.loop-at-preserved
 loop-at-preserved g c =
     let s0 = state g.S.Store c.args.tx.now.conn.now in
-    let s1 = state g.S.Store c.loop-at.tx.conn.now in
     let s2 = state g.S.Store c.are_apart-in-loop-at.new.tx.conn.now in
     let at = c.loop-at.at in
     let up : suc at ≡ at + 1 = omega arith in
@@ -16,7 +15,7 @@ loop-at-preserved g c =
     let G : Trees → Bool → Type 0 = λ db is. Decides is (Apart db (table_at at)) in
     let a = c.loop-at.are in
     let b = c.in_ok-are-2.field-0 in
-    let both = look_both F G s0 s1 s2 a (Ok b) c.loop-at.invariant.looks c.in_ok-are-2.ensures.looks in
+    let both = look_both F G s0 _ s2 a (Ok b) c.loop-at.invariant.looks c.in_ok-are-2.ensures.looks in
     let all = look_on (λ db y. F db a × G db y) (λ db is. Decides is (Apart db (take (suc at) desk_tables))) s0 s2 b (Ok (a && b)) both (λ db h. decides_more at db a b h.0 h.1) in
     record {
       within = omega (arith, c.loop-at-test.true);
