@@ -4,6 +4,6 @@ use Rattle.review_sql_tables.proofs.migrating.move_projects.Goals as goal
 
 pub returns-clause-ran : goal.returns-clause-ran
 returns-clause-ran g c =
-    let two = follow _ _ _ _ _ _ _ c.in_ok-make.ensures.ran c.in_ok-fill.ensures.ran in
-    let all = follow _ _ _ _ _ _ _ two c.in_ok-drop_table.ensures.ran in
+    let two = follow _ _ _ _ _ _ _ c.in_ok-run_text.ensures.makes c.in_ok-run_text-2.ensures.fills in
+    let all = follow _ _ _ _ _ _ _ two c.in_ok-run_text-3.ensures.drops in
     settled_as _ (Moves projects_move) _ _ _ _ (λ old new h. moves_projects old h.1.0 h.0 new h.1.1 h.1.2 h.2) all
