@@ -70,6 +70,13 @@ module _ (w : Want) (old new : Rows) (before mid more : Counts) (db : Trees) (ha
   seen_unlearnt ended.NoMemory other sees bounded = (tt, (sees (have bounded).1).1)
   seen_unlearnt ended.Damaged other sees bounded = sees (have bounded).1
 
+-- a look-up that didn't learn is the last
+pub ended_unlearnt : {S : Type 0} (g : Ghosts S) (w : Want) (old new : Rows) (before mid more : Counts) (a b c : Held S) (was now : Bool) (end e : Ended) → end ≡ e → (e ≡ ended.Learnt → ⊥)
+    → LooksIf g was (Have old before mid) a b (Ok tt) → LooksOnce g was now (LearnsBounded w old new mid more) b c (Ok end) → LooksIf g now (WereSeen new before more) a c (Ok e)
+ended_unlearnt g w old new before mid more a b c was now end e met other have once =
+    one_more g (Have old before mid) (LearnsBounded w old new mid more) (WereSeen new before more) a b c was now e e (λ db it sees. seen_unlearnt w old new before mid more db it e other sees) have
+    (subst (λ s. LooksOnce g was now (LearnsBounded w old new mid more) b c (Ok s)) met once)
+
 -- where no statement was made before, the row of the desk was asked for
 module _ {S X D : Type 0} (g : Ghosts S) (F : Trees → X → Type 0) (G : Trees → D → Type 0) (a b c : Held S) where
   pub seen_open : (x : X) (d : D) → LooksIf g false F a b (Ok x) → Looks G (state g b) (state g c) (Ok d) → Looks F (state g a) (state g c) (Ok x)
