@@ -82,9 +82,6 @@ module _ {S X D : Type 0} (g : Ghosts S) (F : Trees → X → Type 0) (G : Trees
   pub seen_open : (x : X) (d : D) → LooksIf g false F a b (Ok x) → Looks G (state g b) (state g c) (Ok d) → Looks F (state g a) (state g c) (Ok x)
   seen_open x d have desk = look_on G F (state g a) (state g c) d (Ok x) (subst (λ (h : Held S). Looks G (state g h) (state g c) (Ok d)) have.0 desk) (λ db h. have.1 db)
 
-  pub seen_shut : (x : X) (e f : Error) → LooksIf g false F a b (Ok x) → Looks G (state g b) (state g c) (Err e) → Looks F (state g a) (state g c) (Err f)
-  seen_shut x e f have desk = failed G F (state g a) (state g c) e f (subst (λ (h : Held S). Looks G (state g h) (state g c) (Err e)) have.0 desk)
-
 -- all were made
 pub all_seen : {S : Type 0} (g : Ghosts S) (is : Bool) (rows : Rows) (before more : Counts) (a b : Held S) → LooksIf g is (Have rows before more) a b (Ok tt) → LooksIf g is (WereSeen rows before more) a b (Ok ended.Learnt)
 all_seen g true rows before more a b it = look_on (Have rows before more) (WereSeen rows before more) (state g a) (state g b) tt (Ok ended.Learnt) it (λ db h. h)

@@ -52,10 +52,6 @@ pub none_said : (s : State) (said : Said) (version : TablesVersion) → IsSaid s
 none_said s said version it none = inr (it.rows, it.shown, inl (sym it.version_is ∙ none))
 
 module _ (s : State) (said : Said) (version : TablesVersion) (it : IsSaid s.now said) (is : said.version ≡ Some (version_number version)) where
-  -- nothing is said of requests
-  pub no_requests : said.requests ≡ None → IsNone version s.now
-  no_requests none = inr (it.rows, it.shown, inr (sym it.version_is ∙ is, inl (sym it.requests_are ∙ none)))
-
   -- a table is missing, or no least open epoch is said
   pub part_missing : (AreAllRead version s.now.schema → ⊥) ⊎ LacksLeast version s.now → IsNone version s.now
   part_missing missing = inr (it.rows, it.shown, inr (sym it.version_is ∙ is, inr missing))

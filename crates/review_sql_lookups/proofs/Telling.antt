@@ -101,17 +101,11 @@ three false b c = refl
 
 -- ---- accounts and groups
 
-name_from : (x name : List ℕ) → AccountRow x ≡ AccountRow name → x ≡ name
-name_from x name is = cc
-
-base_from : (x commit : List ℕ) → BaseRow x ≡ BaseRow commit → x ≡ commit
-base_from x commit is = cc
-
 -- no account has a name that none is looked up by
 pub unheld : (db : Trees) (name : List ℕ) → rows_at (account_names.at name) (db 0) ≡ [] → (n : ℕ) → (tables_at db).row (AccountKey n) ≡ Some (AccountRow name) → ⊥
 unheld db name none n is =
     let it = told_from AccountRow (λ x e. cc) (row_at accounts db n) (AccountRow name) (λ e. cc) is in
-    let row = stored_row (reads accounts) (rows_at (accounts.at n) (db 0)) name (it.2 ∙ ap (λ x. Some (Some x)) (name_from it.0 name it.1)) in
+    let row = stored_row (reads accounts) (rows_at (accounts.at n) (db 0)) name (it.2 ∙ ap (λ x. Some (Some x)) (let e : it.0 ≡ name = cc it.1 in e)) in
     let found = has_in (has_key (accounts.at n)) (db 0) row.0 row.1 in
     let at = at_text (column row.0 2) name (passed is_word _ name row.2) in
     subst (λ l. Has l row.0) none (in_has (has_key (account_names.at name)) (db 0) row.0 found.0 (and_from _ _ at refl))
@@ -120,7 +114,7 @@ pub unbased : (db : Trees) (base : Base) → rows_at (base_commits.at base) (db 
 unbased db base none place is =
     let key : PlaceKey = record { project = base.project; branch = base.branch; place = place } in
     let it = told_from BaseRow (λ x e. cc) (row_at bases db key) (BaseRow base.commit) (λ e. cc) is in
-    let row = stored_row (reads bases) (rows_at (bases.at key) (db 6)) base.commit (it.2 ∙ ap (λ x. Some (Some x)) (base_from it.0 base.commit it.1)) in
+    let row = stored_row (reads bases) (rows_at (bases.at key) (db 6)) base.commit (it.2 ∙ ap (λ x. Some (Some x)) (let e : it.0 ≡ base.commit = cc it.1 in e)) in
     let found = has_in (has_key (bases.at key)) (db 6) row.0 row.1 in
     let at = at_text (column row.0 4) base.commit (passed is_commit _ base.commit row.2) in
     let one = and_parts _ _ found.1 in

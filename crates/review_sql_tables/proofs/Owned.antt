@@ -119,9 +119,6 @@ module _ {O K X : Type 0} (cmp : K → K → Ordering) (front : Search O (K × X
 -- ---- one more row that was read
 
 module _ {K X : Type 0} (cmp : K → K → Ordering) (exact : IsExact cmp) (read : Row → Option (K × X)) where
-  pub none_apart : (entries : List (K × X)) → entries ≡ [] → WereApart cmp read [] entries
-  none_apart entries none = rw none (record { items = []; read_as = refl; each = λ k. refl })
-
   one_more : (k j : K) (x : X) (was : Option X) (now : Option X) (items : List (K × X)) → map (λ e. e.1) (at_key cmp k items) ≡ option_to_list was → now ≡ cond (is_at (cmp j) k) (Some x) was → (j ≡ k → was ≡ None)
       → map (λ e. e.1) (at_key cmp k (items ++ (j, x) ∷ [])) ≡ option_to_list now
   one_more k j x was now items before after free = elim (cases_Bool (is_at (cmp j) k)) [
