@@ -254,7 +254,3 @@ upgrades version numbers old new h = record {
 
     ready : old.schema ≡ schema_at (version_of version) → IsReady mid
     ready has = subst IsReady (sym (looked has).0) (record { schema = migrated.schema has; sound = migrated.sound has; apart = λ t is. at_tree (λ n. AreApart (between.trees n)) desk_tables ((looked has).1.0 refl) t is })
-
--- of tables that are not ours nothing is said
-pub upgrades_others : (version : EarlierVersion) (numbers : Numbers) (old new : Database) → Upgrades version false numbers old new
-upgrades_others version numbers old new = record { ready = λ ours has. absurd (cc); keeps = λ ours has. absurd (cc); view = λ ours has first h was. absurd (cc) }

@@ -161,12 +161,6 @@ of_earlier : (version : EarlierVersion) (P : ℕ → Type 0) → AllByRecursion 
 of_earlier earlier.First P all = covered_but (is_new earlier.First) P tables_1 desk_tables all refl
 of_earlier earlier.Second P all = covered_but (is_new earlier.Second) P tables_2 desk_tables all refl
 
--- rowids that are apart stay so
-pub apart_after : (version : EarlierVersion) (old new : Database) → Migrates version old new → old.schema ≡ schema_at (version_of version) → AllByRecursion (λ t. AreApart (old.trees t.tree)) (schema_at (version_of version)).tables
-    → AllByRecursion (λ t. AreApart (new.trees t.tree)) desk_tables
-apart_after version old new it has all =
-    all_after (is_new version) AreApart old.trees new.trees desk_tables (λ t is. at_tree (λ n. AreApart (new.trees n)) (tables_since version) (it.apart has) t is) (it.others has) (of_earlier version (λ n. AreApart (old.trees n)) all)
-
 -- ---- empty tables
 
 none_moved : (rows : List Row) → IsPermutation [] (map columns_of rows) → rows ≡ []

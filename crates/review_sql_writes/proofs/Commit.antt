@@ -1,4 +1,5 @@
 -- What the statements of a commit do together.
+use Rattle.std.proofs.lemmas.{Cmp.nat_cmp_total, Map.Lookups.exact_unsigned}
 use Rattle.review_sql_tables.proofs.Changed.{rows_changed, rows_spare}
 use Rattle.review_sql_tables.proofs.Common.{ap, is_eq, ◌≡◌, ◌≢◌, ◌∙◌, ◌+◌, ◌≤◌, ℕ, List, [], ◌∷◌, Option, Some, None, option_map, cond, Ordering, true, false, Bool, is_some, not, pos, refl, sym, subst, arith, inl, inr, length, filter, eqb-true, eq-eqb, ◌&&◌, cases_Bool, and_parts, and_from, both_ways, tied_itself, nat_list_cmp_total, exact_bytes, is_at, slice_cmp, nat_cmp, nat_lt, unwrap_or, bytes_eq, Database, Trees, Raw, column, Int, Text, row_edit_of, after_row_edit, SparesOthers, has_key, is_number_below, is_natural, is_text, is_value, is_tree, IsExact, OnDesk, row_at, rows_at, only, reads, Search, Then}
 use Rattle.review_sql_tables.proofs.{Keys.int_is, Keys.text_is, Meaning.and_true}
@@ -7,7 +8,8 @@ use Rattle.review_machine_rows.specs.Rows.{is_below, Row, member_cmp, member_cha
 use Rattle.review_machine_rows.specs.declared.rows.MemberKey.{MemberKey as Member}
 use Rattle.review_sql_records.proofs.Common.{Identity, is_same, equal_is, same_text, Key, AccountKey, MemberKey, FileKey, BaseKey, PartKey, OddKey, AccountRow, MemberRow, FileRow, BaseRow, APart, OddRow, edited, Count, Projects, BasesOf, ClosedEpochs, Answered, count_put, kept_row, IsCommitted, Delta, Kept, PlaceKey, Put, StoredFile, projects, answers, is_of_lower, request_key}
 use Rattle.review_sql_records.specs.{Forms.accounts, Forms.members, Forms.bases, Forms.epochs, Laws.numbers_exact}
-use Rattle.{review_sql_change_records.specs.Laws.same_bytes, review_sql_lookups.proofs.Telling.own_bytes}
+use Rattle.review_sql_change_records.specs.Laws.{both_equal, then_equal, same_bytes}
+use Rattle.review_sql_lookups.proofs.Telling.{own_bytes}
 use Rattle.review_sql_lookups.specs.Tables.{told, row_in, count_in, answer_in, least_in, stored_as, number_of, tables_at, version_in}
 use Rattle.review_sql_writes.proofs.Edits.{edits_spare, is_part_tree, part_same, parts_edited}
 use Rattle.review_sql_writes.proofs.{Rest.keeps_rest, Unkeyed.commit_keeps, Unkeyed.unkeyed_same}
@@ -16,6 +18,16 @@ use Rattle.review_sql_writes.specs.declared.numbers.Numbers.{Numbers}
 use Rattle.review_sql_writes.specs.inner.Words.{GivesUp, SetsDelta, SetsKept, SetsDesk, SetsPut}
 
 -- ---- keys
+
+members_exact : IsExact member_cmp
+members_exact = record {
+  same = λ a b is.
+      let parts = both_equal (slice_cmp nat_cmp a.group b.group) (nat_cmp a.account b.account) is in
+      let group : a.group ≡ b.group = exact_bytes a.group b.group (equal_is _ parts.0) in
+      let account : a.account ≡ b.account = exact_unsigned a.account b.account (equal_is _ parts.1) in
+      (λ i. record { group = group i; account = account i });
+  itself = λ a. ap is_eq (then_equal (slice_cmp nat_cmp a.group a.group) (nat_cmp a.account a.account) (tied_itself nat_list_cmp_total a.group) (tied_itself nat_cmp_total a.account));
+}
 
 names_exact : IsExact (slice_cmp nat_cmp)
 names_exact = record { same = λ a b is. exact_bytes a b (equal_is _ is); itself = λ a. ap is_eq (tied_itself nat_list_cmp_total a) }
