@@ -4,9 +4,8 @@
 //! Where `serve_file` opens a file again, that is said of each opening by itself.
 ghost use Rattle.std.specs.Prelude.{◌≡◌, ◌⊎◌, Bool, true, false, Result, IfOk, IfErr};
 ghost use Rattle.{sqlite.specs.Files.over_files, sqlite_wal.specs.Files.image_at};
-ghost use Rattle.review_desk_work.specs.OnFile.{ClosedAs, IsTold, OpenedFrom, ThenClosed};
-ghost use Rattle.review_desk_work.specs.Turns.{ServedInTurns};
-ghost use Rattle.review_desk_work.specs.Worked.{Known, WasMade, WasMigrated, Worked};
+ghost use Rattle.review_desk_work.specs.Faults.{ClosedAs, IsTold, OpenedFrom, ThenClosed};
+ghost use Rattle.review_desk_work.specs.Worked.{ServedInTurns, Known, WasMade, WasMigrated, Worked};
 
 use crate::listening::{Listening, SharedStream};
 use crate::notices::StandardError;

@@ -1,7 +1,7 @@
 //! Serving on a desk that is opened again where a fault has shut its store.
 ghost use Rattle.std.specs.Prelude.{◌≡◌, true, false};
 ghost use Rattle.{sqlite.specs.Files.over_files, sqlite_wal.specs.Files.image_at};
-ghost use Rattle.review_desk_work.specs.{OnFile.ClosedAs, OnFile.OpenedFrom, Turns.ServedInTurns, Worked.known};
+ghost use Rattle.review_desk_work.specs.{Faults.ClosedAs, Faults.OpenedFrom, Worked.ServedInTurns, Worked.known};
 
 use crate::files::{FileConnection, Starts, close, open};
 use review_desk_work::{

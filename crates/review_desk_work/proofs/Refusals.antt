@@ -9,7 +9,7 @@ use Rattle.clap.specs.Simple.{App, Shape, argument_words, built, label_of, names
 use Rattle.clap.specs.Walk.{Held, Names, Row, Rule, Step, Text, Waiting, Walk, action_of, arg_by_id, arg_by_index, arg_by_long, arg_by_short, has_row, is_empty, is_pending, nothing_held, settled, answers_to, takes_several, next, trailing, subcommand, value, subcommand_met, walk_from, walked, walk, word_met, with_default}
 use Rattle.clap.specs.declared.builder.{action.ArgAction.ArgAction, value_parser.ValueParser.ValueParser}
 use Rattle.clap.specs.declared.error.kind.ErrorKind.{ErrorKind}
-use Rattle.review_desk_work.specs.{CommandLine.desk, WordsFaults.fault_of_kind, WordsFaults.refusal}
+use Rattle.review_desk_work.specs.{CommandLine.desk, Jobs.fault_of_kind, Jobs.refusal}
 use Rattle.clap.specs.declared.builder.action.ArgAction.TheVariants as action
 use Rattle.clap.specs.declared.error.kind.ErrorKind.TheVariants as kind
 
@@ -189,8 +189,7 @@ of_entered a alone stop = each stop (λ p. of_found a.subs alone p.1 (λ s. answ
 of_built : (a : App) → a.top.disable_help_subcommand ≡ true → list_all (λ s. s.disable_help_subcommand) a.subs ≡ true → (words : List Text)
     → Agree (built_fault a nothing_held words)
 of_built a alone subs words =
-    let stop = (walk a.top.rules (names_of a) nothing_held words).stopped in
-    of_level a.top alone (names_of a) nothing_held words _ _ (of_entered a subs stop)
+    of_level a.top alone (names_of a) nothing_held words _ _ (of_entered a subs ((walk a.top.rules (names_of a) nothing_held words).stopped))
 
 -- the kinds that an error of the program's command line may have give one fault
 pub desk_agrees : (words : List Text) → Agree (fault_of desk words)

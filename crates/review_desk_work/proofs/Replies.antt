@@ -2,7 +2,7 @@
 use Rattle.std.proofs.Common.{◌≡◌, List, [], length, take, sym, subst, arith, take_all}
 use Rattle.review_words.specs.declared.{command.Delivery.Delivery, reply.Reply.Reply}
 use Rattle.{review_machine_rows.specs.Shelf.Shown, review_machine_deliveries.proofs.Ran.ran_none}
-use Rattle.{review_machine_deliveries.specs.Delivered.WasRun, review_desk_work.specs.Shown.WereAsked}
+use Rattle.{review_machine_deliveries.specs.Delivered.WasRun, review_desk_work.specs.Told.WereAsked}
 
 -- all questions were asked
 pub all_asked : (ds : List Delivery) (rs : List Reply) (old new : Shown) → WasRun ds rs old new → WereAsked ds rs old new

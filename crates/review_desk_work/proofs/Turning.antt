@@ -8,8 +8,7 @@ use Rattle.review_http.specs.declared.connections.ConnectionsFault.TheVariants.{
 use Rattle.review_json_lines.specs.declared.fault.Outcome.{Outcome, TheVariants.Complete}
 use Rattle.review_sql.specs.{Shelf.shown, declared.faults.DeskFault.DeskFault}
 use Rattle.review_desk_work.specs.Faults.{desk_fault, serve_outcome, after_closing}
-use Rattle.review_desk_work.specs.Turns.{left_by, Turn, AreTurns, ServedInTurns, in_row}
-use Rattle.review_desk_work.specs.Worked.{Known, Does, EndsServed, IsDoneOn, IsRefusedDesk, OnShelf, Worked, HasDone}
+use Rattle.review_desk_work.specs.Worked.{left_by, Turn, AreTurns, ServedInTurns, in_row, Known, Does, EndsServed, IsDoneOn, IsRefusedDesk, OnShelf, Worked, HasDone}
 use Rattle.review_desk_work.specs.declared.fault.ProgramFault.{ProgramFault}
 use Rattle.review_desk_work.specs.declared.fault.ProgramFault.TheVariants.{Memory, ServedInPart, Store}
 use Rattle.review_desk_work.specs.declared.task.Task.{Task}

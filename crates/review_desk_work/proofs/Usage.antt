@@ -2,9 +2,8 @@ use Rattle.std.proofs.Common.{◌≡◌, ◌∙◌, List, [], true, inl, inr, re
 use Rattle.clap.proofs.OnLiterals.{clap_on_literals}
 use Rattle.clap.specs.Words.{App, HasKind, HasMatchesOf, Kinds, Text, fault_of, is_simple, is_simple_and_free, kind_of, subcommand_of, subcommand_rows_of}
 use Rattle.clap.specs.declared.{error.Error.Error, parser.matches.ArgMatches.ArgMatches}
-use Rattle.review_desk_work.proofs.Refusals.{Agree, desk_agrees}
-use Rattle.review_desk_work.specs.{CommandLine.desk, Jobs.Spelled, Jobs.job_found, Jobs.job_taken}
-use Rattle.review_desk_work.specs.WordsFaults.{fault_of_kind, refusal, unless}
+use Rattle.review_desk_work.{proofs.Refusals.Agree, proofs.Refusals.desk_agrees, specs.CommandLine.desk}
+use Rattle.review_desk_work.specs.Jobs.{Spelled, job_found, job_taken, fault_of_kind, refusal, unless}
 use Rattle.review_desk_work.specs.declared.words_fault.WordsFault.{WordsFault}
 use Rattle.review_desk_work.specs.declared.words_fault.WordsFault.TheVariants as fault
 

@@ -1,10 +1,5 @@
 pub mod CommandLine
-pub mod WordsFaults
 pub mod Jobs
 pub mod Told
-pub mod Shown
-pub mod Pages
 pub mod Faults
 pub mod Worked
-pub mod Turns
-pub mod OnFile

@@ -1,7 +1,6 @@
 //! Questions, and what their replies tell.
 ghost use Rattle.std.specs.Prelude.{◌≡◌, Ok, Err, IfOk, IfErr, length, string_bytes};
-ghost use Rattle.review_desk_work.specs.Shown.{IsPage, WereAsked};
-ghost use Rattle.review_desk_work.specs.Told.{about, attention_told, change_page, change_told, joined_page, joined_told, page_of_three, requirements_told, answer_of};
+ghost use Rattle.review_desk_work.specs.Told.{IsPage, WereAsked, about, attention_told, change_page, change_told, joined_page, joined_told, page_of_three, requirements_told, answer_of};
 
 use crate::pages::{change_text, joined_text};
 use crate::show_fault::ShowFault;

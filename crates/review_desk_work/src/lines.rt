@@ -1,7 +1,7 @@
 //! Lines of a page, added to its text. Each call fails for want of memory alone.
 ghost use Rattle.std.specs.Prelude.{◌≡◌, ◌++◌, ◌∷◌, [], codes, IfOk, OnOk, string_bytes};
 ghost use Rattle.{review_names.specs.Numerals.numeral, review_words.specs.Texts.signed};
-ghost use Rattle.review_desk_work.specs.Pages.{attention_line, joined_line, line, patch_line, plus, requirement_line, role_line, state_line, vote_line, vote_value, yes_or_no};
+ghost use Rattle.review_desk_work.specs.Told.{attention_line, joined_line, line, patch_line, plus, requirement_line, role_line, state_line, vote_line, vote_value, yes_or_no};
 
 use review_words::{
     AccountNo, JoinedChange, ShownAttentionEntry, ShownChange, ShownRequirement, ShownVote, State,

@@ -1,6 +1,6 @@
 //! The pages of a change and of a branch. Each call fails for want of memory alone.
 ghost use Rattle.std.specs.Prelude.{◌≡◌, ◌++◌, IfOk, OnOk, flat_map, string_bytes};
-ghost use Rattle.review_desk_work.specs.Pages.{about_lines, attention_line, change_text, joined_text, requirement_line, reviewing_lines, role_line, state_line, subject_line, branch_line, vote_line, patch_line, wip_line};
+ghost use Rattle.review_desk_work.specs.Told.{about_lines, attention_line, change_text, joined_text, requirement_line, reviewing_lines, role_line, state_line, subject_line, branch_line, vote_line, patch_line, wip_line};
 
 use crate::lines::{
     push_attention, push_joined, push_pair, push_patch, push_requirement, push_role, push_state,

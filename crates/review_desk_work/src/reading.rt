@@ -1,8 +1,7 @@
 //! Words read as a job.
 ghost use Rattle.std.specs.Prelude.{◌≡◌, map, ok_or, option_map, string_bytes};
 ghost use Rattle.clap.specs.Words.{first_of, found_of, rows_of, subcommand_rows_of};
-ghost use Rattle.review_desk_work.specs.Jobs.{Gives, branch_in, change_in, change_of, count_in, count_of, job_found, job_from, job_on, job_spelled, job_taken, joined_in, port_in, port_of, project_in, serve_in, show_in, spelled};
-ghost use Rattle.review_desk_work.specs.WordsFaults.{asks_help, command_fault, is_command};
+ghost use Rattle.review_desk_work.specs.Jobs.{Gives, branch_in, change_in, change_of, count_in, count_of, job_found, job_from, job_on, job_spelled, job_taken, joined_in, port_in, port_of, project_in, serve_in, show_in, spelled, asks_help, command_fault, is_command};
 ghost use Rattle.review_desk_work.specs.declared.words_fault.WordsFault.TheVariants as fault;
 
 use crate::command::desk_command;

@@ -1,6 +1,6 @@
 //! Serving in turns: what is left, and how often a desk is opened again.
 ghost use Rattle.std.specs.Prelude.{◌≡◌, ◌<◌, ◌≤◌, ◌+◌, ◌==◌, if◌then◌else◌};
-ghost use Rattle.review_desk_work.specs.Turns.{left_by};
+ghost use Rattle.review_desk_work.specs.Worked.{left_by};
 
 use crate::fault::ProgramFault;
 use review_json_lines::Outcome;

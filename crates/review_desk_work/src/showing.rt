@@ -1,8 +1,7 @@
 //! Pages asked for and written.
 ghost use Rattle.std.specs.Io.KnownBytes.{Appends};
 ghost use Rattle.std.specs.Prelude.{◌≡◌, ◌∷◌, ℕ, List, [], IfOk};
-ghost use Rattle.review_desk_work.specs.Shown.{IsWritten, Showed};
-ghost use Rattle.review_desk_work.specs.Told.{branch_questions, change_page, change_questions, joined_page};
+ghost use Rattle.review_desk_work.specs.Told.{IsWritten, Showed, branch_questions, change_page, change_questions, joined_page};
 
 use crate::asking::{about, change_page, joined_page, replies_to};
 use crate::output::write_page;

@@ -1,6 +1,6 @@
 //! Why words give no job.
 ghost use Rattle.std.specs.Prelude.{◌≡◌, option_map};
-ghost use Rattle.review_desk_work.specs.WordsFaults.{fault_text};
+ghost use Rattle.review_desk_work.specs.Jobs.{fault_text};
 
 use clap::error::ErrorKind;
 use std::alloc::AllocError;
@@ -64,7 +64,7 @@ impl WordsFault {
 
 impl From<ErrorKind> for WordsFault {
     ghost use Rattle.std.specs.Prelude.{◌≡◌};
-    ghost use Rattle.review_desk_work.specs.WordsFaults.{fault_of_kind};
+    ghost use Rattle.review_desk_work.specs.Jobs.{fault_of_kind};
 
     ghost from_gives = { λ kind e. e ≡ fault_of_kind kind };
 

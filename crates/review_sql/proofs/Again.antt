@@ -1,16 +1,9 @@
 -- A shelf over a connection that one which was closed has left.
-use Rattle.std.proofs.Common.{◌≡◌, ◌≢◌, ◌⊎◌, inl, inr, ◌∙◌, Bool, IsTrue, refl, sym, subst, arith}
-use Rattle.std.proofs.lemmas.Option.{same_Some}
-use Rattle.sqlite.specs.{Effect.Database, Held.Held, Held.state, State.State}
-use Rattle.sqlite_trees.specs.declared.store.Store.{Ghosts}
-use Rattle.review_sql_tables.specs.{Ran.IsReady, Versions.schema_at, declared.versions.TablesVersion.TablesVersion}
-use Rattle.review_sql_tables.specs.declared.versions.TablesVersion.TheVariants.{First, Second, Third}
-use Rattle.review_sql_writes.specs.{Numbers.IsDesk, declared.numbers.Numbers.Numbers}
+use Rattle.review_sql_tables.proofs.Common.{◌≡◌, ◌≢◌, ◌⊎◌, inl, inr, ◌∙◌, Bool, IsTrue, refl, sym, subst, arith, same_Some, Database, Held, state, State, Ghosts, IsReady, schema_at, TablesVersion, First, Second, Third}
+use Rattle.review_sql_writes.specs.{Commits.IsDesk, declared.numbers.Numbers.Numbers}
 use Rattle.review_sql.proofs.Saying.{desk_says, never_earlier, never_no_desk, never_other_version, never_there_earlier}
 use Rattle.review_sql.{proofs.Shown.stays, specs.Migrated.IsNotMigrated, specs.Migrated.IsUnfit}
-use Rattle.review_sql.specs.Opened.{AreAllApart, AreApartIn, IsOpened, IsRefused}
-use Rattle.review_sql.specs.Reopened.{ReopensLast, IsRefusedAgain, IsReopened}
-use Rattle.review_sql.specs.Said.{IsNone, IsThere}
+use Rattle.review_sql.specs.Opened.{AreAllApart, AreApartIn, IsOpened, IsRefused, ReopensLast, IsRefusedAgain, IsReopened, IsNone, IsThere}
 use Rattle.review_sql.specs.{Shelf.Holds, Shelf.ShelfView, Shelf.Stays, declared.faults.DeskFault.DeskFault}
 use Rattle.review_sql.specs.declared.faults.DeskFault.TheVariants.{NotADesk, WrongVersion, Store, NotEmpty, NotOurs, Memory}
 

@@ -1,13 +1,9 @@
 -- Look-ups one after the other.
-use Rattle.std.proofs.Common.{Some, ap, ◌≡◌, ◌∙◌, inl, inr, ℕ, ◌+◌, ◌<◌, Bool, true, false, List, take, get_or, length, Result, Ok, Err, refl, sym, subst, OnOk}
-use Rattle.std.{proofs.lemmas.Option.same_Some, specs.declared.alloc.AllocError.AllocError}
-use Rattle.sqlite.specs.{Held.Held, Held.state, State.State, declared.error.Error.Error}
-use Rattle.sqlite_trees.specs.{Tree.Trees, declared.store.Store.Ghosts}
-use Rattle.review_sql_tables.{proofs.Found.look_on, proofs.Found.look_both, specs.Ran.Looks}
+use Rattle.review_sql_tables.proofs.Common.{Some, ap, ◌≡◌, ◌∙◌, inl, inr, ℕ, ◌+◌, ◌<◌, Bool, true, false, List, take, get_or, length, Result, Ok, Err, refl, sym, subst, OnOk, same_Some, AllocError, Held, state, State, Error, Trees, Ghosts, Looks}
 use Rattle.review_machine_rows.proofs.Looked.{asked_more, looked_agrees}
-use Rattle.review_machine_rows.specs.Known.{group_of, AreAsked, Agrees, known, Found, IsFound, Learns}
-use Rattle.review_machine_rows.specs.declared.rows.{Rows.Rows, Want.Want}
-use Rattle.review_sql_lookups.specs.{Counts.AreBounded, Tables.tables_at, declared.counts.Counts.Counts}
+use Rattle.review_machine_rows.specs.Known.{group_of, Found, IsFound, Learns}
+use Rattle.review_sql_records.proofs.Common.{look_on, look_both, AreAsked, Agrees, Rows, Want}
+use Rattle.review_sql_lookups.specs.{Loads.AreBounded, Tables.tables_at, declared.counts.Counts.Counts}
 use Rattle.review_sql.specs.Loading.{HasLearnt, LearnsBounded, LearnsSeen, LooksIf, LooksOnce, WereSeen, learnt_by}
 use Rattle.review_sql.specs.declared.loading.Ended.{Ended}
 use Rattle.review_machine_rows.specs.declared.rows.Want.TheVariants as want
@@ -74,13 +70,17 @@ module _ (w : Want) (old new : Rows) (before mid more : Counts) (db : Trees) (ha
   seen_unlearnt ended.NoMemory other sees bounded = (tt, (sees (have bounded).1).1)
   seen_unlearnt ended.Damaged other sees bounded = sees (have bounded).1
 
+-- a look-up that didn't learn is the last
+pub ended_unlearnt : {S : Type 0} (g : Ghosts S) (w : Want) (old new : Rows) (before mid more : Counts) (a b c : Held S) (was now : Bool) (end e : Ended) → end ≡ e → (e ≡ ended.Learnt → ⊥)
+    → LooksIf g was (Have old before mid) a b (Ok tt) → LooksOnce g was now (LearnsBounded w old new mid more) b c (Ok end) → LooksIf g now (WereSeen new before more) a c (Ok e)
+ended_unlearnt g w old new before mid more a b c was now end e met other have once =
+    one_more g (Have old before mid) (LearnsBounded w old new mid more) (WereSeen new before more) a b c was now e e (λ db it sees. seen_unlearnt w old new before mid more db it e other sees) have
+    (subst (λ s. LooksOnce g was now (LearnsBounded w old new mid more) b c (Ok s)) met once)
+
 -- where no statement was made before, the row of the desk was asked for
 module _ {S X D : Type 0} (g : Ghosts S) (F : Trees → X → Type 0) (G : Trees → D → Type 0) (a b c : Held S) where
   pub seen_open : (x : X) (d : D) → LooksIf g false F a b (Ok x) → Looks G (state g b) (state g c) (Ok d) → Looks F (state g a) (state g c) (Ok x)
   seen_open x d have desk = look_on G F (state g a) (state g c) d (Ok x) (subst (λ (h : Held S). Looks G (state g h) (state g c) (Ok d)) have.0 desk) (λ db h. have.1 db)
-
-  pub seen_shut : (x : X) (e f : Error) → LooksIf g false F a b (Ok x) → Looks G (state g b) (state g c) (Err e) → Looks F (state g a) (state g c) (Err f)
-  seen_shut x e f have desk = failed G F (state g a) (state g c) e f (subst (λ (h : Held S). Looks G (state g h) (state g c) (Err e)) have.0 desk)
 
 -- all were made
 pub all_seen : {S : Type 0} (g : Ghosts S) (is : Bool) (rows : Rows) (before more : Counts) (a b : Held S) → LooksIf g is (Have rows before more) a b (Ok tt) → LooksIf g is (WereSeen rows before more) a b (Ok ended.Learnt)

@@ -1,8 +1,6 @@
 -- What look-ups found, by how the last one ended.
-use Rattle.std.proofs.Common.{◌≡◌, List, Ok, refl, sym, subst}
-use Rattle.std.specs.Prelude.{Result, IfOk}
-use Rattle.{sqlite.specs.State.State, sqlite.specs.declared.error.Error.Error, review_sql_tables.specs.Ran.Serves}
-use Rattle.review_machine_rows.specs.{Known.AreAsked, declared.rows.Rows.Rows, declared.rows.Want.Want}
+use Rattle.review_sql_tables.proofs.Common.{◌≡◌, List, Ok, refl, sym, subst, Result, IfOk, State, Error, Serves}
+use Rattle.review_sql_records.proofs.Common.{AreAsked, Rows, Want}
 use Rattle.review_sql_lookups.specs.{Loads.WereAsked, declared.counts.Counts.Counts, declared.sights.Loaded.Loaded}
 use Rattle.review_sql.specs.Loading.{AreLoadedBounded, WereSeen, loaded_by}
 use Rattle.review_sql.specs.declared.loading.Ended.{Ended}

@@ -1,21 +1,17 @@
 -- What a stop left of a desk of ours is opened as one.
-use Rattle.std.proofs.Common.{◌≡◌, ◌≢◌, ◌⊎◌, inl, inr, List, IsTrue, refl, sym, subst, arith}
-use Rattle.sqlite.specs.{Effect.Database, Effect.IsDatabase, State.State, State.IsLive}
-use Rattle.{sqlite_trees.specs.declared.store.Store.Ghosts, review_words.specs.History.Entry}
-use Rattle.review_sql_tables.proofs.OneSchema.{one_schema}
-use Rattle.review_sql_tables.specs.{Desk.desk_schema, Desk.schema_0, Made.IsBlank, Ran.IsReady}
-use Rattle.review_machine_rows.{proofs.Readings.reading_of, specs.Answer.IsHistory, specs.View.IsView}
+use Rattle.sqlite.specs.State.{IsLive}
+use Rattle.review_sql_tables.proofs.Common.{◌≡◌, ◌≢◌, ◌⊎◌, inl, inr, List, IsTrue, refl, sym, subst, arith, Database, IsDatabase, State, Ghosts, desk_schema, schema_0, IsBlank, IsReady}
+use Rattle.review_sql_records.proofs.Common.{Entry, one_schema, reading_of, IsHistory, IsView}
 use Rattle.review_sql_lookups.specs.Tables.{tables_at}
 use Rattle.review_sql.proofs.{Again.cause_left, Again.unfit_left, Shown.ready_ours}
-use Rattle.review_sql.specs.{Left.MakesOurs, Left.StopLeavesDesk, Migrated.IsUnfit, Opened.IsRefused}
-use Rattle.review_sql.specs.Shelf.{AreLeftOfOurs, AreOurs, no_tables}
+use Rattle.review_sql.specs.{Migrated.IsUnfit, Opened.IsRefused}
+use Rattle.review_sql.specs.Shelf.{MakesOurs, StopLeavesDesk, AreLeftOfOurs, AreOurs, no_tables}
 use Rattle.review_sql.specs.declared.faults.DeskFault.{DeskFault, TheVariants.Store, TheVariants.Memory}
 
 -- a database of trees of a desk of ours is a desk
 ready_again : (db : Database) → IsDatabase db → AreOurs db.trees → IsReady db
 ready_again db sound ours =
-    let same = one_schema db.trees db.schema desk_schema refl sound ours.ready.sound in
-    subst IsReady (λ i. record { schema = sym same i; trees = db.trees }) ours.ready
+    subst IsReady (λ i. record { schema = sym (one_schema db.trees db.schema desk_schema refl sound ours.ready.sound) i; trees = db.trees }) ours.ready
 
 -- one of the two, where it can't be neither
 either : (fault : DeskFault) → (((fault ≢ Memory) × (fault ≢ Store)) → ⊥) → (fault ≡ Memory) ⊎ (fault ≡ Store)

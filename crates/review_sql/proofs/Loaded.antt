@@ -1,12 +1,8 @@
 -- What is answered of what look-ups found.
-use Rattle.std.proofs.Common.{◌≡◌, Bool, List, Option, Ok, IfOk, IsTrue, subst, sym}
-use Rattle.sqlite.specs.{Effect.Database, Held.Held, Held.state, State.HasCleanDisk}
-use Rattle.{sqlite_trees.specs.declared.store.Store.Ghosts, review_sql_tables.specs.Ran.Serves}
-use Rattle.review_machine_rows.specs.{Known.Agrees, Known.AreAsked, Rows.Tables}
-use Rattle.review_machine_rows.specs.Shelf.{BlamesTables, IsDamaged, KeepsTables, Shows}
-use Rattle.review_machine_rows.specs.declared.rows.Want.{Want}
-use Rattle.review_sql_lookups.specs.{Counts.AreBounded, Loads.AreLoaded, Loads.WereAsked, Tables.tables_at}
-use Rattle.review_sql_lookups.specs.declared.{counts.Counts.Counts, sights.Loaded.Loaded}
+use Rattle.review_sql_tables.proofs.Common.{◌≡◌, Bool, List, Option, Ok, IfOk, IsTrue, subst, sym, Database, Held, state, HasCleanDisk, Ghosts, Serves}
+use Rattle.review_sql_records.proofs.Common.{Agrees, AreAsked, Tables, BlamesTables, IsDamaged, KeepsTables, Shows, Want}
+use Rattle.review_sql_lookups.specs.Loads.{AreBounded, AreLoaded, WereAsked}
+use Rattle.review_sql_lookups.specs.{Tables.tables_at, declared.counts.Counts.Counts, declared.sights.Loaded.Loaded}
 use Rattle.review_sql_writes.specs.declared.numbers.Numbers.{Numbers}
 use Rattle.review_sql.proofs.Shown.{desk_if_open, same_shown, shown_now}
 use Rattle.review_sql.specs.{Loading.AreLoadedBounded, Shelf.Holds, Shelf.KnowsCounts, Shelf.answer_of, Shelf.tables_of}

@@ -1,14 +1,10 @@
 -- A shelf that was made.
-use Rattle.std.proofs.Common.{◌≡◌, ◌∙◌, ◌⊎◌, inl, inr, Bool, Some, true, false, Ok, Err, IsTrue, refl, sym, ap, subst, arith}
-use Rattle.sqlite.{proofs.StateLemmas.survives_then, specs.Effect.Database}
-use Rattle.sqlite.specs.{Held.Held, Held.state, State.State, State.HasCleanDisk, declared.error.Error.Error}
-use Rattle.sqlite_trees.specs.{Tree.Trees, declared.store.Store.Ghosts}
-use Rattle.review_sql_tables.specs.{Desk.schema_0, Made.IsBlank, Ran.Transacts, Ran.IsReady}
+use Rattle.review_sql_tables.proofs.Common.{◌≡◌, ◌∙◌, ◌⊎◌, inl, inr, Bool, Some, true, false, Ok, Err, IsTrue, refl, sym, ap, subst, arith, survives_then, Database, Held, state, State, HasCleanDisk, Error, Trees, Ghosts, schema_0, IsBlank, Transacts, IsReady}
 use Rattle.review_sql_lookups.specs.Tables.{tables_at}
-use Rattle.review_sql_writes.specs.{First.MakesDesk, Numbers.IsDesk}
+use Rattle.review_sql_writes.specs.Commits.{MakesDesk, IsDesk}
 use Rattle.review_sql.proofs.{Saying.never_shown, Shown.of_ours, Shown.ready_ours}
-use Rattle.review_sql.specs.{Created.IsCreated, Opened.IsOpened, Opened.IsRefused, Opened.IsSeen}
-use Rattle.review_sql.specs.Shelf.{AreOurs, Holds, IsAnyThere, IsUnmade, Stays}
+use Rattle.review_sql.specs.Opened.{IsOpened, IsRefused, IsSeen}
+use Rattle.review_sql.specs.Shelf.{IsCreated, AreOurs, Holds, IsAnyThere, IsUnmade, Stays}
 use Rattle.review_sql.specs.declared.faults.DeskFault.{DeskFault}
 use Rattle.review_sql.specs.declared.faults.DeskFault.TheVariants.{NotADesk, WrongVersion, Store, NotEmpty, NotOurs, Memory}
 use Rattle.review_sql.specs.declared.seen.Seen.{Seen}
@@ -38,8 +34,7 @@ module _ {S : Type 0} (g : Ghosts S) (c0 c1 c2 : Held S) (is_ours : Bool) (decid
         let d = acts.done clean in
         let same : (state g c2).now.trees ≡ left.0 = ap (λ (d : Database). d.trees) (settled d.1) ∙ sym (law left.0 d.1 left.1) in
         let made : IsTrue is_ours → AreOurs (state g c2).now.trees = λ ours. let b = blank (decided ours) in ready_ours (state g c2).now _ (d.2.ready b) (d.2.desk b) in
-        let tables = of_ours is_ours left.0 t left.2 (λ ours. subst AreOurs same (made ours)) in
-        rw d.1 (ap (λ (t : Trees). Some (tables_at t)) same ∙ ap Some (sym tables));
+        rw d.1 (ap (λ (t : Trees). Some (tables_at t)) same ∙ ap Some (sym (of_ours is_ours left.0 t left.2 (λ ours. subst AreOurs same (made ours)))));
     survives = survives_then (state g c0) (state g c1) (state g c2) _ _ _ (λ _ db h. absurd h)
         (λ clean db h. let was = stays.kept h.0 in (was.0, (h.1.0, h.1.1, subst (λ (d : Database). MakesDesk d h.1.0) was.1 h.1.2))) stays.survives acts.survives;
   }
@@ -57,8 +52,7 @@ module _ {S : Type 0} (g : Ghosts S) (c0 c1 : Held S) (seen : Seen) where
   holds_opened is_ours seen_ours mode stays it = record {
     autocommit = mode;
     ready = λ ours is_open.
-        let same = (stays.kept is_open).1 in
-        subst (λ (d : Database). IsReady d × IsDesk seen.numbers d.trees) (sym same) ((it is_open).ready (seen_ours ours));
+        subst (λ (d : Database). IsReady d × IsDesk seen.numbers d.trees) (sym ((stays.kept is_open).1)) ((it is_open).ready (seen_ours ours));
   }
 
   pub is_opened : Stays (state g c0) (state g c1) → IsOpened g c0 (record { conn = c1; numbers = seen.numbers; faults = 0 })

@@ -1,21 +1,19 @@
 -- In a history of version 1 no project has a parent.
-use Rattle.std.proofs.Common.{◌≡◌, ◌&&◌, ℕ, List, [], ◌∷◌, codes, Option, Some, None, option_map, is_some, Bool, cond, true, false, not, refl, ap}
-use Rattle.std.specs.{List.AllByRecursion, Option.option_map_or}
-use Rattle.std.specs.{Prelude.MatchOption, Prelude.length, Prelude.nat_lt, Prelude.option_and_then, Str.bytes_eq}
+use Rattle.std.specs.{Option.option_map_or, Prelude.MatchOption, Prelude.option_and_then}
 use Rattle.toml.specs.Data.{Data, Members, as_str, table, get}
 use Rattle.{toml.specs.Parse.parse_document, review_file_document.specs.Limits.most_bytes}
-use Rattle.review_words.specs.History.{Entry, asking_of, file_text, if_done, text_put}
+use Rattle.review_words.specs.History.{asking_of, file_text, if_done, text_put}
 use Rattle.review_words.specs.declared.command.Command.{Command}
 use Rattle.review_words.specs.declared.command.Command.TheVariants.{CreateAccount, PutGroup, PutProject, RecordBase, CreateChange, OnChange, Submit, CloseEpoch}
 use Rattle.review_words.specs.declared.faults.FileFault.TheVariants.{UnknownKey}
 use Rattle.review_words.specs.declared.reply.{Answer.Answer, Refusal.Refusal, Refusal.TheVariants.BadFile, Reply.Reply}
 use Rattle.review_words.specs.declared.reply.Reply.TheVariants.{Done, Refused, IdentityReused, EpochClosed, NotTaken}
+use Rattle.review_sql_tables.proofs.Common.{◌≡◌, ◌&&◌, ℕ, List, [], ◌∷◌, codes, Option, Some, None, option_map, is_some, Bool, cond, true, false, not, refl, ap, AllByRecursion, length, nat_lt, bytes_eq}
 use Rattle.review_file_rules.specs.Reading.{has_parent_key, named_parent}
 use Rattle.review_file_rules.specs.Spelled.{parent_in, project_name}
-use Rattle.review_machine_rows.proofs.Readings.{reading_of}
-use Rattle.review_machine_rows.specs.Answer.{IsAnswerIn, IsAnswerWithoutParents, IsHistory, refused_by}
-use Rattle.review_machine_rows.specs.Changes.{own_of, placed}
-use Rattle.review_sql_records.specs.Forms.{file_without_parent}
+use Rattle.review_machine_rows.specs.Answer.{IsAnswerIn, IsAnswerWithoutParents, refused_by}
+use Rattle.review_machine_rows.specs.Changes.{placed}
+use Rattle.review_sql_records.proofs.Common.{Entry, reading_of, IsHistory, own_of, file_without_parent}
 
 -- a document without the key names no parent
 unnamed : (d : Data) → is_some (get (codes "parent") d) ≡ false → parent_in d ≡ None

@@ -1,15 +1,9 @@
 -- A look at tables that is taken back.
-use Rattle.std.proofs.Common.{◌≡◌, ◌∙◌, ◌⊎◌, inl, inr, ℕ, List, Some, None, Bool, Ok, Err, Result, IfOk, IfErr, IsTrue, refl, sym, subst, arith, Option, IfSome}
-use Rattle.{std.specs.Bool.Decides, sqlite.proofs.StateLemmas.survives_then}
-use Rattle.sqlite.specs.Effect.{Database, IsDatabase}
-use Rattle.sqlite.specs.State.{State, HasCleanDisk, Survives, IsRolledBack}
-use Rattle.{sqlite.specs.declared.error.Error.Error, sqlite_trees.specs.Tree.Trees, sqlite_value.specs.Order.Row}
-use Rattle.review_sql_tables.proofs.{ByTree.at_tree, Sequences.begun, Sequences.taken_back, Sequences.survives_from}
-use Rattle.review_sql_tables.specs.{Content.AreApart, Desk.desk_schema, Ran.Looks, Versions.version_number}
-use Rattle.review_sql_tables.specs.declared.versions.TablesVersion.{TablesVersion, TheVariants.Third}
+use Rattle.review_sql_tables.proofs.Common.{◌≡◌, ◌∙◌, ◌⊎◌, inl, inr, ℕ, List, Some, None, Bool, Ok, Err, Result, IfOk, IfErr, IsTrue, refl, sym, subst, arith, Option, IfSome, Decides, survives_then, Database, IsDatabase, State, HasCleanDisk, Survives, IsRolledBack, Error, Trees, Row, AreApart, desk_schema, Looks, version_number, TablesVersion, Third}
+use Rattle.review_sql_tables.proofs.Sequences.{taken_back, survives_from}
+use Rattle.review_sql_records.proofs.Common.{at_tree, begun}
 use Rattle.{review_sql_writes.specs.declared.numbers.Numbers.Numbers, review_sql.proofs.Saying.desk_of_ours}
-use Rattle.review_sql.specs.Opened.{AreAllApart, Peeks, IsLacking, IsSeen, IsRefused}
-use Rattle.review_sql.specs.Said.{IsSaid, IsDeskThere, IsNone, IsThere, LacksLeast, SaysLeast, least_shown, ShowsEpochs}
+use Rattle.review_sql.specs.Opened.{AreAllApart, Peeks, IsLacking, IsSeen, IsRefused, IsSaid, IsDeskThere, IsNone, IsThere, LacksLeast, SaysLeast, least_shown, ShowsEpochs}
 use Rattle.review_sql.specs.Shelf.{AreAllRead}
 use Rattle.review_sql.specs.declared.{faults.DeskFault.DeskFault, faults.DeskFault.TheVariants.NotADesk, seen.Said.Said}
 
@@ -58,10 +52,6 @@ pub none_said : (s : State) (said : Said) (version : TablesVersion) → IsSaid s
 none_said s said version it none = inr (it.rows, it.shown, inl (sym it.version_is ∙ none))
 
 module _ (s : State) (said : Said) (version : TablesVersion) (it : IsSaid s.now said) (is : said.version ≡ Some (version_number version)) where
-  -- nothing is said of requests
-  pub no_requests : said.requests ≡ None → IsNone version s.now
-  no_requests none = inr (it.rows, it.shown, inr (sym it.version_is ∙ is, inl (sym it.requests_are ∙ none)))
-
   -- a table is missing, or no least open epoch is said
   pub part_missing : (AreAllRead version s.now.schema → ⊥) ⊎ LacksLeast version s.now → IsNone version s.now
   part_missing missing = inr (it.rows, it.shown, inr (sym it.version_is ∙ is, inr missing))

@@ -1,26 +1,14 @@
 -- Tables of an earlier version that are made those of a desk, in one transaction.
-use Rattle.std.proofs.Common.{◌≡◌, ◌≢◌, ◌∙◌, ◌⊎◌, inl, inr, Bool, true, false, Some, Ok, Err, Result, List, OnOk, OnErr, IfOk, IfErr, IsTrue, refl, sym, ap, subst, arith}
-use Rattle.std.specs.{Bool.Decides, Result.is_ok}
-use Rattle.sqlite.proofs.StateLemmas.{survives_then, survives_weaker}
-use Rattle.sqlite.specs.{Effect.Database, Held.Held, Held.state, Listing.listing_schema, Listing.understood}
-use Rattle.sqlite.specs.{State.State, State.HasCleanDisk, State.Survives, declared.error.Error.Error}
-use Rattle.{sqlite_tied.specs.Compute.everything, sqlite_trees.specs.Tree.Trees}
-use Rattle.{sqlite_trees.specs.declared.store.Store.Ghosts, review_words.specs.History.Entry}
-use Rattle.review_sql_tables.proofs.{Migrated.apart_after, Sequences.Next, Sequences.follow, Sequences.settled_as}
-use Rattle.review_sql_tables.specs.{Desk.desk_schema, Migrated.Migrates}
-use Rattle.review_sql_tables.specs.Ran.{Inside, Looks, OnDesk, Transacts, Within}
-use Rattle.review_sql_tables.specs.{Versions.schema_at, Versions.version_of, declared.texts.TheConstants.FIND_ANSWER}
-use Rattle.review_sql_tables.specs.declared.versions.{EarlierVersion.EarlierVersion, TablesVersion.TheVariants.Third}
-use Rattle.{review_sql_tables.specs.inner.Words.Then, review_machine_rows.specs.View.IsView}
-use Rattle.review_sql_lookups.specs.{EarlierTables.tables_in, Tables.tables_at}
-use Rattle.review_sql_writes.specs.{declared.numbers.Numbers.Numbers, inner.Changes.SetsDesk, inner.Changes.SetsLeast}
+use Rattle.review_sql_tables.proofs.Common.{◌≡◌, ◌≢◌, ◌∙◌, ◌⊎◌, inl, inr, Bool, true, false, Some, Ok, Err, Result, List, OnOk, OnErr, IfOk, IfErr, IsTrue, refl, sym, ap, subst, arith, Decides, is_ok, survives_then, survives_weaker, Database, Held, state, listing_schema, understood, State, HasCleanDisk, Survives, Error, everything, Trees, Ghosts, desk_schema, Migrates, Inside, Looks, OnDesk, Transacts, Within, schema_at, version_of, FIND_ANSWER, EarlierVersion, Third, Then}
+use Rattle.review_sql_tables.proofs.Sequences.{settled_as}
+use Rattle.review_sql_records.proofs.Common.{Entry, Next, follow, IsView}
+use Rattle.review_sql_lookups.specs.Tables.{tables_in, tables_at}
+use Rattle.review_sql_writes.specs.{declared.numbers.Numbers.Numbers, inner.Words.SetsDesk, inner.Words.SetsLeast}
 use Rattle.review_sql.proofs.{Again.goes_on, Made.holds_opened, Made.is_opened}
 use Rattle.review_sql.proofs.Saying.{earlier_of_ours, first_least, not_ok}
-use Rattle.review_sql.proofs.{Shown.of_ours, Shown.ready_ours, Staying.stays_then}
-use Rattle.review_sql.proofs.Upgraded.{Looked, upgrades, upgrades_others}
+use Rattle.review_sql.proofs.{Shown.of_ours, Shown.ready_ours, Staying.stays_then, Upgraded.Looked, Upgraded.upgrades}
 use Rattle.review_sql.specs.Migrated.{IsBrought, IsNotMigrated, IsOpenedAsIs, IsRaised, IsUnfit, IsUpgraded, IsViewIn, LeavesUpgraded, Upgrades, if_whole}
-use Rattle.review_sql.specs.{Opened.AreAllApart, Opened.AreApartIn, Said.IsThere}
-use Rattle.review_sql.specs.Shelf.{AreOurs, Holds, Stays}
+use Rattle.review_sql.specs.{Opened.AreAllApart, Opened.IsThere, Shelf.AreOurs, Shelf.Holds, Shelf.Stays}
 use Rattle.review_sql.specs.declared.faults.DeskFault.{DeskFault, TheVariants.NotADesk, TheVariants.WrongVersion}
 use Rattle.review_sql_tables.specs.declared.versions.EarlierVersion.TheVariants as earlier
 
@@ -42,21 +30,6 @@ module _ {X : Type 0} (version : EarlierVersion) (numbers : Numbers) (s0 s1 s2 s
     raised_ours z apart puts =
         let two = subst (λ b. Within {X = Bool} (Next (Migrates version) (λ old new. old.schema ≡ desk_schema → (new ≡ old) × Decides b (AreAllApart old.trees))) s0 s2 (Ok is)) apart both in
         settled_as (Next (Next (Migrates version) Looked) (OnDesk (Puts numbers))) (Upgrades version true numbers) s0 s3 z (tt {0}) (upgrades version numbers) (follow _ _ s0 s2 s3 is (Ok z) two puts)
-
-    -- they are not
-    pub undone_ours : Within (Upgrades version true numbers) s0 s2 (if_whole (Ok false))
-    undone_ours = record { ran = λ _ _. tt; kept = λ clean on. ((both.kept clean on).0, tt); survives = both.survives }
-
-    pub hindered_ours : is ≡ false → HasCleanDisk s2 → IsTrue s0.in_transaction → s0.now.schema ≡ schema_at (version_of version) → AreApartIn (version_of version) s0.now.trees → ⊥
-    hindered_ours others clean on has apart =
-        let it = both.ran clean on in
-        let found = it.2 (it.1.schema has) in
-        let all = found.1.1 (apart_after version s0.now it.0 it.1 has apart) in
-        let e : false ≡ true = sym others ∙ all in cc
-
-  -- of tables of others nothing is said
-  pub raised_others : {Z : Type 0} (z : Z) → Inside (Puts numbers) s1 s3 (Ok z) → Within (Upgrades version false numbers) s0 s3 (if_whole (Ok true))
-  raised_others z puts = settled_as _ (Upgrades version false numbers) s0 s3 z (tt {0}) (λ old new h. upgrades_others version numbers old new) (follow _ _ s0 s1 s3 x (Ok z) migrates puts)
 
 -- nothing was done before
 pub stays_acts : {X : Type 0} (R : Database → Database → Type 0) (s0 s1 s2 : State) (r : Result X Error) → Stays s0 s1 → Transacts R s1 s2 r → Transacts R s0 s2 r

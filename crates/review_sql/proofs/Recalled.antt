@@ -1,16 +1,11 @@
 -- What is told of an identity.
-use Rattle.std.proofs.Common.{◌≡◌, ◌∙◌, Option, Some, None, Result, Ok, Err, IfOk, IfErr, IsTrue, sym, ap, subst}
-use Rattle.{std.specs.Prelude.nat_lt, sqlite.specs.Held.Held, sqlite.specs.Held.state}
-use Rattle.{sqlite_trees.specs.declared.store.Store.Ghosts, review_words.specs.History.Identity}
-use Rattle.review_machine_rows.specs.Rows.{AnswerRow, Answered, Tables, kept_row}
-use Rattle.review_machine_rows.specs.Shelf.{Answers, BlamesTables, IsDamaged, IsRecalled, KeepsTables, LeavesBy, Shows, Blames, cause_of}
-use Rattle.review_machine_rows.specs.declared.rows.{Kept.Kept, Recalled.Recalled}
-use Rattle.review_machine_rows.specs.declared.shelf.ShelfFault.{ShelfFault, TheVariants.Damaged}
-use Rattle.review_sql_records.specs.Forms.{request_key}
+use Rattle.review_sql_tables.proofs.Common.{◌≡◌, ◌∙◌, Option, Some, None, Result, Ok, Err, IfOk, IfErr, IsTrue, sym, ap, subst, nat_lt, Held, state, Ghosts}
+use Rattle.review_machine_rows.specs.{Shelf.Answers, declared.rows.Recalled.Recalled}
+use Rattle.review_sql_records.proofs.Common.{Identity, AnswerRow, Answered, Tables, kept_row, BlamesTables, IsDamaged, IsRecalled, KeepsTables, LeavesBy, Shows, Blames, cause_of, Kept, ShelfFault, Damaged, request_key}
 use Rattle.review_sql_lookups.specs.Tables.{least_in, stored_as, tables_at}
-use Rattle.review_sql_writes.specs.{Numbers.IsDesk, declared.numbers.Numbers.Numbers}
+use Rattle.review_sql_writes.specs.{Commits.IsDesk, declared.numbers.Numbers.Numbers}
 use Rattle.review_sql.proofs.Shown.{odd_is_damage, shown_now}
-use Rattle.review_sql.specs.{LookedUp.IsLookedUp, LookedUp.IsLookedUpIn, Shelf.tables_of}
+use Rattle.review_sql.specs.Shelf.{IsLookedUp, IsLookedUpIn, tables_of}
 use Rattle.review_sql.specs.declared.serving.LookedUp.{LookedUp, TheVariants.Closed, TheVariants.Open}
 
 -- a stored request with its identity is what is told of it

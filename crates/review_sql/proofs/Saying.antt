@@ -1,27 +1,13 @@
 -- What the tables `desk` and `epochs` say where the tables are of our form, and where there is none.
-use Rattle.std.proofs.Common.{◌≡◌, ◌≢◌, ◌∙◌, inl, inr, ℕ, List, [], ◌∷◌, map, filter, Option, Some, None, Ok, Err, true, false, codes, refl, sym, ap, subst, arith}
-use Rattle.std.proofs.lemmas.{List.Elements.All-from_recursion, List.Sorted.length_permutation, Option.same_Some}
-use Rattle.std.specs.{List.AllByRecursion, List.Sorted.IsPermutation, Result.is_ok}
-use Rattle.sqlite.proofs.Callers.{command_of, one_permutation}
-use Rattle.sqlite.specs.{Effect.Database, Effect.Reads, Listing.understood, Listing.listing_schema}
-use Rattle.sqlite_keyed.proofs.ListLemmas.{filter_same}
-use Rattle.sqlite_resolve.specs.{Lowering.Checked, declared.compiled.Compiled.Compiled}
-use Rattle.sqlite_schema.specs.declared.{command.Command.TheVariants.Select, schema.Schema.Schema}
-use Rattle.{sqlite_sql.specs.Term.Term, sqlite_sql.specs.Term.col, sqlite_tied.specs.Compute.everything}
-use Rattle.sqlite_value.specs.{Order.Row, Order.column, declared.value.Value.TheVariants.Null}
-use Rattle.review_words.specs.Epochs.{is_epoch}
+use Rattle.{sqlite_schema.specs.declared.command.Command.TheVariants.Select, review_words.specs.Epochs.is_epoch}
+use Rattle.review_sql_tables.proofs.Common.{◌≡◌, ◌≢◌, ◌∙◌, inl, inr, ℕ, List, [], ◌∷◌, map, filter, Option, Some, None, Ok, Err, true, false, codes, refl, sym, ap, subst, arith, All-from_recursion, length_permutation, same_Some, AllByRecursion, IsPermutation, is_ok, command_of, one_permutation, Database, Reads, understood, listing_schema, filter_same, Checked, Compiled, Schema, Term, col, everything, Row, column, Null, has_key, desk_schema, schema_0, only, reads, row_at, over_table, schema_at, version_number, version_of, FIND_DESK, FIND_EPOCHS, EarlierVersion, TablesVersion, First, Second, Third}
 use Rattle.review_sql_tables.proofs.{Meaning.plain, Queries.passes, Queries.selects, Queries.shows}
-use Rattle.review_sql_tables.specs.{Content.has_key, Desk.desk_schema, Desk.schema_0}
-use Rattle.review_sql_tables.specs.{Search.only, Search.reads, Search.row_at, Texts.over_table}
-use Rattle.review_sql_tables.specs.Versions.{schema_at, version_number, version_of}
-use Rattle.review_sql_tables.specs.declared.texts.TheConstants.{FIND_DESK, FIND_EPOCHS, READ_ROWS}
-use Rattle.review_sql_tables.specs.declared.versions.{EarlierVersion.EarlierVersion, TablesVersion.TablesVersion}
-use Rattle.review_sql_tables.specs.declared.versions.TablesVersion.TheVariants.{First, Second, Third}
-use Rattle.review_sql_records.specs.Forms.{desk, desk_row, epochs, first_epoch, where_is}
-use Rattle.review_sql_records.specs.declared.rows.DeskRow.{DeskRow}
-use Rattle.review_sql_lookups.specs.EarlierTables.{IsEarlierDesk}
-use Rattle.review_sql_writes.specs.{Numbers.IsDesk, declared.numbers.Numbers.Numbers}
-use Rattle.review_sql.specs.Said.{number_of_one, version_shown, requests_shown, ShowsDesk, ShowsEpochs, ShowsRows, IsDeskThere, IsThere, IsNoDesk, IsNone, IsOtherVersion, LacksDesk, least_shown, SaysLeast}
+use Rattle.review_sql_tables.specs.declared.texts.TheConstants.{READ_ROWS}
+use Rattle.review_sql_records.proofs.Common.{first_epoch, where_is, DeskRow}
+use Rattle.review_sql_records.specs.Forms.{desk, desk_row, epochs}
+use Rattle.review_sql_lookups.specs.Tables.{IsEarlierDesk}
+use Rattle.review_sql_writes.specs.{Commits.IsDesk, declared.numbers.Numbers.Numbers}
+use Rattle.review_sql.specs.Opened.{number_of_one, version_shown, requests_shown, ShowsDesk, ShowsEpochs, ShowsRows, IsDeskThere, IsThere, IsNoDesk, IsNone, IsOtherVersion, LacksDesk, least_shown, SaysLeast}
 use Rattle.review_sql.specs.Shelf.{AreAllRead, IsUnderstood}
 use Rattle.review_sql_tables.specs.declared.versions.EarlierVersion.TheVariants as earlier
 
@@ -198,8 +184,7 @@ never_there_earlier version other db has numbers is n there = other (same_Some _
 
 pub never_other_version : (db : Database) → db.schema ≡ desk_schema → (numbers : Numbers) → IsDesk numbers db.trees → IsOtherVersion db → ⊥
 never_other_version db has numbers is other =
-    let it = desk_says Third db has other.0 other.1 numbers is in
-    other.2.2.0 (same_Some _ _ (sym other.2.1 ∙ it.0))
+    other.2.2.0 (same_Some _ _ (sym other.2.1 ∙ (desk_says Third db has other.0 other.1 numbers is).0))
 
 -- where there is no table nothing is shown of one
 pub never_shown : (db : Database) → db.schema ≡ schema_0 → (rows : List Row) → ShowsDesk db rows → ⊥

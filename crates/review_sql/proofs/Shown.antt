@@ -1,19 +1,13 @@
 -- What a connection shows as a shelf.
-use Rattle.std.proofs.Common.{◌≡◌, ◌≢◌, ◌∙◌, ◌⊎◌, inl, inr, List, [], ◌∷◌, Bool, Option, Some, None, true, false, Ok, Err, Result, OnOk, IsTrue, refl, sym, ap, subst, arith, cond}
-use Rattle.std.proofs.lemmas.Bool.{cases_Bool}
-use Rattle.sqlite.specs.{Effect.Database, Held.Held, Held.state, State.HasCleanDisk, declared.error.Error.Error}
-use Rattle.sqlite_trees.specs.{Tree.Trees, declared.store.Store.Ghosts}
-use Rattle.review_words.specs.History.{Entry, Identity, is_same, is_closed}
-use Rattle.review_sql_tables.specs.Ran.{IsReady, IsDeskIfOpen, Serves, Transacts}
-use Rattle.review_machine_rows.proofs.Readings.{reading_of}
-use Rattle.review_machine_rows.specs.Rows.{AnswerRow, Tables, OddAnswer, kept_row}
-use Rattle.review_machine_rows.specs.Shelf.{Blames, LeavesBy, StaysOrShuts, Shows, IsCommitted, IsDamaged, cause_of}
-use Rattle.review_machine_rows.specs.View.{stored_answer, kept_answer}
-use Rattle.review_machine_rows.specs.declared.{rows.Delta.Delta, rows.Kept.Kept as Request, shelf.ShelfFault.ShelfFault}
-use Rattle.review_machine_rows.specs.declared.shelf.ShelfFault.TheVariants.{Memory, Store, Damaged}
-use Rattle.review_sql_lookups.specs.{Counts.AreBounded, Tables.tables_at, declared.counts.Counts.Counts}
-use Rattle.review_sql_writes.specs.Commits.{AreSingle, Commits}
-use Rattle.review_sql_writes.specs.{Numbers.IsDesk, Numbers.with_request, declared.numbers.Numbers.Numbers}
+use Rattle.review_words.specs.History.{is_closed}
+use Rattle.review_sql_tables.proofs.Common.{◌≡◌, ◌≢◌, ◌∙◌, ◌⊎◌, inl, inr, List, [], ◌∷◌, Bool, Option, Some, None, true, false, Ok, Err, Result, OnOk, IsTrue, refl, sym, ap, subst, arith, cond, cases_Bool, Database, Held, state, HasCleanDisk, Error, Trees, Ghosts, IsReady, IsDeskIfOpen, Serves, Transacts}
+use Rattle.review_machine_rows.specs.{Rows.OddAnswer, Shelf.StaysOrShuts, View.stored_answer}
+use Rattle.review_machine_rows.specs.declared.rows.Kept.{Kept as Request}
+use Rattle.review_machine_rows.specs.declared.shelf.ShelfFault.TheVariants.{Memory, Store}
+use Rattle.review_sql_records.proofs.Common.{Entry, Identity, is_same, reading_of, AnswerRow, Tables, kept_row, Blames, LeavesBy, Shows, IsCommitted, IsDamaged, cause_of, kept_answer, Delta, ShelfFault, Damaged}
+use Rattle.review_sql_lookups.specs.{Loads.AreBounded, Tables.tables_at, declared.counts.Counts.Counts}
+use Rattle.review_sql_writes.specs.Commits.{AreSingle, Commits, IsDesk, with_request}
+use Rattle.review_sql_writes.specs.declared.numbers.Numbers.{Numbers}
 use Rattle.review_sql.specs.Shelf.{AreOurs, Holds, KnowsCounts, ShowsLeft, Stays, tables_of, stops_of}
 
 -- a stored request that is odd is one of no history
@@ -138,10 +132,9 @@ module _ {S : Type 0} (g : Ghosts S) (old new : Held S) where
           → ((db : Trees) → IsTrue (state g new).is_open → (state g new).may_leave db → db ≡ (state g new).committed.trees) → (t : Tables) → stops_of g is_ours new t → tables_of g new ≡ Some t
       alone is clean settled law t left =
           let d = done_as is clean in
-          let is_open = d.1 in
           let same : (state g new).now.trees ≡ left.0 = ap (λ (d : Database). d.trees) (settled d.1) ∙ sym (law left.0 d.1 left.1) in
           let tables = of_ours is_ours left.0 t left.2 (λ yes. subst AreOurs same (ours_after yes d.0 (state g new).now d.2)) in
-          rw is_open (ap (λ (t : Trees). Some (tables_at t)) same ∙ ap Some (sym tables))
+          rw d.1 (ap (λ (t : Trees). Some (tables_at t)) same ∙ ap Some (sym tables))
 
       pub holds_undone : {e : Error} → r ≡ Err e → new.in_transaction ≡ false → Holds g new is_ours numbers
       holds_undone {e} is mode = record {

@@ -1,19 +1,9 @@
 -- The tables whose rows are counted have one row at each key, since their keys are UNIQUE.
-use Rattle.std.proofs.Common.{◌≡◌, ◌≤◌, ◌&&◌, true, sym, ℤ, ℕ, pos, List, [], ◌∷◌, length, refl, subst, inl, inr}
-use Rattle.std.proofs.lemmas.Bool.{and_parts, and_from}
-use Rattle.{std.specs.Ordering.is_eq, sqlite.specs.Effect.Database, sqlite_catalog.proofs.AlterLemmas.keys_are_unique}
-use Rattle.{sqlite_catalog.specs.Listing.IsSound, sqlite_schema.specs.Rules.agree, sqlite_schema.specs.Rules.differ}
-use Rattle.sqlite_trees.specs.Tree.{Trees, rowid}
-use Rattle.sqlite_value.specs.{Keys.plain, Keys.first_key, Order.column, Order.value_cmp}
-use Rattle.sqlite_value.specs.declared.value.Value.{Value, TheVariants.Int, TheVariants.Text}
-use Rattle.review_sql_tables.proofs.Keys.{int_is, itself}
-use Rattle.review_sql_tables.proofs.Single.{equal_values, differ_ids, one_passes}
-use Rattle.review_sql_tables.specs.Content.{has_key, is_value, AreApart}
-use Rattle.review_sql_tables.specs.Desk.{desk_schema, projects_2 as project_table, bases as base_table}
-use Rattle.review_sql_tables.specs.{Ran.IsReady, Search.rows_at}
-use Rattle.review_machine_rows.specs.declared.rows.PlaceKey.{PlaceKey}
-use Rattle.review_sql_records.specs.Forms.{projects, bases}
-use Rattle.review_sql_writes.specs.Commits.{AreSingle}
+use Rattle.review_sql_tables.proofs.Common.{◌≡◌, ◌≤◌, ◌&&◌, true, sym, ℤ, ℕ, pos, List, [], ◌∷◌, length, refl, subst, inl, inr, and_parts, and_from, is_eq, Database, keys_are_unique, IsSound, agree, differ, Trees, rowid, plain, first_key, column, value_cmp, Value, Int, Text, has_key, is_value, AreApart, desk_schema, IsReady, rows_at}
+use Rattle.review_sql_tables.proofs.{Keys.int_is, Single.equal_values, Single.differ_ids, Single.one_passes}
+use Rattle.review_sql_tables.specs.Desk.{projects_2 as project_table, bases as base_table}
+use Rattle.review_sql_records.proofs.Common.{itself, PlaceKey, projects}
+use Rattle.{review_sql_records.specs.Forms.bases, review_sql_writes.specs.Commits.AreSingle}
 
 -- a value that is a whole number equals it
 equal_whole : (v : Value) (n : ℤ) → is_value v (Int n) ≡ true → is_eq (value_cmp v (Int n)) ≡ true

@@ -1,12 +1,10 @@
 -- Calls that write nothing.
-use Rattle.std.proofs.Common.{◌≡◌, ◌∙◌, inl, inr, List, ℕ, [], IsTrue, Ok, Err, Result, IfOk, IfErr, refl, sym, arith}
-use Rattle.sqlite.proofs.StateLemmas.{survives_then}
-use Rattle.sqlite.specs.State.{State, HasCleanDisk, Survives, IsUnchanged, IsRolledBack, IsNoStatement, IsNotRun, store_error}
-use Rattle.sqlite.specs.declared.error.Error.{Error, TheVariants.SqliteFailure, TheVariants.SqlInputError}
+use Rattle.sqlite.specs.State.{IsNoStatement}
+use Rattle.sqlite.specs.declared.error.Error.TheVariants.{SqliteFailure, SqlInputError}
 use Rattle.sqlite_resolve.specs.declared.error.CompileError.{CompileError}
-use Rattle.sqlite_trees.specs.declared.error.StoreError.{StoreError}
-use Rattle.sqlite_trees.specs.declared.error.StoreError.TheVariants.{OutOfMemory, Io, Corrupt, Full, Broken, Unstorable}
-use Rattle.{sqlite_value.specs.Order.Row, review_sql.specs.Shelf.IsUnderstood, review_sql.specs.Shelf.Stays}
+use Rattle.sqlite_trees.specs.declared.error.StoreError.TheVariants.{Io, Corrupt, Full, Broken, Unstorable}
+use Rattle.review_sql_tables.proofs.Common.{◌≡◌, ◌∙◌, inl, inr, List, ℕ, [], IsTrue, Ok, Err, Result, IfOk, IfErr, refl, sym, arith, survives_then, State, HasCleanDisk, Survives, IsUnchanged, IsRolledBack, IsNotRun, store_error, Error, StoreError, OutOfMemory, Row}
+use Rattle.review_sql.specs.Shelf.{IsUnderstood, Stays}
 use Rattle.sqlite.specs.declared.error.ErrorCode.TheVariants as code
 
 module _ (old new : State) (settled : IsTrue old.is_open → old.now ≡ old.committed) where

@@ -1,31 +1,14 @@
 -- Tables of an earlier version that became those of a desk show the same history.
-use Rattle.std.proofs.Common.{◌≡◌, ◌≢◌, ◌∙◌, ◌||◌, ℕ, List, [], ◌∷◌, Option, Some, None, option_map, Bool, cond, true, false, not, length, refl, sym, ap, subst, arith, inl, inr, eqb-true, ◌==◌}
-use Rattle.std.proofs.lemmas.Bool.{both_ways, or_parts, cases_Bool, eqb-false}
-use Rattle.std.specs.{Bool.Decides, List.AllByRecursion, List.list_any}
-use Rattle.{sqlite.specs.Effect.Database, sqlite_trees.specs.Tree.Trees}
-use Rattle.sqlite_value.specs.{Order.Row as Raw, declared.value.Value.TheVariants.Text}
-use Rattle.review_words.specs.History.{Entry, Identity}
-use Rattle.review_sql_tables.proofs.{ByTree.at_tree, Sequences.Next}
-use Rattle.review_sql_tables.specs.{Content.AreApart, Desk.desk_schema, Desk.desk_tables, Desk.is_tree}
-use Rattle.review_sql_tables.specs.Migrated.{AllMoved, Migrates}
-use Rattle.review_sql_tables.specs.Moved.{AreMoved, with_first_epoch, without_parent}
-use Rattle.review_sql_tables.specs.{Ran.IsReady, Ran.OnDesk, Search.only, Search.reads, Search.row_at, Search.rows_at}
-use Rattle.review_sql_tables.specs.Versions.{is_new, schema_at, version_of}
-use Rattle.review_sql_tables.specs.{declared.versions.EarlierVersion.EarlierVersion, inner.Words.Then}
-use Rattle.review_core_rules.specs.Parts.{Part}
-use Rattle.review_machine_rows.specs.Changes.{Reading, own_of}
-use Rattle.review_machine_rows.specs.Rows.{Key, AccountKey, MemberKey, FileKey, BaseKey, PartKey, OddKey, Row, AccountRow, MemberRow, FileRow, BaseRow, OddRow, Count, Projects, BasesOf, ClosedEpochs}
-use Rattle.review_machine_rows.specs.View.{IsViewBy, fact, counted, tables_version, kept_answer}
-use Rattle.review_machine_rows.specs.declared.rows.StoredFile.{StoredFile}
+use Rattle.review_sql_tables.proofs.Common.{◌≡◌, ◌≢◌, ◌∙◌, ◌||◌, ℕ, List, [], ◌∷◌, Option, Some, None, option_map, Bool, cond, true, false, not, length, refl, sym, ap, subst, arith, inl, inr, eqb-true, ◌==◌, both_ways, or_parts, cases_Bool, eqb-false, Decides, AllByRecursion, list_any, Database, Trees, Raw, Text, AreApart, desk_schema, desk_tables, is_tree, Migrates, AreMoved, with_first_epoch, without_parent, IsReady, OnDesk, only, reads, row_at, rows_at, is_new, schema_at, version_of, EarlierVersion, Then}
+use Rattle.{review_sql_tables.specs.Versions.AllMoved, review_core_rules.specs.Parts.Part}
+use Rattle.review_machine_rows.specs.{Rows.Row, View.tables_version}
+use Rattle.review_sql_records.proofs.Common.{Entry, Identity, at_tree, Next, Reading, own_of, Key, AccountKey, MemberKey, FileKey, BaseKey, PartKey, OddKey, AccountRow, MemberRow, FileRow, BaseRow, OddRow, Count, Projects, BasesOf, ClosedEpochs, IsViewBy, fact, counted, kept_answer, StoredFile, projects, answers, earlier_answers, request_key, earlier_key, first_epoch, answer_keyed, earlier_answer_keyed, project_keyed, Rest}
 use Rattle.review_sql_records.proofs.ReadAlike.{answer_moved, answers_keyed, file_moved, projects_counted, projects_keyed, answers_of_others}
-use Rattle.review_sql_records.specs.Forms.{accounts, members, projects, bases, answers, earlier_answers, epochs, request_key, earlier_key, first_epoch}
-use Rattle.review_sql_records.specs.Keyed.{answer_keyed, earlier_answer_keyed, project_keyed}
-use Rattle.review_sql_records.specs.declared.rows.Answered.{Answered as Rest}
+use Rattle.review_sql_records.specs.Forms.{accounts, members, bases, epochs}
 use Rattle.review_sql_change_records.specs.Forms.{headers, patches, votes, roles, comments, attention_entries}
-use Rattle.review_sql_lookups.specs.EarlierTables.{IsEarlierDesk, keyed_tables_in, projects_in, tables_in}
-use Rattle.review_sql_lookups.specs.Tables.{answer_in, count_in, has_unkeyed, keyed_tables, number_of, row_in, stored_as, tables_at, told, least_in, version_in}
-use Rattle.review_sql_writes.{proofs.Edits.part_same, specs.Numbers.IsDesk, specs.declared.numbers.Numbers.Numbers}
-use Rattle.review_sql_writes.specs.inner.Changes.{SetsDesk, SetsLeast}
+use Rattle.review_sql_lookups.specs.Tables.{IsEarlierDesk, keyed_tables_in, projects_in, tables_in, answer_in, count_in, has_unkeyed, keyed_tables, number_of, row_in, stored_as, tables_at, told, least_in, version_in}
+use Rattle.review_sql_writes.{proofs.Edits.part_same, specs.Commits.IsDesk, specs.declared.numbers.Numbers.Numbers}
+use Rattle.review_sql_writes.specs.inner.Words.{SetsDesk, SetsLeast}
 use Rattle.review_sql.proofs.Shown.{not_kept_odd}
 use Rattle.review_sql.specs.{Migrated.KeepsRows, Migrated.Upgrades, Opened.AreAllApart}
 use Rattle.review_sql_tables.specs.declared.versions.EarlierVersion.TheVariants as earlier
@@ -271,7 +254,3 @@ upgrades version numbers old new h = record {
 
     ready : old.schema ≡ schema_at (version_of version) → IsReady mid
     ready has = subst IsReady (sym (looked has).0) (record { schema = migrated.schema has; sound = migrated.sound has; apart = λ t is. at_tree (λ n. AreApart (between.trees n)) desk_tables ((looked has).1.0 refl) t is })
-
--- of tables that are not ours nothing is said
-pub upgrades_others : (version : EarlierVersion) (numbers : Numbers) (old new : Database) → Upgrades version false numbers old new
-upgrades_others version numbers old new = record { ready = λ ours has. absurd (cc); keeps = λ ours has. absurd (cc); view = λ ours has first h was. absurd (cc) }

@@ -1,9 +1,4 @@
 pub mod Shelf
-pub mod Created
-pub mod Left
-pub mod LookedUp
-pub mod Said
 pub mod Opened
-pub mod Reopened
 pub mod Migrated
 pub mod Loading

@@ -5,9 +5,8 @@ use Rattle.{sqlite.specs.declared.error.Error.Error, sqlite_trees.specs.Tree.Tre
 use Rattle.{sqlite_trees.specs.declared.store.Store.Ghosts, review_sql_tables.specs.Ran.Looks}
 use Rattle.review_machine_rows.specs.Known.{Agrees, Found, Learns, LearnsFound}
 use Rattle.review_machine_rows.specs.{Shelf.IsDamaged, declared.rows.Rows.Rows, declared.rows.Want.Want}
-use Rattle.review_sql_lookups.specs.{Counts.AreBounded, Loads.AreLoaded, Tables.tables_at}
-use Rattle.review_sql_lookups.specs.declared.{counts.Counts.Counts, sights.Loaded.Loaded}
-use Rattle.review_sql.specs.declared.loading.Ended.{Ended}
+use Rattle.review_sql_lookups.specs.{Loads.AreBounded, Loads.AreLoaded, Tables.tables_at, declared.counts.Counts.Counts}
+use Rattle.{review_sql_lookups.specs.declared.sights.Loaded.Loaded, review_sql.specs.declared.loading.Ended.Ended}
 use Rattle.review_sql_lookups.specs.declared.sights.Loaded.TheVariants as loaded
 use Rattle.review_sql.specs.declared.loading.Ended.TheVariants as ended
 

@@ -5,16 +5,15 @@ use Rattle.sqlite.specs.{Effect.Database, Held.Held, Held.state, State.State, St
 use Rattle.sqlite.specs.declared.error.Error.{Error, TheVariants.InvalidQuery}
 use Rattle.sqlite_trees.specs.{Tree.Trees, declared.store.Store.Ghosts}
 use Rattle.review_words.specs.History.{Entry}
-use Rattle.review_sql_tables.specs.{Migrated.AllMoved, Ran.IsReady, Ran.Transacts}
-use Rattle.review_sql_tables.specs.Versions.{is_new, schema_at, version_number, version_of}
+use Rattle.review_sql_tables.specs.Ran.{IsReady, Transacts}
+use Rattle.review_sql_tables.specs.Versions.{AllMoved, is_new, schema_at, version_number, version_of}
 use Rattle.review_sql_tables.specs.declared.versions.{EarlierVersion.EarlierVersion, TablesVersion.TablesVersion}
 use Rattle.review_sql_tables.specs.declared.versions.TablesVersion.TheVariants.{First, Second, Third}
 use Rattle.review_machine_rows.specs.{Rows.Tables, Shelf.StopLeavesOwnTables, View.IsView, View.tables_version}
 use Rattle.review_sql_records.specs.Forms.{first_epoch}
-use Rattle.review_sql_lookups.specs.{EarlierTables.tables_in, EarlierTables.IsEarlierDesk, Tables.tables_at}
-use Rattle.review_sql_writes.specs.{Numbers.IsDesk, declared.numbers.Numbers.Numbers}
-use Rattle.review_sql.specs.Opened.{AreApartIn, IsOpened, IsSeen}
-use Rattle.review_sql.specs.{Reopened.ReopensLast, Said.IsNone, Said.IsThere, Said.SaysOther}
+use Rattle.review_sql_lookups.specs.Tables.{tables_in, IsEarlierDesk, tables_at}
+use Rattle.review_sql_writes.specs.{Commits.IsDesk, declared.numbers.Numbers.Numbers}
+use Rattle.review_sql.specs.Opened.{AreApartIn, IsOpened, IsSeen, ReopensLast, IsNone, IsThere, SaysOther}
 use Rattle.review_sql.specs.{Shelf.ShelfView, Shelf.Stays, Shelf.shown, declared.faults.DeskFault.DeskFault}
 use Rattle.review_sql.specs.declared.faults.DeskFault.TheVariants.{NotADesk, WrongVersion, NotEmpty, NotOurs}
 use Rattle.review_sql_tables.specs.Desk as table

@@ -1,20 +1,26 @@
 -- What proofs see of a shelf in SQLite.
 use Rattle.std.proofs.Math.Nat.{min-le_right}
 use Rattle.std.specs.{Coded.Coded, Coded.code_by, Coded.coded×, Coded.coded_ℕ, List.Contains}
-use Rattle.std.specs.Prelude.{ℕ, ◌≡◌, ◌≤◌, ◌⊎◌, map, false, Bool, List, Option, Some, None, Result, Ok, Err, IsTrue, if◌then◌else◌, refl, min}
+use Rattle.std.specs.Prelude.{ℕ, ◌≡◌, ◌≤◌, ◌⊎◌, map, false, Bool, List, Option, Some, None, Result, Ok, Err, IsTrue, if◌then◌else◌, refl, min, [], true, nat_lt}
 use Rattle.sqlite.specs.{Effect.Database, Held.Held, Held.held_code, Held.state, Listing.understood}
 use Rattle.sqlite.specs.State.{State, HasCleanDisk, Survives}
-use Rattle.{sqlite_resolve.specs.declared.compiled.Compiled.Compiled, sqlite_schema.specs.declared.schema.Schema.Schema}
+use Rattle.{sqlite_catalog.specs.Listing.IsSound, sqlite_resolve.specs.declared.compiled.Compiled.Compiled}
+use Rattle.sqlite_schema.specs.declared.schema.Schema.{Schema}
 use Rattle.sqlite_trees.specs.{Tree.Trees, declared.store.Store.Ghosts}
-use Rattle.review_sql_tables.specs.{Desk.desk_schema, Ran.IsReady}
+use Rattle.review_words.specs.History.{Entry, Identity}
+use Rattle.review_sql_tables.specs.{Desk.desk_schema, Desk.schema_0, Ran.IsReady, Search.row_at}
 use Rattle.review_sql_tables.specs.declared.texts.TheConstants.{ANY_ROW, READ_ROWS, READ_ROWS_1, READ_ROWS_2}
 use Rattle.review_sql_tables.specs.declared.versions.TablesVersion.{TablesVersion}
 use Rattle.review_sql_tables.specs.declared.versions.TablesVersion.TheVariants.{First, Second, Third}
-use Rattle.review_machine_rows.specs.{Count.greatest_count, Rows.Tables, Shelf.Shown, declared.rows.Rows.Rows}
+use Rattle.review_machine_rows.specs.{Answer.IsHistory, Count.greatest_count, Rows.Tables}
+use Rattle.review_machine_rows.specs.Shelf.{Shown, StopLeavesOwnTables, Answers, IsClosedIn}
+use Rattle.review_machine_rows.specs.{View.IsView, declared.rows.Rows.Rows}
 use Rattle.review_machine_rows.specs.declared.shelf.ShelfFault.{ShelfFault, TheVariants.Memory, TheVariants.Damaged}
-use Rattle.review_sql_lookups.specs.{Counts.AreBounded, Tables.tables_at}
+use Rattle.review_sql_records.specs.{Forms.answers, declared.rows.RequestKey.RequestKey}
+use Rattle.review_sql_lookups.specs.{Loads.AreBounded, Tables.tables_at, Tables.stored_as}
 use Rattle.review_sql_lookups.specs.declared.{counts.Counts.Counts, sights.Loaded.Loaded}
-use Rattle.review_sql_writes.specs.{First.MakesDesk, Numbers.IsDesk, declared.numbers.Numbers.Numbers}
+use Rattle.review_sql_writes.specs.{Commits.MakesDesk, Commits.IsDesk, declared.numbers.Numbers.Numbers}
+use Rattle.review_sql.specs.declared.serving.LookedUp.{LookedUp, TheVariants.Closed, TheVariants.Open}
 use Rattle.review_sql_lookups.specs.declared.sights.Loaded.TheVariants as loaded
 
 -- the connection, what the desk says of itself, and how many calls were refused
@@ -108,3 +114,44 @@ abbrev pub answer_of : Loaded → Result Rows ShelfFault
 answer_of (loaded.Rows rows) = Ok rows
 answer_of loaded.NoMemory = Err Memory
 answer_of loaded.Damaged = Err Damaged
+
+-- ---- what `create` gives
+
+-- No table of one of the names that tables of a desk have in any version was there. In a store with no table, the tables are those of the empty history; a stop within it leaves what one could leave before, or these, and one after it these alone.
+pub record IsCreated {S : Type 0} (g : Ghosts S) (is_ours : Bool) (conn : Held S) (shelf : ShelfView S) : Type 0 where
+  pub faults : shelf.faults ≡ 0
+  pub view : HasCleanDisk (state g shelf.conn) → conn.schema ≡ schema_0 → IsTrue (state g shelf.conn).is_open × IsView [] (tables_at (state g shelf.conn).now.trees)
+  pub empty : HasCleanDisk (state g shelf.conn) → IsAnyThere conn.schema → ⊥
+  pub alone : HasCleanDisk (state g shelf.conn) → StopLeavesOwnTables (shown g is_ours shelf)
+  pub survives : Survives (state g conn) (state g shelf.conn) (λ db. IsTrue (state g conn).is_open × ((after : Database) × (db ≡ after.trees) × MakesDesk (state g conn).now after))
+
+-- ---- what a stop leaves of a desk of ours
+
+-- all tables that a stop may leave are those of histories
+abbrev pub StopsAreHistories : Shown → Type 0
+StopsAreHistories s = (t : Tables) → s.stops t → (h : List Entry) × IsHistory h × IsView h t
+
+-- Where all tables that a stop may leave of a shelf of ours are those of histories, all trees that it may leave are those of a desk of ours, with tables of a history that are among them.
+abbrev pub StopLeavesDesk : {S : Type 0} → Ghosts S → Type 0
+StopLeavesDesk {S} g = (shelf : ShelfView S) → StopsAreHistories (shown g true shelf) → (db : Trees) → (state g shelf.conn).may_leave db →
+    AreLeftOfOurs db × (shown g true shelf).stops (tables_at db) × (h : List Entry) × IsHistory h × IsView h (tables_at db)
+
+-- what `create` makes where there was no table is a desk of ours, with the tables of the empty history
+abbrev pub MakesOurs : Type 0
+MakesOurs = (old after : Database) → old.schema ≡ schema_0 → MakesDesk old after → AreOurs after.trees × IsView [] (tables_at after.trees)
+
+-- trees that list and obey a schema with no view list and obey no other
+abbrev pub TreesTellSchema : Type 0
+TreesTellSchema = (db : Trees) (one other : Schema) → other.views ≡ [] → IsSound one db → IsSound other db → one ≡ other
+
+-- ---- what is seen of an identity
+
+-- the epoch of the key is below the least open one; or it isn't, and this is what the key has
+abbrev pub IsLookedUp : RequestKey → ℕ → Trees → LookedUp → Type 0
+IsLookedUp key least db Closed = nat_lt key.epoch least ≡ true
+IsLookedUp key least db (Open found) = (nat_lt key.epoch least ≡ false) × (found ≡ row_at answers db key)
+
+-- the same of tables
+abbrev pub IsLookedUpIn : Tables → Identity → LookedUp → Type 0
+IsLookedUpIn t i Closed = IsClosedIn t i.epoch
+IsLookedUpIn t i (Open found) = Answers t i (stored_as i found)

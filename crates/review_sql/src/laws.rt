@@ -1,5 +1,5 @@
 //! What a stop leaves of a desk.
-ghost use Rattle.review_sql.specs.Left.{MakesOurs, StopLeavesDesk, TreesTellSchema};
+ghost use Rattle.review_sql.specs.Shelf.{MakesOurs, StopLeavesDesk, TreesTellSchema};
 
 use sqlite::Alter;
 

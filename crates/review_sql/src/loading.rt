@@ -3,7 +3,7 @@ ghost use Rattle.std.specs.Prelude.{◌≡◌, None, false, IfOk, OnOk};
 ghost use Rattle.{sqlite.specs.Held.state, sqlite_trees.specs.Tree.Trees, review_table.specs.Rows.rows_of};
 ghost use Rattle.review_sql_tables.specs.Ran.{Looks, Serves};
 ghost use Rattle.review_machine_rows.specs.Known.{AreAsked, HasMembers, Learns, group_of, held, known, meaning};
-ghost use Rattle.review_sql_lookups.specs.{Counts.SeesBounded, Loads.IfTold, Loads.Sees, Loads.WereAsked};
+ghost use Rattle.review_sql_lookups.specs.Loads.{SeesBounded, IfTold, Sees, WereAsked};
 ghost use Rattle.review_sql_lookups.specs.Tables.{tables_at};
 ghost use Rattle.review_sql.specs.Loading.{AreLoadedBounded, HasLearnt, LearnsBounded, LearnsSeen, LooksIf, LooksOnce, WereSeen, learnt_by, loaded_by};
 ghost use Rattle.review_machine_rows.specs.declared.rows.Want.TheVariants as want;

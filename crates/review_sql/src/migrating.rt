@@ -3,9 +3,9 @@ ghost use Rattle.std.specs.Prelude.{◌≡◌, ◌≢◌, ◌⊎◌, true, false
 ghost use Rattle.sqlite.specs.{Held.state, State.HasCleanDisk};
 ghost use Rattle.review_sql_tables.specs.Ran.{Inside, Within, Opens, Transacts};
 ghost use Rattle.review_sql_tables.specs.{Versions.schema_at, Versions.version_of, inner.Words.Then};
-ghost use Rattle.review_sql_writes.specs.inner.Changes.{SetsDesk, SetsLeast};
+ghost use Rattle.review_sql_writes.specs.inner.Words.{SetsDesk, SetsLeast};
 ghost use Rattle.review_sql.specs.Migrated.{IsBrought, IsHindered, IsKept, IsNotMigrated, IsRaised, IsUnfit, Upgrades, if_whole};
-ghost use Rattle.review_sql.specs.{Opened.AreApartIn, Opened.TellsShut, Said.SaysVersion, Shelf.Stays};
+ghost use Rattle.review_sql.specs.{Opened.AreApartIn, Opened.TellsShut, Opened.SaysVersion, Shelf.Stays};
 
 use crate::faults::DeskFault;
 use crate::opening::{ask, see_desk, see_tables, version_of};

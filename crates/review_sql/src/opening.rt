@@ -3,8 +3,7 @@ ghost use Rattle.std.specs.Bool.{Decides};
 ghost use Rattle.std.specs.Prelude.{◌≡◌, ◌≢◌, ◌⊎◌, ℕ, Some, None, true, false, IsTrue, IfOk, IfErr, IfSome};
 ghost use Rattle.sqlite.specs.{Held.state, State.HasCleanDisk, State.IsLive};
 ghost use Rattle.review_sql_tables.specs.Versions.{schema_at, version_number};
-ghost use Rattle.review_sql.specs.Opened.{AreAllApart, Peeks, IsLacking, IsSeen, IsRefused, TellsShut};
-ghost use Rattle.review_sql.specs.Said.{LacksLeast, least_shown, SaysLeast, ShowsDesk, ShowsEpochs, number_of_one, version_shown, requests_shown, IsSaid, IsThere, SaysVersion};
+ghost use Rattle.review_sql.specs.Opened.{AreAllApart, Peeks, IsLacking, IsSeen, IsRefused, TellsShut, LacksLeast, least_shown, SaysLeast, ShowsDesk, ShowsEpochs, number_of_one, version_shown, requests_shown, IsSaid, IsThere, SaysVersion};
 ghost use Rattle.review_sql.specs.Shelf.{AreAllRead, Stays};
 
 use crate::faults::DeskFault;

@@ -1,7 +1,7 @@
 //! What is stored under an identity, looked up.
 ghost use Rattle.std.specs.Prelude.{◌≡◌, false};
 ghost use Rattle.{sqlite.specs.Held.state, review_sql_tables.specs.Ran.Looks, review_sql_tables.specs.Ran.Serves};
-ghost use Rattle.review_sql.specs.LookedUp.{IsLookedUp};
+ghost use Rattle.review_sql.specs.Shelf.{IsLookedUp};
 
 use review_sql_records::answers::Answers;
 use review_sql_records::epochs::Epochs;

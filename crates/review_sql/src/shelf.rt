@@ -4,7 +4,7 @@ ghost use Rattle.std.specs.Prelude.{ℕ, ◌≡◌, ◌≢◌, ◌≤◌, ◌⊎
 ghost use Rattle.{sqlite.specs.Held.state, sqlite.specs.State.HasCleanDisk, review_sql_tables.specs.Desk.schema_0};
 ghost use Rattle.review_machine_rows.specs.Rows.{ClosedEpochs, Tables, kept_row};
 ghost use Rattle.review_machine_rows.specs.Shelf.{CountsFaults, IsCounted, IsRecalled, greatest_count};
-ghost use Rattle.review_sql.specs.{LookedUp.IsLookedUpIn, Shelf.Stays, Shelf.answer_of};
+ghost use Rattle.review_sql.specs.Shelf.{IsLookedUpIn, Stays, answer_of};
 
 use crate::faults::DeskFault;
 use crate::loading::load;
@@ -107,11 +107,9 @@ fn may_be_made<O: Origin>(is_blank: bool) -> bool
 }
 
 impl<S: Alter + Drop, O: Origin> SqlShelf<S, O> {
-    ghost use Rattle.review_sql.specs.Created.{IsCreated};
     ghost use Rattle.review_sql.specs.Migrated.{IsNotMigrated, IsOpenedAsIs, IsUnfit, IsUpgraded};
-    ghost use Rattle.review_sql.specs.Opened.{IsOpened, IsRefused, TellsShut};
-    ghost use Rattle.review_sql.specs.{Reopened.ReopensLast, Reopened.IsRefusedAgain, Said.IsDeskThere};
-    ghost use Rattle.review_sql.specs.Shelf.{AreLeftOfOurs, IsAnyThere, IsHandedBack, IsUnmade};
+    ghost use Rattle.review_sql.specs.Opened.{IsOpened, IsRefused, TellsShut, ReopensLast, IsRefusedAgain, IsDeskThere};
+    ghost use Rattle.review_sql.specs.Shelf.{IsCreated, AreLeftOfOurs, IsAnyThere, IsHandedBack, IsUnmade};
 
     /// Makes an empty desk, in one transaction: over a store with no table as ours. A refusal hands the connection back with its tables as
     /// they were: NotEmpty where a table of one of the names that tables of a desk have in any version is there, and NotOurs where the shelf is to be ours and other tables

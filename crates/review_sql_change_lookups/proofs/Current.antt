@@ -1,17 +1,12 @@
 -- The patch set of a change that has the greatest number.
-use Rattle.std.proofs.Common.{◌≡◌, ◌∙◌, ◌<◌, ℕ, pos, ◌&&◌, [], ◌∷◌, Bool, true, false, Option, Some, None, nat_le, filter, leb-true, leb-false, refl, sym, ap, subst, ⊎_elim, inl, arith}
-use Rattle.{std.specs.Option.IsSome, sqlite_trees.specs.Tree.Trees}
-use Rattle.sqlite_value.specs.declared.value.Value.TheVariants.{Int}
-use Rattle.review_names.specs.Forms.{is_within, most_patches}
-use Rattle.review_sql_tables.specs.{Content.has_key, Greatest.HasGreatest}
-use Rattle.review_sql_tables.specs.Search.{only, reads, row_at, rows_at}
+use Rattle.review_sql_tables.proofs.Common.{◌≡◌, ◌∙◌, ◌<◌, ℕ, pos, ◌&&◌, [], ◌∷◌, Bool, true, false, Option, Some, None, nat_le, filter, leb-true, leb-false, refl, sym, ap, subst, ⊎_elim, inl, arith, IsSome, Trees, Int, has_key, HasGreatest, only, reads, row_at, rows_at}
 use Rattle.review_core_rules.specs.{Parts.APatch, Parts.PatchOf, declared.rows.PatchRow.PatchRow}
-use Rattle.review_machine_rows.specs.{Known.IsCurrent, Known.IsLast, Rows.APart, Rows.PartKey, Rows.Row}
-use Rattle.review_sql_records.specs.Laws.{passed}
+use Rattle.review_machine_rows.specs.Rows.{Row}
+use Rattle.review_sql_records.proofs.Common.{is_within, most_patches, IsCurrent, IsLast, APart, PartKey, passed}
 use Rattle.review_sql_change_records.specs.Forms.{patch_numbers, patches}
 use Rattle.review_sql_lookups.proofs.Telling.{filter_both, last_none, last_some}
 use Rattle.review_sql_lookups.specs.{Loads.IfTold, Tables.tables_at, Tables.told}
-use Rattle.review_sql_change_lookups.specs.{Joins.TellsCurrent, Senders.IsLastSet, Senders.TellsIf}
+use Rattle.review_sql_change_lookups.specs.Joins.{TellsCurrent, IsLastSet, TellsIf}
 
 two : (a b : Bool) → ((a && true) && (b && true)) ≡ (a && (b && true))
 two true b = refl

@@ -1,21 +1,11 @@
 -- The changes that joined a branch, in the order of their places.
-use Rattle.std.proofs.Common.{◌≡◌, ◌∙◌, ◌<◌, ◌≤◌, ◌+◌, ◌++◌, ℕ, pos, List, [], ◌∷◌, true, Option, Some, None, All, Ok, refl, sym, ap, subst, inl, inr, ⊎_elim, arith}
-use Rattle.std.proofs.lemmas.Bool.{and_from, and_parts, cases_lt}
 use Rattle.std.proofs.lemmas.List.Elements.{All-push, Contains-append_left, Contains-push}
-use Rattle.std.proofs.lemmas.{List.Quantifiers.all_pairs_push, Option.same_Some}
-use Rattle.std.specs.{List.Contains, Prelude.AllPairs}
-use Rattle.{sqlite.specs.State.State, sqlite_rules.specs.Lists.Has, sqlite_trees.specs.Tree.Trees}
-use Rattle.sqlite_value.specs.{Order.Row as Raw, Order.column, declared.value.Value.TheVariants.Int}
-use Rattle.review_names.specs.Forms.{is_within, most_changes}
-use Rattle.review_words.specs.declared.shown.JoinedChange.{JoinedChange}
-use Rattle.review_sql_tables.proofs.{Found.look_both, Found.look_on, Keys.itself}
-use Rattle.review_sql_tables.specs.{Content.has_key, Content.is_value, Greatest.HasGreatest, Ran.Looks}
-use Rattle.review_sql_tables.specs.Search.{only, reads, row_at, rows_at}
+use Rattle.std.{proofs.lemmas.List.Quantifiers.all_pairs_push, specs.List.Contains, specs.Prelude.AllPairs}
+use Rattle.review_sql_tables.proofs.Common.{◌≡◌, ◌∙◌, ◌<◌, ◌≤◌, ◌+◌, ◌++◌, ℕ, pos, List, [], ◌∷◌, true, Option, Some, None, All, Ok, refl, sym, ap, subst, inl, inr, ⊎_elim, arith, and_from, and_parts, cases_lt, same_Some, State, Has, Trees, Raw, column, Int, has_key, is_value, HasGreatest, Looks, only, reads, row_at, rows_at}
 use Rattle.review_core_rules.specs.{Parts.AHeader, declared.rows.Header.Header, declared.rows.PatchRow.PatchRow}
 use Rattle.review_machine_rows.proofs.Joins.{one_joined, one_place}
-use Rattle.review_machine_rows.specs.Known.{HaveJoined, IsAtPlace, IsBefore, IsJoinedAt}
-use Rattle.review_machine_rows.specs.{Rows.APart, declared.rows.BranchKey.BranchKey, declared.rows.PlaceKey.PlaceKey}
-use Rattle.review_sql_records.specs.Laws.{one_number, passed}
+use Rattle.review_machine_rows.specs.Known.{IsBefore, IsJoinedAt}
+use Rattle.review_sql_records.proofs.Common.{is_within, most_changes, JoinedChange, look_both, look_on, itself, HaveJoined, IsAtPlace, APart, BranchKey, PlaceKey, one_number, passed}
 use Rattle.review_sql_change_records.specs.Forms.{change_places, changes_at, headers}
 use Rattle.review_sql_lookups.proofs.Telling.{has_in, in_has}
 use Rattle.review_sql_lookups.specs.{Loads.IfTold, Tables.tables_at, Tables.told}

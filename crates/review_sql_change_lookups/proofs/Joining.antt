@@ -1,16 +1,9 @@
 -- The last place that a change joined a branch at.
-use Rattle.std.proofs.Common.{◌≡◌, ◌∙◌, ℕ, pos, List, Bool, true, false, Option, Some, None, is_gt, refl, sym, ap, subst, inl, inr}
-use Rattle.std.proofs.lemmas.{Bool.and_from, Bool.both_ways, Option.same_Some}
-use Rattle.{std.specs.Ordering.is_eq, sqlite_rules.specs.Lists.Has, sqlite_trees.specs.Tree.Trees}
-use Rattle.sqlite_value.proofs.OrderLemmas.{value_cmp-Int}
-use Rattle.sqlite_value.specs.Order.{Row as Raw, column, value_cmp}
-use Rattle.sqlite_value.specs.declared.value.Value.TheVariants.{Int, Text}
-use Rattle.{review_names.specs.Forms.is_slashed_name, review_words.specs.declared.shown.State.State}
-use Rattle.review_sql_tables.specs.{Content.has_key, Greatest.HasGreatest, Search.reads, Search.row_at, Search.rows_at}
+use Rattle.review_words.specs.declared.shown.State.{State}
+use Rattle.review_sql_tables.proofs.Common.{◌≡◌, ◌∙◌, ℕ, pos, List, Bool, true, false, Option, Some, None, is_gt, refl, sym, ap, subst, inl, inr, and_from, both_ways, same_Some, is_eq, Has, Trees, value_cmp-Int, Raw, column, value_cmp, Int, Text, has_key, HasGreatest, reads, row_at, rows_at}
 use Rattle.review_core_rules.specs.{Parts.AHeader, declared.rows.Header.Header}
-use Rattle.review_machine_rows.specs.Known.{IsAtPlace, IsLastJoined}
-use Rattle.review_machine_rows.specs.{Rows.APart, declared.rows.BranchKey.BranchKey}
-use Rattle.review_sql_records.specs.{Keyed.is_small, Laws.both_are, Laws.number_is, Laws.passed}
+use Rattle.review_machine_rows.specs.Known.{IsLastJoined}
+use Rattle.review_sql_records.proofs.Common.{is_slashed_name, IsAtPlace, APart, BranchKey, is_small, both_are, number_is, passed}
 use Rattle.review_sql_change_records.specs.{Forms.change_places, Forms.headed, Forms.headers, Laws.at_text}
 use Rattle.review_sql_lookups.proofs.Telling.{greater, has_in, in_has, stored_row}
 use Rattle.review_sql_lookups.specs.Tables.{tables_at, told}

@@ -1,28 +1,15 @@
 -- What the rows of changes at places of a branch show: a change at each place, or that the tables are those of no history.
-use Rattle.std.proofs.Common.{◌≡◌, ◌∙◌, ◌⊎◌, ◌<◌, ◌≤◌, ◌+◌, ◌-◌, ◌&&◌, ℕ, pos, List, [], ◌∷◌, Bool, true, false, not, is_some, Option, Some, None, filter, length, refl, sym, ap, subst, inl, inr, arith}
-use Rattle.std.proofs.lemmas.Bool.{cases_Bool, and_from, and_parts}
-use Rattle.std.proofs.lemmas.Option.{same_Some, slice_get-get_or, slice_get_within}
-use Rattle.std.specs.{Ordering.is_eq, Prelude.slice_get, Prelude.slice_index_or}
-use Rattle.{sqlite_rules.specs.Lists.Has, sqlite_trees.specs.Tree.Trees}
-use Rattle.sqlite_value.specs.Order.{Row as Raw, column, value_cmp}
-use Rattle.sqlite_value.specs.declared.value.Value.TheVariants.{Int, Text}
-use Rattle.review_names.specs.Forms.{is_slashed_name, is_within, most_changes, most_patches}
-use Rattle.review_words.specs.{History.Entry, declared.shown.JoinedChange.JoinedChange, declared.shown.State.State}
-use Rattle.review_sql_tables.proofs.Keys.{itself, same_text}
-use Rattle.review_sql_tables.specs.{Columns.number_in, Content.has_key, Content.is_value, Greatest.HasGreatest}
-use Rattle.review_sql_tables.specs.Search.{AreFound, only, reads, row_at, rows_at}
+use Rattle.std.proofs.lemmas.Option.{slice_get-get_or, slice_get_within}
+use Rattle.review_words.specs.declared.shown.State.{State}
+use Rattle.review_sql_tables.proofs.Common.{◌≡◌, ◌∙◌, ◌⊎◌, ◌<◌, ◌≤◌, ◌+◌, ◌-◌, ◌&&◌, ℕ, pos, List, [], ◌∷◌, Bool, true, false, not, is_some, Option, Some, None, filter, length, refl, sym, ap, subst, inl, inr, arith, cases_Bool, and_from, and_parts, same_Some, is_eq, slice_get, slice_index_or, Has, Trees, Raw, column, value_cmp, Int, Text, number_in, has_key, is_value, HasGreatest, AreFound, only, reads, row_at, rows_at}
 use Rattle.review_core_rules.specs.Parts.{TheHeader, PatchOf, AHeader, APatch}
 use Rattle.review_core_rules.specs.declared.rows.{Header.Header, PatchRow.PatchRow}
-use Rattle.review_machine_rows.{proofs.Readings.reading_of, specs.Answer.IsHistory}
-use Rattle.review_machine_rows.specs.{Changes.Reading, Changes.Reads, Changes.joined, Known.IsAtPlace, Known.IsCurrent}
-use Rattle.review_machine_rows.specs.{Rows.PartKey, Rows.APart, Rows.Row, Shelf.IsDamaged, View.IsViewBy, View.fact}
-use Rattle.review_machine_rows.specs.declared.rows.{Base.Base, BranchKey.BranchKey, PlaceKey.PlaceKey}
+use Rattle.review_machine_rows.specs.{Changes.Reads, Changes.joined, Rows.Row}
 use Rattle.review_machine_laws.proofs.{Joined.joined_distinct, Places.get_placed, Places.placed_get}
 use Rattle.review_machine_laws.proofs.Rows.{joined_row, placed_row, row_placed}
-use Rattle.review_sql_records.specs.{Forms.both, Forms.where_is, Keyed.is_small}
-use Rattle.review_sql_records.specs.Laws.{at_number, both_are, one_number, passed}
-use Rattle.review_sql_change_records.specs.Forms.{change_places, changes_at, headed, headers, patch_numbers, patches, sent}
-use Rattle.review_sql_change_records.specs.{Keyed.has_change, Keyed.header_keyed, Keyed.patch_keyed, Laws.at_text}
+use Rattle.review_sql_records.proofs.Common.{is_slashed_name, is_within, most_changes, most_patches, Entry, JoinedChange, itself, same_text, reading_of, IsHistory, Reading, IsAtPlace, IsCurrent, PartKey, APart, IsDamaged, IsViewBy, fact, Base, BranchKey, PlaceKey, both, where_is, is_small, at_number, both_are, one_number, passed}
+use Rattle.review_sql_change_records.specs.Forms.{change_places, changes_at, headed, headers, patch_numbers, patches, sent, has_change, header_keyed, patch_keyed}
+use Rattle.review_sql_change_records.specs.Laws.{at_text}
 use Rattle.review_sql_lookups.proofs.Odd.{and_false, any_has, both_missing, no_number, odd_at, only_with, unkeyed}
 use Rattle.review_sql_lookups.proofs.Telling.{has_in, in_has, odd_damage}
 use Rattle.review_sql_lookups.specs.{Loads.IfTold, Tables.tables_at, Tables.told}
@@ -216,9 +203,6 @@ found_stands db key n found =
       | inr stands ↦ inr (subst (IsAtPlace (tables_at db).row (branch_of key) key.place) (same_Some _ _ (sym stands.is ∙ r.3)) stands.at)
     ]
 
-header_from : (x y : Header) → AHeader x ≡ AHeader y → x ≡ y
-header_from x y is = cc
-
 -- a change whose header is not so is not at the place
 pub not_there : (db : Trees) (key : BranchKey) (place n : ℕ) (found : Option (Option Header)) → found ≡ row_at headers db n → (IsHeaderAt found key.project key.branch place → ⊥)
     → IsAtPlace (tables_at db).row key place n → ⊥
@@ -232,7 +216,7 @@ not_there db key place n found is other at = by found refl
     by (Some None) odd = let bad = sym (ap (told a_header) odd) ∙ stands in cc
     by (Some (Some h)) some =
         let part : AHeader h ≡ AHeader at.header = (let e = sym (ap (told a_header) some) ∙ stands in cc) in
-        let same = header_from h at.header part in
+        let same : h ≡ at.header = cc in
         other (h, some, ap (λ (x : Header). x.project) same ∙ at.project, ap (λ (x : Header). x.branch) same ∙ at.branch, ap (λ (x : Header). x.place) same ∙ at.placed)
 
 -- the change that was found at a place has no such header
@@ -326,8 +310,7 @@ set_damaged db n q found great is other =
     let row = has_in (has_key (patch_numbers.at n)) (db 11) r great.1.among in
     let number = passed (is_within most_patches) (number_in (column r 2)) q (sym great.2) in
     let here : has_key (patches.at (n, q)) r ≡ true = and_from _ _ (and_parts _ _ row.1).0 (and_from _ _ (at_number (column r 2) q number) refl) in
-    let among = in_has (has_key (patches.at (n, q))) (db 11) r row.0 here in
-    elim (only_with (reads patches) (rows_at (patches.at (n, q)) (db 11)) r among) [
+    elim (only_with (reads patches) (rows_at (patches.at (n, q)) (db 11)) r (in_has (has_key (patches.at (n, q))) (db 11) r row.0 here)) [
       | inl odd ↦ odd_damage (tables_at db) (PartKey n (PatchOf q)) (ap (told (λ x. APart (APatch x))) odd)
       | inr so ↦ by (reads patches r) refl so
     ]

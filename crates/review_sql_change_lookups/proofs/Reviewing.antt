@@ -1,22 +1,13 @@
 -- What the tables of a change tell.
-use Rattle.std.proofs.Common.{◌≡◌, ◌∙◌, ℕ, ℤ, List, [], ◌∷◌, Bool, true, Option, Some, None, option_map, pos, refl, sym, ap, subst, inl, inr}
-use Rattle.std.proofs.lemmas.{Bool.cases_Bool, Bool.and_parts, Option.same_Some}
-use Rattle.{std.specs.Option.IsSome, std.specs.Ordering.nat_cmp, sqlite_trees.specs.Tree.Trees}
-use Rattle.sqlite_value.specs.{Order.column, declared.value.Value.TheVariants.Int}
-use Rattle.review_table.specs.Rows.{row_in, rows_of}
-use Rattle.{review_words.specs.declared.changes.Role.Role, review_sql_tables.proofs.Meaning.all_pass}
-use Rattle.review_sql_tables.specs.{Content.has_key, Fronts.AreParts, Greatest.HasGreatest}
-use Rattle.review_sql_tables.specs.Search.{only, reads, row_at, rows_at}
+use Rattle.review_sql_tables.proofs.Common.{◌≡◌, ◌∙◌, ℕ, ℤ, List, [], ◌∷◌, Bool, true, Option, Some, None, option_map, pos, refl, sym, ap, subst, inl, inr, cases_Bool, and_parts, same_Some, IsSome, nat_cmp, Trees, column, Int, row_in, rows_of, has_key, AreParts, HasGreatest, only, reads, row_at, rows_at}
 use Rattle.review_core_rules.specs.Change.{Change}
 use Rattle.review_core_rules.specs.Parts.{Part, TheHeader, PatchOf, VoteOf, RoleOf, CommentOf, AttentionOf, PartRow, AHeader, APatch, AVote, ARole, AComment, AnAttentionEntry, part_row}
 use Rattle.review_core_rules.specs.{Seen.vote_cmp, Votes.voted, declared.rows.AttentionEntry.AttentionEntry}
 use Rattle.review_core_rules.specs.declared.rows.{CommentRow.CommentRow, PatchRow.PatchRow, VoteKey.VoteKey}
-use Rattle.review_machine_rows.{proofs.Readings.reading_of, specs.Changes.change}
-use Rattle.review_machine_rows.specs.Known.{HasChange, IsLast, header_key, part_of}
-use Rattle.review_machine_rows.specs.{Rows.PartKey, Rows.APart, Rows.vote_row, Shelf.IsDamaged}
-use Rattle.review_machine_rows.specs.declared.rows.{Found.Found as Kept, Want.Want}
+use Rattle.review_machine_rows.specs.{Changes.change, Known.HasChange, Known.header_key, Known.part_of}
+use Rattle.review_machine_rows.specs.declared.rows.Found.{Found as Kept}
 use Rattle.review_machine_change_rows.specs.{Tables.Show, declared.tables.ChangeTables.ChangeTables}
-use Rattle.review_sql_records.specs.{Forms.where_is, Keyed.is_small}
+use Rattle.review_sql_records.proofs.Common.{Role, all_pass, reading_of, IsLast, PartKey, APart, vote_row, IsDamaged, Want, where_is, is_small}
 use Rattle.review_sql_change_records.specs.Forms.{headers, patches, votes, roles, comments, attention_entries, change_patches, change_votes, change_roles, change_comments, change_attention, change_numbers, integer_in, is_vote}
 use Rattle.review_sql_lookups.proofs.Telling.{last_none, last_some, odd_damage, stored_row}
 use Rattle.review_sql_lookups.specs.Loads.{Tells, Sees, last_of}

@@ -1,23 +1,16 @@
 -- Which change sent a commit, and which of them is merged with it.
-use Rattle.std.proofs.Common.{◌≡◌, ◌∙◌, ◌<◌, ◌≤◌, ◌+◌, ℕ, List, [], ◌∷◌, Bool, true, false, Option, Some, None, option_map, All, MatchBool, map, get_or, take, length, Result, Ok, Err, is_some, refl, sym, ap, subst, inl, inr}
-use Rattle.std.proofs.lemmas.{Bool.and_from, Bool.and_parts, List.take_all}
-use Rattle.std.proofs.lemmas.List.Elements.{All-more, recursion_from_All, All-from_recursion}
-use Rattle.std.proofs.lemmas.{List.Sorted.All-permutation, List.Sorted.IsPermutation-sym, Option.same_Some}
-use Rattle.{std.specs.List.AllByRecursion, sqlite.specs.State.State, sqlite.specs.declared.error.Error.Error}
-use Rattle.sqlite_keyed.proofs.ListLemmas.{all_map, all_unmap}
-use Rattle.{sqlite_rules.specs.Lists.Has, sqlite_trees.specs.Tree.Trees}
+use Rattle.std.proofs.{Common.MatchBool, lemmas.List.Elements.All-more}
 use Rattle.review_chain.specs.declared.links.Standing.TheVariants.{InBranch, PatchSet, Nowhere}
-use Rattle.review_sql_tables.{proofs.Found.look_on, proofs.Found.look_both, specs.Content.has_key, specs.Ran.Looks}
-use Rattle.review_sql_tables.specs.Search.{AreFound, reads, row_at, rows_at}
+use Rattle.review_sql_tables.proofs.Common.{◌≡◌, ◌∙◌, ◌<◌, ◌≤◌, ◌+◌, ℕ, List, [], ◌∷◌, Bool, true, false, Option, Some, None, option_map, All, map, get_or, take, length, Result, Ok, Err, is_some, refl, sym, ap, subst, inl, inr, and_from, and_parts, take_all, recursion_from_All, All-from_recursion, All-permutation, IsPermutation-sym, same_Some, AllByRecursion, State, Error, all_map, all_unmap, Has, Trees, has_key, Looks, AreFound, reads, row_at, rows_at}
 use Rattle.review_core_rules.specs.Parts.{TheHeader, PatchOf, AHeader, APatch, PartRow}
 use Rattle.review_core_rules.specs.declared.rows.{Header.Header, PatchRow.PatchRow}
-use Rattle.review_machine_rows.specs.Known.{IsBaseOrNot, IsInBranch, IsMergedWith, IsSender, IsSentBy, StandsAs}
-use Rattle.review_machine_rows.specs.{Rows.APart, Rows.PartKey, Shelf.IsDamaged, declared.rows.Base.Base}
+use Rattle.review_machine_rows.specs.Known.{IsInBranch, IsMergedWith, IsSender, IsSentBy, StandsAs}
+use Rattle.review_sql_records.proofs.Common.{look_on, look_both, IsBaseOrNot, APart, PartKey, IsDamaged, Base}
 use Rattle.review_sql_change_records.specs.{Forms.headers, Forms.patches, Forms.sent, Laws.same_bytes}
 use Rattle.review_sql_change_records.specs.inner.Words.{sent_by_key, sent_is}
 use Rattle.review_sql_lookups.proofs.Telling.{has_in, in_has, odd_damage, own_bytes, stored_row}
 use Rattle.review_sql_lookups.specs.{Loads.IfTold, Tables.tables_at, Tables.told}
-use Rattle.review_sql_change_lookups.specs.Senders.{Examines, HasSent, IsFoundSent, IsLastSet, IsOutside, IsSentIn, IsSentWith, TellsIf}
+use Rattle.review_sql_change_lookups.specs.Joins.{Examines, HasSent, IsFoundSent, IsLastSet, IsOutside, IsSentIn, IsSentWith, TellsIf}
 
 -- a row of a kind that was told is one that was found
 pub part_found : {X : Type 0} (kind : X → PartRow) (found : Option (Option X)) (row : PartRow) → told (λ x. APart (kind x)) found ≡ Some (APart row) → (x : X) × (kind x ≡ row) × (found ≡ Some (Some x))

@@ -5,13 +5,13 @@ use Rattle.{std.specs.declared.cmp.Ordering.Ordering, sqlite_trees.specs.Tree.Tr
 use Rattle.review_names.specs.Forms.{is_within, most_changes}
 use Rattle.review_table.specs.Rows.{row_in, rows_of}
 use Rattle.review_words.specs.declared.changes.Role.{Role}
-use Rattle.review_sql_tables.specs.{Fronts.AreParts, Greatest.HasGreatest, Search.row_at}
+use Rattle.review_sql_tables.specs.Search.{AreParts, HasGreatest, row_at}
 use Rattle.review_core_rules.specs.{Change.Change, Parts.Part, Seen.vote_cmp}
 use Rattle.review_core_rules.specs.declared.rows.{AttentionEntry.AttentionEntry, CommentRow.CommentRow}
 use Rattle.review_core_rules.specs.declared.rows.{PatchRow.PatchRow, VoteKey.VoteKey}
 use Rattle.review_machine_rows.specs.{Known.HasChange, Rows.APart, Shelf.IsDamaged}
 use Rattle.review_machine_change_rows.specs.declared.tables.ChangeTables.{ChangeTables}
-use Rattle.review_sql_records.specs.Keyed.{is_small, where_is}
+use Rattle.review_sql_records.specs.Forms.{is_small, where_is}
 use Rattle.review_sql_change_records.specs.Forms.{change_numbers, headers, patches, votes, roles, comments, attention_entries, change_patches, change_votes, change_roles, change_comments, change_attention}
 use Rattle.review_sql_lookups.specs.{Loads.last_of, Tables.part_in, Tables.tables_at, declared.sights.Sight.Sight}
 use Rattle.review_sql_lookups.specs.declared.sights.Sight.TheVariants.{NoMemory, Damaged, Found}

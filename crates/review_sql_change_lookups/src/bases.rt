@@ -1,7 +1,7 @@
 //! Whether a commit is a base of a branch.
 ghost use Rattle.std.specs.Prelude.{◌≡◌, true, false, Some, None, IfOk};
 ghost use Rattle.{sqlite.specs.Held.state, sqlite_trees.specs.Tree.Trees};
-ghost use Rattle.review_sql_tables.specs.{Greatest.HasOne, Ran.Looks, Search.row_at};
+ghost use Rattle.review_sql_tables.specs.{Ran.Looks, Search.HasOne, Search.row_at};
 ghost use Rattle.review_machine_rows.specs.{Known.IsBaseOrNot, declared.rows.Base.Base};
 ghost use Rattle.review_sql_records.specs.Forms.{base_commits, bases};
 ghost use Rattle.review_sql_lookups.specs.{Loads.IfTold, Loads.Sees, Tables.tables_at};

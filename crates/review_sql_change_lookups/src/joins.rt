@@ -1,7 +1,7 @@
 //! The changes that joined a branch are looked up.
 ghost use Rattle.std.specs.Prelude.{◌≡◌, ◌<◌, ℕ, Some, IfOk};
 ghost use Rattle.{sqlite.specs.Held.state, sqlite_trees.specs.Tree.Trees};
-ghost use Rattle.review_sql_tables.specs.{Greatest.HasGreatest, Ran.Looks, Search.row_at};
+ghost use Rattle.review_sql_tables.specs.{Ran.Looks, Search.HasGreatest, Search.row_at};
 ghost use Rattle.review_machine_rows.specs.{Known.HaveJoined, Known.IsCurrent, declared.rows.BranchKey.BranchKey};
 ghost use Rattle.review_sql_change_records.specs.Forms.{change_places, changes_at, headers, patch_numbers, patches};
 ghost use Rattle.review_sql_lookups.specs.{Loads.IfTold, Loads.Sees, Tables.tables_at};

@@ -1,7 +1,7 @@
 //! The last place that a change joined a branch at is looked up.
 ghost use Rattle.std.specs.Prelude.{◌≡◌, true, false, Some, None, IfOk};
 ghost use Rattle.{sqlite.specs.Held.state, sqlite_trees.specs.Tree.Trees};
-ghost use Rattle.review_sql_tables.specs.{Greatest.HasGreatest, Ran.Looks, Search.row_at};
+ghost use Rattle.review_sql_tables.specs.{Ran.Looks, Search.HasGreatest, Search.row_at};
 ghost use Rattle.review_machine_rows.specs.declared.rows.BranchKey.{BranchKey};
 ghost use Rattle.review_sql_change_records.specs.Forms.{change_places, headers};
 ghost use Rattle.{review_sql_lookups.specs.Loads.Sees, review_sql_change_lookups.specs.Joins.IsHeaderAt};

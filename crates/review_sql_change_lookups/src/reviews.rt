@@ -1,8 +1,8 @@
 //! What is looked up of changes.
 ghost use Rattle.std.specs.Prelude.{◌≡◌, ℕ, [], Some, true, false, IfOk, IfErr};
 ghost use Rattle.{sqlite.specs.Held.state, sqlite_trees.specs.Tree.Trees, review_table.specs.Rows.rows_of};
-ghost use Rattle.review_sql_tables.specs.{Greatest.HasGreatest, Ran.Looks};
-ghost use Rattle.review_sql_records.specs.Keyed.{is_small, where_is};
+ghost use Rattle.review_sql_tables.specs.{Ran.Looks, Search.HasGreatest};
+ghost use Rattle.review_sql_records.specs.Forms.{is_small, where_is};
 ghost use Rattle.review_sql_change_records.specs.Forms.{change_numbers};
 ghost use Rattle.review_sql_lookups.specs.Loads.{Sees, last_of};
 ghost use Rattle.review_sql_change_lookups.specs.Reviews.{AreFoundRows, AreFoundSets, AreFoundTalk, HasRow, HaveSome, HaveTables, IsWhyNone, IsFresh, number_after};

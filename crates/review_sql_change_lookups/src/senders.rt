@@ -2,12 +2,12 @@
 ghost use Rattle.std.specs.Bool.{Decides};
 ghost use Rattle.std.specs.Prelude.{◌≡◌, ℕ, Bool, true, false, Some, None, IfOk, MatchBool};
 ghost use Rattle.{sqlite.specs.Held.state, sqlite_trees.specs.Tree.Trees};
-ghost use Rattle.review_sql_tables.specs.{Greatest.HasGreatest, Ran.Looks, Search.row_at};
+ghost use Rattle.review_sql_tables.specs.{Ran.Looks, Search.HasGreatest, Search.row_at};
 ghost use Rattle.review_machine_rows.specs.Known.{IsBaseOrNot, StandsAs};
 ghost use Rattle.review_machine_rows.specs.declared.rows.{Base.Base, BranchKey.BranchKey};
 ghost use Rattle.review_sql_change_records.specs.Forms.{headers, patch_numbers, patches};
 ghost use Rattle.review_sql_lookups.specs.{Loads.IfTold, Loads.Sees, Tables.tables_at};
-ghost use Rattle.review_sql_change_lookups.specs.Senders.{Examines, HasSent, IsFoundSent, IsLastSet, IsOutside, IsSentWith, TellsIf, is_sent_with};
+ghost use Rattle.review_sql_change_lookups.specs.Joins.{Examines, HasSent, IsFoundSent, IsLastSet, IsOutside, IsSentWith, TellsIf, is_sent_with};
 ghost use Rattle.review_machine_rows.specs.declared.rows.Want.TheVariants as want;
 
 use crate::bases::is_base;

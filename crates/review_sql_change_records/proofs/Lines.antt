@@ -1,9 +1,9 @@
 -- The lines of a text, the first one taken off.
-use Rattle.std.proofs.Common.{◌≡◌, ℕ, suc, ◌+◌, ◌<◌, ◌==◌, ◌&&◌, Bool, true, false, not, List, [], ◌∷◌, length, take, drop, refl, sym, ap, ap₂, ◌∙◌, arith, cond, ◌++◌, None, inl, inr}
-use Rattle.std.proofs.lemmas.{Bool.cases_Bool, List.append_assoc}
+use Rattle.std.proofs.Common.{◌≡◌, ℕ, suc, ◌+◌, ◌<◌, ◌==◌, ◌&&◌, Bool, true, false, not, List, [], ◌∷◌, length, take, drop, refl, sym, ap, ap₂, ◌∙◌, arith, cond, ◌++◌, None}
+use Rattle.std.proofs.lemmas.List.{append_assoc, Folds.list_all-append}
 use Rattle.std.specs.List.{list_all, position_or_len, before_first, after_first}
 use Rattle.review_names.specs.Forms.{is_path, with_front}
-use Rattle.review_sql_change_records.specs.Paths.{lines, paths_in, set_in}
+use Rattle.review_sql_change_records.specs.Forms.{lines, paths_in, set_in}
 
 abbrev pub is_feed : ℕ → Bool
 is_feed b = b == 10
@@ -44,10 +44,6 @@ lines_whole (c ∷ cs) h = whole_by (is_feed c) c cs refl (lines_whole cs) h
 abbrev pub Splits : List ℕ → List ℕ → List ℕ → Type 0
 Splits s front rest = (front ≡ before_first is_feed s) × (rest ≡ after_first is_feed s) × (first s < length s)
 
-list_all_append : (f : List ℕ → Bool) (xs ys : List (List ℕ)) → list_all f (xs ++ ys) ≡ list_all f xs && list_all f ys
-list_all_append f [] ys = refl
-list_all_append f (x ∷ xs) ys = elim (cases_Bool (f x)) [ inl is ↦ rw is (list_all_append f xs ys) | inr other ↦ rw other refl ]
-
 -- the lines so far are paths, and with those of the rest they are all
 pub record AreLinesSoFar (text : List ℕ) (paths : List (List ℕ)) (rest : List ℕ) : Type 0 where
   pub all : lines text ≡ paths ++ lines rest
@@ -56,7 +52,7 @@ pub record AreLinesSoFar (text : List ℕ) (paths : List (List ℕ)) (rest : Lis
 pub one_more : (text rest line more : List ℕ) (old new : List (List ℕ)) → AreLinesSoFar text old rest → Splits rest line more → is_path line ≡ true → new ≡ old ++ line ∷ [] → AreLinesSoFar text new more
 one_more text rest line more old new so split good is = record {
   all = so.all ∙ (ap (λ l. old ++ l) (lines_split rest split.2 ∙ ap₂ (λ xs ys. xs ∷ lines ys) (sym split.0) (sym split.1)) ∙ (sym (append_assoc old (line ∷ []) (lines more)) ∙ ap (λ l. l ++ lines more) (sym is)));
-  good = ap (list_all is_path) is ∙ (list_all_append is_path old (line ∷ []) ∙ (λ i. so.good i && (good i && true)));
+  good = ap (list_all is_path) is ∙ (list_all-append is_path old (line ∷ []) ∙ (λ i. so.good i && (good i && true)));
 }
 
 none_of : (text : List ℕ) → list_all is_path (lines text) ≡ false → (text ≡ [] → ⊥) → None ≡ paths_in text
@@ -70,16 +66,16 @@ all_of (c ∷ cs) good some = rw good refl
 pub refused : (text rest line more : List ℕ) (paths : List (List ℕ)) → AreLinesSoFar text paths rest → Splits rest line more → is_path line ≡ false → (text ≡ [] → ⊥) → None ≡ paths_in text
 refused text rest line more paths so split bad some =
     none_of text (ap (list_all is_path) (so.all ∙ ap (λ l. paths ++ l) (lines_split rest split.2 ∙ ap₂ (λ xs ys. xs ∷ lines ys) (sym split.0) (sym split.1)))
-    ∙ (list_all_append is_path paths (line ∷ lines more) ∙ (λ i. so.good i && (bad i && list_all is_path (lines more))))) some
+    ∙ (list_all-append is_path paths (line ∷ lines more) ∙ (λ i. so.good i && (bad i && list_all is_path (lines more))))) some
 
 pub last_refused : (text rest : List ℕ) (paths : List (List ℕ)) → AreLinesSoFar text paths rest → first rest ≡ length rest → is_path rest ≡ false → (text ≡ [] → ⊥) → None ≡ paths_in text
 last_refused text rest paths so whole bad some =
-    none_of text (ap (list_all is_path) (so.all ∙ ap (λ l. paths ++ l) (lines_whole rest whole)) ∙ (list_all_append is_path paths (rest ∷ []) ∙ (λ i. so.good i && (bad i && true)))) some
+    none_of text (ap (list_all is_path) (so.all ∙ ap (λ l. paths ++ l) (lines_whole rest whole)) ∙ (list_all-append is_path paths (rest ∷ []) ∙ (λ i. so.good i && (bad i && true)))) some
 
 pub all_read : (text rest : List ℕ) (old new : List (List ℕ)) → AreLinesSoFar text old rest → first rest ≡ length rest → is_path rest ≡ true → new ≡ old ++ rest ∷ [] → (text ≡ [] → ⊥) → set_in new ≡ paths_in text
 all_read text rest old new so whole good is some =
     let all : lines text ≡ new = so.all ∙ (ap (λ l. old ++ l) (lines_whole rest whole) ∙ sym is) in
-    ap set_in (sym all) ∙ all_of text (ap (list_all is_path) (all ∙ is) ∙ (list_all_append is_path old (rest ∷ []) ∙ (λ i. so.good i && (good i && true)))) some
+    ap set_in (sym all) ∙ all_of text (ap (list_all is_path) (all ∙ is) ∙ (list_all-append is_path old (rest ∷ []) ∙ (λ i. so.good i && (good i && true)))) some
 
 pub nonempty : (t : List ℕ) (b : Bool) → b ≡ (length t == 0) → b ≡ false → t ≡ [] → ⊥
 nonempty t b is no_text none = absurd (let e = ap (λ l. length l == 0) none in let f = sym no_text ∙ (is ∙ e) in cc)

@@ -1,22 +1,88 @@
 -- The tables of changes: how their rows are looked up and stored.
-use Rattle.std.specs.Prelude.{ℕ, ℤ, zero, suc, pos, negsuc, ◌&&◌, Bool, true, false, int_le, List, [], ◌∷◌, Option, Some, None, if◌then◌else◌}
-use Rattle.{std.specs.Str.is_utf8, sqlite_value.specs.Order.column, sqlite_value.specs.declared.value.Value.Value}
+use Rattle.std.specs.List.{list_all}
+use Rattle.std.specs.Prelude.{ℕ, ◌&&◌, ◌==◌, Bool, true, false, nat_le, length, List, [], ◌∷◌, ◌++◌, Option, Some, None, if◌then◌else◌, is_some, ℤ, zero, suc, pos, negsuc, int_le}
+use Rattle.std.specs.Str.{bytes_eq, is_utf8}
+use Rattle.sqlite_value.specs.{Order.Row, Order.column, declared.value.Value.Value}
 use Rattle.sqlite_value.specs.declared.value.Value.TheVariants.{Null, Int, Real, Text, Blob}
-use Rattle.review_names.specs.Forms.{is_commit, is_label, is_line, is_message, is_place, is_slashed_name, is_within, most_changes, most_comments, most_patches}
+use Rattle.review_names.specs.Forms.{is_path, most_paths, text_set, with_front, is_label, is_within, most_changes, most_comments, most_patches, is_commit, is_line, is_message, is_place, is_slashed_name}
 use Rattle.review_names.specs.Kinds.{kind_name, kind_named}
 use Rattle.review_names.specs.{Names.is_account_number, declared.kinds.ChangeKind.ChangeKind}
 use Rattle.review_words.specs.{States.state_name, States.state_named, Texts.role_name, Texts.role_named}
 use Rattle.review_words.specs.declared.{changes.Role.Role, shown.State.State}
-use Rattle.review_sql_tables.specs.Columns.{number_in, text_in}
-use Rattle.review_sql_tables.specs.Search.{Search, Form, with_rowid, with_number}
+use Rattle.review_sql_tables.specs.Search.{text_in, number_in, Search, Form, with_rowid, with_number}
 use Rattle.review_core_rules.specs.Votes.{voted}
 use Rattle.review_core_rules.specs.declared.rows.{AttentionEntry.AttentionEntry, CommentRow.CommentRow, Header.Header}
 use Rattle.review_core_rules.specs.declared.rows.{PatchRow.PatchRow, VoteKey.VoteKey}
 use Rattle.review_machine_rows.specs.declared.rows.{BranchKey.BranchKey, PlaceKey.PlaceKey}
-use Rattle.review_sql_records.specs.{Forms.both, Forms.where_is, Keyed.is_small}
-use Rattle.review_sql_change_records.specs.Keyed.{header_keyed, patch_keyed, vote_keyed, account_keyed, comment_keyed}
-use Rattle.review_sql_change_records.specs.Paths.{paths_in, paths_text, are_read_back}
+use Rattle.review_sql_records.specs.Forms.{is_number, where_is, both, is_small}
 use Rattle.review_sql_tables.specs.Desk as table
+
+-- ---- sets of paths as one text: the paths in their order, joined by line feeds
+
+-- what stands between line feeds
+abbrev pub lines : List ℕ → List (List ℕ)
+lines [] = [] ∷ []
+lines (c ∷ cs) = if c == 10 then [] ∷ lines cs else with_front c (lines cs)
+
+-- a text with one line more
+abbrev pub with_line : List ℕ → List ℕ → List ℕ
+with_line [] p = p
+with_line (c ∷ cs) p = c ∷ cs ++ 10 ∷ p
+
+-- a text with more lines
+abbrev pub with_lines : List ℕ → List (List ℕ) → List ℕ
+with_lines text [] = text
+with_lines text (p ∷ ps) = with_lines (with_line text p) ps
+
+-- paths as one text
+abbrev pub paths_text : List (List ℕ) → List ℕ
+paths_text paths = with_lines [] paths
+
+-- the set of some paths, where there are not too many
+abbrev pub set_in : List (List ℕ) → Option (List (List ℕ))
+set_in paths = if nat_le (length (text_set paths)) most_paths then Some (text_set paths) else None
+
+-- the paths of a text, where it is one of paths
+abbrev pub paths_in : List ℕ → Option (List (List ℕ))
+paths_in [] = Some []
+paths_in (c ∷ cs) = if list_all is_path (lines (c ∷ cs)) then set_in (lines (c ∷ cs)) else None
+
+-- whether two lists of texts are the same
+abbrev pub are_same : List (List ℕ) → List (List ℕ) → Bool
+are_same [] [] = true
+are_same (p ∷ ps) (q ∷ qs) = bytes_eq p q && are_same ps qs
+are_same _ _ = false
+
+-- whether what was read is these paths
+abbrev pub were_read : Option (List (List ℕ)) → List (List ℕ) → Bool
+were_read None paths = false
+were_read (Some read) paths = are_same read paths
+
+-- whether the text of paths reads as the same paths
+abbrev pub are_read_back : List (List ℕ) → Bool
+are_read_back paths = were_read (paths_in (paths_text paths)) paths
+
+-- ---- which stored rows have a key of their table
+
+abbrev pub header_keyed : Row → Bool
+header_keyed r = is_number (is_within most_changes) (column r 0)
+
+-- the change that a row belongs to
+abbrev pub has_change : Row → Bool
+has_change r = is_number (is_within most_changes) (column r 1)
+
+abbrev pub patch_keyed : Row → Bool
+patch_keyed r = has_change r && is_number (is_within most_patches) (column r 2)
+
+abbrev pub vote_keyed : Row → Bool
+vote_keyed r = has_change r && (is_number (is_within most_patches) (column r 2) && (is_some (where_is is_label (text_in (column r 3))) && is_number is_account_number (column r 4)))
+
+-- of a role, and of an account in the attention set
+abbrev pub account_keyed : Row → Bool
+account_keyed r = has_change r && is_number is_account_number (column r 2)
+
+abbrev pub comment_keyed : Row → Bool
+comment_keyed r = has_change r && is_number (is_within most_comments) (column r 2)
 
 -- ---- values of columns
 

@@ -20,16 +20,15 @@ use Rattle.review_words.specs.declared.shown.State.{State, TheVariants.New, TheV
 use Rattle.review_sql_tables.proofs.Keys.{itself, same_int, equal_is, same_text, text_is as stored_text}
 use Rattle.review_sql_tables.proofs.Single.{at_place}
 use Rattle.review_sql_tables.proofs.TextsOfChanges.{delete_attention, delete_change, delete_comment, delete_patch, delete_reviewer, delete_vote, insert_attention, insert_change, insert_comment, insert_patch, insert_reviewer, insert_vote}
-use Rattle.review_sql_tables.specs.Columns.{text_in, number_in}
-use Rattle.review_sql_tables.specs.{Content.is_value, Fronts.IsFront, Fronts.IsExact, Record.Records, Search.IsLawful}
+use Rattle.review_sql_tables.specs.{Content.is_value, Record.Records}
+use Rattle.review_sql_tables.specs.Search.{text_in, number_in, IsFront, IsExact, IsLawful}
 use Rattle.review_sql_tables.specs.declared.table.Sets.TheVariants.{PutsIn, Replaces}
 use Rattle.review_core_rules.specs.Seen.{vote_cmp}
 use Rattle.review_core_rules.specs.declared.rows.{AttentionEntry.AttentionEntry, CommentRow.CommentRow, Header.Header}
 use Rattle.review_core_rules.specs.declared.rows.{PatchRow.PatchRow, VoteKey.VoteKey}
-use Rattle.review_sql_records.specs.{Forms.where_is, Keyed.is_small, Keyed.is_number}
+use Rattle.review_sql_records.specs.Forms.{where_is, is_small, is_number}
 use Rattle.review_sql_records.specs.Laws.{keyed_number, reads_text, at_number, both_are, numbers_exact, one_number, passed}
-use Rattle.review_sql_change_records.specs.Forms.{patches, votes, roles, comments, attention_entries, named, flag_number, flagged, answered, answers_number, is_answer, header_form, headers, patch_form, change_patches, role_form, change_roles, attention_form, change_attention, comment_form, change_comments, vote_key, vote_form, change_votes}
-use Rattle.review_sql_change_records.specs.Paths.{are_same, were_read, are_read_back, paths_in, paths_text}
+use Rattle.review_sql_change_records.specs.Forms.{patches, votes, roles, comments, attention_entries, named, flag_number, flagged, answered, answers_number, is_answer, header_form, headers, patch_form, change_patches, role_form, change_roles, attention_form, change_attention, comment_form, change_comments, vote_key, vote_form, change_votes, are_same, were_read, are_read_back, paths_in, paths_text}
 use Rattle.review_sql_tables.specs.Desk as table
 use Rattle.review_sql_tables.specs.declared.texts.TheConstants as texts
 use Rattle.review_names.specs.declared.kinds.ChangeKind.TheVariants as kind
@@ -260,12 +259,12 @@ vote_lawful = record {
       (and_from _ _ (ap (λ v. is_some (where_is is_label (text_in v))) label ∙ ap is_some (reads_text is_label a.1.label best.0)) (keyed_number is_account_number (column r 4) a.1.account best.1 (and_parts _ _ three.1).0)));
 }
 
-both_equal : (o p : Ordering) → is_eq (ordering_then o p) ≡ true → (is_eq o ≡ true) × (is_eq p ≡ true)
+pub both_equal : (o p : Ordering) → is_eq (ordering_then o p) ≡ true → (is_eq o ≡ true) × (is_eq p ≡ true)
 both_equal Less p is = absurd (cc)
 both_equal Equal p is = (refl, is)
 both_equal Greater p is = absurd (cc)
 
-then_equal : (o p : Ordering) → o ≡ Equal → p ≡ Equal → ordering_then o p ≡ Equal
+pub then_equal : (o p : Ordering) → o ≡ Equal → p ≡ Equal → ordering_then o p ≡ Equal
 then_equal o p a b = rw (a, b) refl
 
 pub votes_exact : IsExact vote_cmp

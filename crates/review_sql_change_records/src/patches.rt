@@ -2,8 +2,8 @@
 ghost use Rattle.std.specs.Prelude.{pos, ◌≡◌, ◌≤◌, ◌+◌, IfOk};
 ghost use Rattle.sqlite_value.specs.Order.{column};
 ghost use Rattle.review_sql_tables.proofs.TextsOfLookups.{find_last_patch, find_patch, find_patches};
-ghost use Rattle.review_sql_change_records.specs.Forms.{change_patches, patch_numbers, patches, patch_in};
-ghost use Rattle.review_sql_change_records.specs.{Laws.patch_table, Laws.patches_of_change, Paths.paths_text};
+ghost use Rattle.review_sql_change_records.specs.Forms.{change_patches, patch_numbers, patches, patch_in, paths_text};
+ghost use Rattle.review_sql_change_records.specs.Laws.{patch_table, patches_of_change};
 ghost use Rattle.review_sql_tables.specs.declared.texts.TheConstants as texts;
 
 use crate::paths::{is_read_back, paths_text, read_paths};

@@ -1,7 +1,7 @@
 //! Sets of paths as one text.
 ghost use Rattle.std.specs.Prelude.{◌≡◌, ◌∷◌, ◌++◌, [], true, IfOk, OnOk, string_bytes};
 ghost use Rattle.review_names.specs.Forms.{is_path};
-ghost use Rattle.review_sql_change_records.specs.Paths.{are_read_back, are_same, paths_in, paths_text, set_in, with_line};
+ghost use Rattle.review_sql_change_records.specs.Forms.{are_read_back, are_same, paths_in, paths_text, set_in, with_line};
 
 use review_words::{BadName, Path, Paths};
 use std::alloc::{AllocError, Global};

@@ -4,7 +4,7 @@ ghost use Rattle.sqlite_value.specs.Order.{column};
 ghost use Rattle.review_names.specs.Forms.{is_within, most_changes, most_comments, most_patches};
 ghost use Rattle.review_names.specs.Kinds.{kind_named};
 ghost use Rattle.review_words.specs.{States.state_named, Texts.role_named};
-ghost use Rattle.review_sql_tables.specs.Columns.{number_in, text_in};
+ghost use Rattle.review_sql_tables.specs.Search.{number_in, text_in};
 ghost use Rattle.review_sql_records.specs.Forms.{where_is};
 ghost use Rattle.review_sql_change_records.specs.Forms.{answered, answers_number, flag_number, flagged, integer_in, is_answer, is_vote, named};
 

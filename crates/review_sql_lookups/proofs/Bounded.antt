@@ -1,15 +1,9 @@
 -- What stays known of counts.
-use Rattle.std.proofs.Common.{◌≡◌, ◌∙◌, ◌≤◌, ◌+◌, ℕ, suc, nat_lt, List, Bool, true, false, Option, Some, None, is_some, cond, Result, Ok, Err, OnOk, OnErr, IfSome, refl, ap, sym, inl, inr, subst, arith}
-use Rattle.std.proofs.lemmas.{Bool.cases_Bool, Bool.Decides.leb_tells, Cmp.nat_list_cmp_total, Cmp.tied_itself}
-use Rattle.std.proofs.lemmas.{Map.Lookups.exact_bytes, Option.same_Some, Slice.Eq.bytes_eq-Decides}
-use Rattle.std.specs.{BTreeMap.is_at, Cmp.Lexicographic.slice_cmp, Ordering.nat_cmp, Ordering.is_eq, Str.bytes_eq}
-use Rattle.{std.specs.declared.alloc.AllocError.AllocError, review_table.specs.Rows.row_in}
-use Rattle.review_sql_tables.{proofs.Keys.equal_is, specs.Greatest.as_counted}
-use Rattle.review_machine_rows.specs.Limits.{most_bases}
-use Rattle.review_machine_rows.specs.Rows.{Row, BaseKey, BasesOf, AnswerRow, Tables, count_put}
-use Rattle.review_machine_rows.specs.Shelf.{IsCommitted}
-use Rattle.review_machine_rows.specs.declared.rows.{Delta.Delta, PlaceKey.PlaceKey, Put.Put}
-use Rattle.review_sql_lookups.specs.{Counts.AreBasesBounded, Counts.Bounds, Counts.Grows, declared.counts.Bound.Bound}
+use Rattle.std.proofs.lemmas.Slice.Eq.{bytes_eq-Decides}
+use Rattle.review_sql_tables.proofs.Common.{◌≡◌, ◌∙◌, ◌≤◌, ◌+◌, ℕ, suc, nat_lt, List, Bool, true, false, Option, Some, None, is_some, cond, Result, Ok, Err, OnOk, OnErr, IfSome, refl, ap, sym, inl, inr, subst, arith, cases_Bool, leb_tells, nat_list_cmp_total, tied_itself, exact_bytes, same_Some, is_at, slice_cmp, nat_cmp, is_eq, bytes_eq, AllocError, row_in, as_counted}
+use Rattle.review_machine_rows.specs.Rows.{Row}
+use Rattle.review_sql_records.proofs.Common.{equal_is, most_bases, BaseKey, BasesOf, AnswerRow, Tables, count_put, IsCommitted, Delta, PlaceKey, Put}
+use Rattle.review_sql_lookups.specs.{Loads.AreBasesBounded, Loads.Bounds, Loads.Grows, declared.counts.Bound.Bound}
 
 few : (n : ℕ) (b there : Bool) → (n ≤ cond b (cond there n (n + 1)) n) × (cond b (cond there n (n + 1)) n ≤ n + 1)
 few n true true = (omega arith, omega arith)

@@ -1,26 +1,12 @@
 -- What shows that tables are those of no history: rows without a key, and rows that don't read.
-use Rattle.std.proofs.Common.{◌≡◌, ◌∙◌, ◌⊎◌, ◌&&◌, ℕ, List, [], ◌∷◌, Option, Some, None, Bool, true, false, not, is_some, refl, sym, ap, subst, inl, inr, Ordering, nat_le, arith, leb-true, leb-false, option_map, zero, suc}
-use Rattle.std.proofs.lemmas.Bool.{cases_Bool, and_from, and_parts, or_right, or_cases, lt-ltb}
-use Rattle.std.specs.{List.list_any, Ordering.nat_cmp, Ordering.is_eq}
-use Rattle.{sqlite_rules.specs.Lists.Has, sqlite_trees.specs.Tree.Trees}
-use Rattle.sqlite_value.specs.{Order.Row as Raw, Order.column, Order.value_cmp, declared.value.Value.TheVariants.Text}
-use Rattle.review_names.specs.Forms.{is_commit, is_label, is_within, most_changes, most_comments, most_patches}
-use Rattle.review_names.specs.Names.{is_account_number, is_word}
-use Rattle.review_words.specs.History.{bases as history_bases}
-use Rattle.review_sql_tables.{proofs.Keys.same_text, specs.Columns.number_in}
-use Rattle.review_sql_tables.specs.{Content.has_key, Fronts.AreParts, Greatest.HasGreatest, Greatest.HasOne}
-use Rattle.review_sql_tables.specs.Search.{Search, only, reads, row_at, rows_at}
+use Rattle.std.proofs.lemmas.Bool.{or_right}
+use Rattle.review_names.specs.{Forms.is_label, Forms.most_comments, Names.is_account_number}
+use Rattle.review_sql_tables.proofs.Common.{◌≡◌, ◌∙◌, ◌⊎◌, ◌&&◌, ℕ, List, [], ◌∷◌, Option, Some, None, Bool, true, false, not, is_some, refl, sym, ap, subst, inl, inr, Ordering, nat_le, arith, leb-true, leb-false, option_map, zero, suc, cases_Bool, and_from, and_parts, or_cases, lt-ltb, list_any, nat_cmp, is_eq, Has, Trees, Raw, column, value_cmp, Text, number_in, has_key, AreParts, HasGreatest, HasOne, Search, only, reads, row_at, rows_at}
 use Rattle.review_core_rules.specs.Parts.{PatchOf, VoteOf, RoleOf, CommentOf, AttentionOf, APatch, ARole, AComment, AnAttentionEntry}
 use Rattle.review_core_rules.specs.Seen.{vote_cmp}
-use Rattle.review_machine_rows.{proofs.Readings.reading_of, specs.Known.at_place}
-use Rattle.review_machine_rows.specs.Rows.{MemberKey, AccountKey, BaseKey, PartKey, OddKey, AccountRow, MemberRow, BaseRow, APart}
-use Rattle.review_machine_rows.specs.Shelf.{IsDamaged}
-use Rattle.review_machine_rows.specs.declared.rows.{Base.Base, BranchKey.BranchKey, PlaceKey.PlaceKey}
-use Rattle.review_sql_records.specs.Forms.{where_is, alone, both, accounts, account_names, account_numbers, bases, base_commits, base_places, desk, epochs, branch_bases, base_parts, group_members, member_parts}
-use Rattle.review_sql_records.specs.Keyed.{account_keyed, member_keyed, base_keyed, is_number, is_text, is_small}
-use Rattle.review_sql_records.specs.{Laws.at_number, Laws.passed, declared.rows.DeskRow.DeskRow}
-use Rattle.review_sql_change_records.specs.Forms.{patches, votes, roles, comments, attention_entries, change_patches, change_votes, change_roles, change_comments, change_attention, vote_key, change_numbers}
-use Rattle.review_sql_change_records.specs.Keyed.{header_keyed, has_change, patch_keyed, vote_keyed, comment_keyed, account_keyed as of_account}
+use Rattle.review_sql_records.proofs.Common.{is_commit, is_within, most_changes, most_patches, is_word, history_bases, same_text, reading_of, at_place, MemberKey, AccountKey, BaseKey, PartKey, OddKey, AccountRow, MemberRow, BaseRow, APart, IsDamaged, Base, BranchKey, PlaceKey, where_is, both, account_names, account_numbers, base_commits, base_places, branch_bases, base_parts, group_members, member_parts, is_small, at_number, passed, DeskRow}
+use Rattle.review_sql_records.specs.Forms.{alone, accounts, bases, desk, epochs, account_keyed, member_keyed, base_keyed, is_number, is_text}
+use Rattle.review_sql_change_records.specs.Forms.{patches, votes, roles, comments, attention_entries, change_patches, change_votes, change_roles, change_comments, change_attention, vote_key, change_numbers, header_keyed, has_change, patch_keyed, vote_keyed, comment_keyed, account_keyed as of_account}
 use Rattle.review_sql_change_records.specs.Laws.{at_text}
 use Rattle.review_sql_lookups.proofs.Telling.{has_in, in_has, odd_damage}
 use Rattle.review_sql_lookups.specs.Loads.{last_of}
@@ -274,8 +260,7 @@ holder_damaged db name number named one is other =
     let r = one.0 in
     let row = has_in (has_key (account_names.at name)) (db 0) r one.1 in
     let here : has_key (accounts.at number) r ≡ true = and_from _ _ (at_number (column r 0) number (passed is_account_number _ number (sym one.2))) refl in
-    let among = in_has (has_key (accounts.at number)) (db 0) r row.0 here in
-    elim (only_with (reads accounts) (rows_at (accounts.at number) (db 0)) r among) [
+    elim (only_with (reads accounts) (rows_at (accounts.at number) (db 0)) r (in_has (has_key (accounts.at number)) (db 0) r row.0 here)) [
       | inl odd ↦ odd_damage (tables_at db) (AccountKey number) (ap (told AccountRow) odd)
       | inr reads_so ↦ by (reads accounts r) refl reads_so (and_parts _ _ row.1).0
     ]
@@ -299,8 +284,7 @@ base_damaged db base place found one is other =
     let p = and_parts _ _ row.1 in
     let q = and_parts _ _ p.1 in
     let here : has_key (bases.at key) r ≡ true = and_from _ _ p.0 (and_from _ _ q.0 (and_from _ _ (at_number (column r 3) place (sym one.2)) refl)) in
-    let among = in_has (has_key (bases.at key)) (db 6) r row.0 here in
-    elim (only_with (reads bases) (rows_at (bases.at key) (db 6)) r among) [
+    elim (only_with (reads bases) (rows_at (bases.at key) (db 6)) r (in_has (has_key (bases.at key)) (db 6) r row.0 here)) [
       | inl odd ↦ odd_damage (tables_at db) (BaseKey base.project base.branch place) (ap (told BaseRow) odd)
       | inr reads_so ↦ by (reads bases r) refl reads_so (and_parts _ _ q.1).0
     ]

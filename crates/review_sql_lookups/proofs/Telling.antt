@@ -1,27 +1,13 @@
 -- What look-ups tell of tables.
-use Rattle.std.proofs.Common.{◌≡◌, ◌∙◌, ◌⊎◌, ◌<◌, ◌&&◌, ℕ, zero, pos, List, [], ◌∷◌, Option, Some, None, option_map, refl, sym, ap, subst, cond, Bool, true, false, inl, inr, filter, is_gt, is_some, suc, int_lt, arith}
-use Rattle.std.proofs.lemmas.Bool.{lt-ltb, cases_Bool, and_from, and_parts, both_ways, Decides.leb_tells}
-use Rattle.std.proofs.lemmas.{Cmp.nat_list_eq_equiv, Option.same_Some}
-use Rattle.std.specs.{Ordering.nat_cmp, Ordering.int_cmp, Ordering.is_eq, Str.bytes_eq, Str.is_utf8}
-use Rattle.sqlite_keyed.proofs.ListLemmas.{all_weaker, filter_none}
-use Rattle.{sqlite_rules.specs.Lists.Has, sqlite_trees.specs.Tree.Trees, sqlite_value.proofs.OrderLemmas.value_cmp-Int}
-use Rattle.sqlite_value.specs.Order.{Row as Raw, column, value_cmp}
-use Rattle.sqlite_value.specs.declared.value.Value.{Value, TheVariants.Int, TheVariants.Text}
-use Rattle.{review_names.specs.Forms.is_commit, review_names.specs.Names.is_word, review_table.specs.Rows.row_in}
-use Rattle.review_words.specs.History.{Entry, is_listed, bases as history_bases}
-use Rattle.review_sql_tables.proofs.{Keys.int_is, Keys.itself, Meaning.all_pass}
-use Rattle.review_sql_tables.specs.{Columns.number_in, Columns.text_in, Content.has_key, Content.is_value}
-use Rattle.review_sql_tables.specs.{Fronts.HaveRows, Greatest.HasGreatest, Greatest.IsGreatest}
-use Rattle.review_sql_tables.specs.Search.{only, reads, row_at, rows_at}
+use Rattle.{std.proofs.lemmas.Cmp.nat_list_eq_equiv, sqlite_keyed.proofs.ListLemmas.filter_none}
+use Rattle.review_sql_tables.proofs.Common.{◌≡◌, ◌∙◌, ◌⊎◌, ◌<◌, ◌&&◌, ℕ, zero, pos, List, [], ◌∷◌, Option, Some, None, option_map, refl, sym, ap, subst, cond, Bool, true, false, inl, inr, filter, is_gt, is_some, suc, int_lt, arith, lt-ltb, cases_Bool, and_from, and_parts, both_ways, leb_tells, same_Some, nat_cmp, int_cmp, bytes_eq, all_weaker, Has, Trees, value_cmp-Int, Raw, column, value_cmp, Value, Int, Text, row_in, number_in, has_key, is_value, HaveRows, HasGreatest, only, reads, row_at, rows_at}
+use Rattle.review_sql_tables.{proofs.Keys.int_is, specs.Search.IsGreatest}
 use Rattle.review_core_rules.specs.Change.{of_number}
-use Rattle.review_machine_rows.{proofs.Looked.based_from, proofs.Readings.reading_of, specs.Changes.Reading}
-use Rattle.review_machine_rows.specs.Known.{HasBases, HasMembers, IsLast, at_place}
-use Rattle.review_machine_rows.specs.Rows.{Key, AccountKey, MemberKey, FileKey, BaseKey, PartKey, OddKey, Row, AccountRow, MemberRow, FileRow, BaseRow, APart, OddRow, Tables, member_row}
-use Rattle.review_machine_rows.specs.{Shelf.IsDamaged, View.fact}
-use Rattle.review_machine_rows.specs.declared.rows.{Base.Base, BranchKey.BranchKey, PlaceKey.PlaceKey, Want.Want}
+use Rattle.review_machine_rows.{proofs.Looked.based_from, specs.Known.HasBases, specs.Rows.Row, specs.Rows.member_row}
 use Rattle.review_machine_change_rows.specs.inner.Words.{AreInOrder}
-use Rattle.review_sql_records.specs.Forms.{accounts, account_names, account_numbers, member_parts, bases, base_commits, base_parts, base_places}
-use Rattle.review_sql_records.specs.Laws.{number_is, passed}
+use Rattle.review_sql_records.proofs.Common.{is_commit, is_word, Entry, is_listed, history_bases, itself, all_pass, reading_of, Reading, HasMembers, IsLast, at_place, Key, AccountKey, MemberKey, FileKey, BaseKey, PartKey, OddKey, AccountRow, MemberRow, FileRow, BaseRow, APart, OddRow, Tables, IsDamaged, fact, Base, BranchKey, PlaceKey, Want, account_names, account_numbers, member_parts, base_commits, base_parts, base_places, number_is, passed}
+use Rattle.review_sql_records.specs.Forms.{accounts, bases}
+use Rattle.review_sql_change_records.specs.Laws.{at_text}
 use Rattle.review_sql_lookups.specs.{Loads.IsOrdered, Loads.Tells, Loads.last_of, Tables.tables_at, Tables.told}
 use Rattle.review_sql_lookups.specs.declared.sights.Sight.{Sight, TheVariants.Damaged}
 
@@ -97,13 +83,6 @@ told_from kind apart None row some is = absurd (cc)
 told_from kind apart (Some None) row some is = absurd (some (sym (same_Some _ _ is)))
 told_from kind apart (Some (Some x)) row some is = (x, same_Some _ _ is, refl)
 
-text_is : (v : Value) (t : List ℕ) → text_in v ≡ Some t → v ≡ Text t
-text_is (Text s) t is = elim (cases_Bool (is_utf8 s)) [ inl good ↦ ap Text (same_Some _ _ (let e = rw good at is in e)) | inr bad ↦ absurd (let e = rw bad at is in cc) ]
-text_is _ t is = absurd (cc)
-
-at_text : (v : Value) (t : List ℕ) → text_in v ≡ Some t → is_eq (value_cmp v (Text t)) ≡ true
-at_text v t is = subst (λ w. is_eq (value_cmp w (Text t)) ≡ true) (sym (text_is v t is)) (itself (Text t))
-
 -- rows that pass two tests, one after the other
 pub filter_both : {X : Type 0} (q p both : X → Bool) → ((x : X) → (q x && p x) ≡ both x) → (xs : List X) → filter p (filter q xs) ≡ filter both xs
 filter_both q p both same [] = refl
@@ -122,18 +101,11 @@ three false b c = refl
 
 -- ---- accounts and groups
 
-name_from : (x name : List ℕ) → AccountRow x ≡ AccountRow name → x ≡ name
-name_from x name is = cc
-
-base_from : (x commit : List ℕ) → BaseRow x ≡ BaseRow commit → x ≡ commit
-base_from x commit is = cc
-
 -- no account has a name that none is looked up by
 pub unheld : (db : Trees) (name : List ℕ) → rows_at (account_names.at name) (db 0) ≡ [] → (n : ℕ) → (tables_at db).row (AccountKey n) ≡ Some (AccountRow name) → ⊥
 unheld db name none n is =
     let it = told_from AccountRow (λ x e. cc) (row_at accounts db n) (AccountRow name) (λ e. cc) is in
-    let same = name_from it.0 name it.1 in
-    let row = stored_row (reads accounts) (rows_at (accounts.at n) (db 0)) name (it.2 ∙ ap (λ x. Some (Some x)) same) in
+    let row = stored_row (reads accounts) (rows_at (accounts.at n) (db 0)) name (it.2 ∙ ap (λ x. Some (Some x)) (let e : it.0 ≡ name = cc it.1 in e)) in
     let found = has_in (has_key (accounts.at n)) (db 0) row.0 row.1 in
     let at = at_text (column row.0 2) name (passed is_word _ name row.2) in
     subst (λ l. Has l row.0) none (in_has (has_key (account_names.at name)) (db 0) row.0 found.0 (and_from _ _ at refl))
@@ -142,8 +114,7 @@ pub unbased : (db : Trees) (base : Base) → rows_at (base_commits.at base) (db 
 unbased db base none place is =
     let key : PlaceKey = record { project = base.project; branch = base.branch; place = place } in
     let it = told_from BaseRow (λ x e. cc) (row_at bases db key) (BaseRow base.commit) (λ e. cc) is in
-    let same = base_from it.0 base.commit it.1 in
-    let row = stored_row (reads bases) (rows_at (bases.at key) (db 6)) base.commit (it.2 ∙ ap (λ x. Some (Some x)) same) in
+    let row = stored_row (reads bases) (rows_at (bases.at key) (db 6)) base.commit (it.2 ∙ ap (λ x. Some (Some x)) (let e : it.0 ≡ base.commit = cc it.1 in e)) in
     let found = has_in (has_key (bases.at key)) (db 6) row.0 row.1 in
     let at = at_text (column row.0 4) base.commit (passed is_commit _ base.commit row.2) in
     let one = and_parts _ _ found.1 in

@@ -1,4 +1,2 @@
 pub mod Tables
 pub mod Loads
-pub mod EarlierTables
-pub mod Counts

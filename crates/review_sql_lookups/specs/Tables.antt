@@ -1,15 +1,18 @@
--- A database as the tables of a desk.
+-- A database as the tables of a desk, of this version or an earlier one.
 use Rattle.std.specs.List.{list_any}
-use Rattle.std.specs.Prelude.{option_map, ℤ, ℕ, ◌≡◌, Bool, not, List, [], ◌∷◌, length, Option, Some, None, if◌then◌else◌}
+use Rattle.std.specs.Prelude.{option_map, ℤ, ℕ, ◌≡◌, Bool, not, List, [], ◌∷◌, length, Option, Some, None, if◌then◌else◌, ◌==◌}
 use Rattle.{sqlite_trees.specs.Tree.Trees, sqlite_value.specs.Order.Row as Raw}
 use Rattle.{sqlite_value.specs.declared.value.Value.TheVariants.Text, review_words.specs.History.Identity}
-use Rattle.review_sql_tables.specs.Search.{rows_at, row_at}
+use Rattle.review_sql_tables.specs.Search.{rows_at, row_at, Search}
+use Rattle.review_sql_tables.specs.Versions.{version_number, version_of}
+use Rattle.review_sql_tables.specs.declared.versions.EarlierVersion.{EarlierVersion}
 use Rattle.review_core_rules.specs.Parts.{Part, TheHeader, PatchOf, VoteOf, RoleOf, CommentOf, AttentionOf, AHeader, APatch, ARole, AComment, AnAttentionEntry}
 use Rattle.review_machine_rows.specs.Rows.{Key, AccountKey, MemberKey, FileKey, BaseKey, PartKey, OddKey, Row, AccountRow, MemberRow, FileRow, BaseRow, APart, OddRow, vote_row, Count, Projects, BasesOf, ClosedEpochs, Stored, Answered, OddAnswer, Tables}
-use Rattle.review_machine_rows.specs.View.{tables_version}
-use Rattle.review_sql_records.specs.Forms.{accounts, members, projects, bases, answers, desk, epochs, request_key}
+use Rattle.review_machine_rows.specs.{View.tables_version, declared.rows.StoredFile.StoredFile}
+use Rattle.review_sql_records.specs.Forms.{accounts, members, projects, bases, answers, desk, epochs, request_key, earlier_answers, earlier_key, first_epoch, first_projects}
 use Rattle.review_sql_records.specs.declared.rows.{Answered.Answered as Rest, DeskRow.DeskRow}
 use Rattle.review_sql_change_records.specs.Forms.{headers, patches, votes, roles, comments, attention_entries}
+use Rattle.review_sql_tables.specs.declared.versions.EarlierVersion.TheVariants as earlier
 
 -- a row as tables tell it; an odd one is none of its table
 abbrev pub told : {X : Type 0} → (X → Row) → Option (Option X) → Option Row
@@ -99,3 +102,36 @@ tables_at db = record {
 pub record SaysDesk (requests least : ℕ) (db : Trees) : Type 0 where
   pub desk_is : row_at desk db tt ≡ Some (Some (record { version = tables_version; requests = requests }))
   pub least_is : row_at epochs db tt ≡ Some (Some least)
+
+-- ---- the tables of an earlier version
+
+-- the files of the projects as a version keeps them
+abbrev pub projects_in : EarlierVersion → Search (List ℕ) StoredFile
+projects_in earlier.First = first_projects
+projects_in earlier.Second = projects
+
+-- the tables of records of a version, and which of their rows have a key
+abbrev pub keyed_tables_in : EarlierVersion → List (ℕ × (Raw → Bool))
+keyed_tables_in version = keyed_with ((projects_in version).tree, (projects_in version).keyed) (earlier_answers.tree, earlier_answers.keyed)
+
+-- What stands at a key: in version 1 no project has a parent, and all else is as in version 3.
+abbrev pub earlier_row_in : EarlierVersion → Trees → Key → Option Row
+earlier_row_in version db (FileKey project) = told FileRow (row_at (projects_in version) db project)
+earlier_row_in version db (OddKey o) = if has_unkeyed (keyed_tables_in version) db then Some OddRow else None
+earlier_row_in version db key = row_in db key
+
+abbrev pub earlier_count_in : EarlierVersion → Trees → Count → ℕ
+earlier_count_in version db Projects = length (db (projects_in version).tree)
+earlier_count_in version db ClosedEpochs = 0
+earlier_count_in version db count = count_in db count
+
+-- a stored request, which is of the first epoch
+abbrev pub earlier_answer_in : Trees → Identity → Option Stored
+earlier_answer_in db i = if i.epoch == first_epoch then stored_as i (row_at earlier_answers db (earlier_key i.caller i.id)) else None
+
+abbrev pub tables_in : EarlierVersion → Trees → Tables
+tables_in version db = record (tables_at db) { row = earlier_row_in version db; count = earlier_count_in version db; answer = earlier_answer_in db; version = number_of (λ d. d.version) (row_at desk db tt) }
+
+-- the row of the desk says this version and so many requests
+abbrev pub IsEarlierDesk : EarlierVersion → ℕ → Trees → Type 0
+IsEarlierDesk version requests db = row_at desk db tt ≡ Some (Some (record { version = version_number (version_of version); requests = requests }))

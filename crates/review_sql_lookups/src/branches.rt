@@ -3,13 +3,13 @@ ghost use Rattle.std.specs.Ordering.{nat_cmp};
 ghost use Rattle.std.specs.Prelude.{◌≡◌, ◌∷◌, [], true, false, ℕ, List, Some, None, option_map, IfOk, length, nat_lt};
 ghost use Rattle.{sqlite.specs.Held.state, sqlite_trees.specs.Tree.Trees};
 ghost use Rattle.{sqlite_value.specs.declared.value.Value.TheVariants.Text, review_table.specs.Rows.rows_of};
-ghost use Rattle.review_sql_tables.specs.{Fronts.AreParts, Greatest.as_counted, Greatest.HasGreatest, Greatest.HasOne};
-ghost use Rattle.review_sql_tables.specs.{Ran.Looks, Search.row_at, Search.rows_at};
+ghost use Rattle.review_sql_tables.specs.Ran.{Looks};
+ghost use Rattle.review_sql_tables.specs.Search.{AreParts, as_counted, HasGreatest, HasOne, row_at, rows_at};
 ghost use Rattle.review_machine_rows.specs.Limits.{most_bases, most_projects};
 ghost use Rattle.review_machine_rows.specs.Rows.{BasesOf, Projects as ProjectCount};
 ghost use Rattle.review_machine_rows.specs.declared.rows.BranchKey.{BranchKey};
 ghost use Rattle.review_sql_records.specs.Forms.{base_commits, branch_bases, base_parts, base_places, bases, desk, epochs, project_names, projects};
-ghost use Rattle.review_sql_lookups.specs.{Counts.SeesBounded, Loads.Sees, Loads.IsOrdered, Tables.tables_at};
+ghost use Rattle.review_sql_lookups.specs.{Loads.SeesBounded, Loads.Sees, Loads.IsOrdered, Tables.tables_at};
 ghost use Rattle.review_machine_rows.specs.declared.rows.Want.TheVariants as want;
 ghost use Rattle.review_machine_rows.specs.declared.rows.Counted.TheVariants as counted;
 

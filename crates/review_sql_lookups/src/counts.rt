@@ -2,11 +2,11 @@
 ghost use Rattle.std.specs.{BTreeMap.is_at, Cmp.Lexicographic.slice_cmp, Ordering.nat_cmp};
 ghost use Rattle.std.specs.Prelude.{ℕ, ◌≡◌, ◌+◌, ◌≤◌, List, Some, nat_lt, if◌then◌else◌, IfSome, OnOk, OnErr};
 ghost use Rattle.review_table.specs.Rows.{row_in, rows_of};
-ghost use Rattle.review_sql_tables.specs.Greatest.{as_counted};
+ghost use Rattle.review_sql_tables.specs.Search.{as_counted};
 ghost use Rattle.review_machine_rows.specs.Limits.{most_bases, most_projects};
 ghost use Rattle.review_machine_rows.specs.Rows.{AnswerRow, BasesOf, Projects, Tables};
 ghost use Rattle.review_machine_rows.specs.Shelf.{IsCommitted};
-ghost use Rattle.review_sql_lookups.specs.Counts.{AreBasesBounded, AreBounded, Bounds, Grows};
+ghost use Rattle.review_sql_lookups.specs.Loads.{AreBasesBounded, AreBounded, Bounds, Grows};
 
 use review_machine_rows::Delta;
 use review_table::{Key, Table};

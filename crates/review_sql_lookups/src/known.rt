@@ -1,7 +1,7 @@
 //! What look-ups find by what the shelf knows of counts, with no statement.
 ghost use Rattle.std.specs.Prelude.{◌≡◌, None, IfSome};
 ghost use Rattle.{sqlite_trees.specs.Tree.Trees, review_machine_rows.specs.Known.group_of};
-ghost use Rattle.review_sql_lookups.specs.{Counts.AreBounded, Loads.Sees, Tables.tables_at};
+ghost use Rattle.review_sql_lookups.specs.{Loads.AreBounded, Loads.Sees, Tables.tables_at};
 ghost use Rattle.review_machine_rows.specs.declared.rows.Want.TheVariants as want;
 ghost use Rattle.review_machine_rows.specs.declared.rows.Counted.TheVariants as counted;
 

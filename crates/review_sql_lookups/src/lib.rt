@@ -1,5 +1,5 @@
-//! A database as the tables of a desk, of this version and of earlier ones (`specs/Tables`, `specs/EarlierTables`); and what look-ups find
-//! of accounts, groups, projects and branches.
+//! A database as the tables of a desk, of this version and of earlier ones (`specs/Tables`); and what look-ups find of
+//! accounts, groups, projects and branches.
 //!
 //! A look-up ends in one of three ways: found, no memory, or damage, where a row doesn't read or doesn't fit ([`Sight`]). One by a row of a
 //! table is an `impl` of [`told::Told`] on that table's record: `find_told::<Accounts, S>` finds the name of an account. Where the table

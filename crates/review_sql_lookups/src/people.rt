@@ -2,7 +2,7 @@
 ghost use Rattle.std.specs.Ordering.{nat_cmp};
 ghost use Rattle.std.specs.Prelude.{◌≡◌, ℕ, List, true, false, Some, None};
 ghost use Rattle.{sqlite.specs.Held.state, sqlite_trees.specs.Tree.Trees, review_table.specs.Rows.rows_of};
-ghost use Rattle.review_sql_tables.specs.{Greatest.HasGreatest, Greatest.HasOne, Ran.Looks, Search.row_at};
+ghost use Rattle.review_sql_tables.specs.{Ran.Looks, Search.HasGreatest, Search.HasOne, Search.row_at};
 ghost use Rattle.review_machine_rows.specs.{Known.HasMembers, declared.rows.MemberKey.MemberKey};
 ghost use Rattle.review_sql_records.specs.Forms.{accounts, account_names, account_numbers, members};
 ghost use Rattle.review_sql_lookups.specs.{Loads.IfTold, Loads.Sees, Tables.tables_at};

@@ -1,6 +1,6 @@
 //! What was found, unless it is odd.
 ghost use Rattle.std.specs.Prelude.{◌≡◌, Some, None, IfOk, IfErr, option_map};
-ghost use Rattle.review_sql_records.specs.{Forms.where_is, Keyed.is_small};
+ghost use Rattle.review_sql_records.specs.Forms.{where_is, is_small};
 ghost use Rattle.review_sql_lookups.specs.Loads.{last_of};
 
 use crate::sights::Sight;

@@ -26,7 +26,7 @@ pub trait Told: Lookup {
 /// A look-up by the row with the greatest value of a column.
 pub trait ToldByGreatest: Greatest {
     ghost use Rattle.std.specs.Prelude.{◌≡◌};
-    ghost use Rattle.{sqlite_trees.specs.Tree.Trees, review_sql_tables.specs.Greatest.HasGreatest};
+    ghost use Rattle.{sqlite_trees.specs.Tree.Trees, review_sql_tables.specs.Search.HasGreatest};
     ghost use Rattle.{review_machine_rows.specs.declared.rows.Want.Want, review_sql_lookups.specs.Loads.Sees};
 
     /// What is asked by a key.

@@ -1,22 +1,13 @@
 -- Rows that moved to the table of a later version read there as they did.
-use Rattle.std.proofs.Common.{◌≡◌, ◌≢◌, ◌∙◌, ◌&&◌, ◌||◌, ℕ, pos, suc, Bool, true, false, not, List, [], ◌∷◌, Option, Some, None, option_map, map, filter, length, get_or, refl, sym, ap, subst, subst₂, inl, inr}
-use Rattle.std.proofs.lemmas.{Bool.and_from, Bool.and_parts, Bool.cases_Bool, Bool.or_parts, List.length-map}
-use Rattle.std.proofs.lemmas.{List.Sorted.length_permutation, List.Sorted.list_any-IsPermutation, Option.same_Some}
-use Rattle.std.specs.List.{AllByRecursion, list_any, Sorted.IsPermutation}
-use Rattle.sqlite.proofs.Callers.{one_permutation}
-use Rattle.sqlite_keyed.proofs.ListLemmas.{IsPermutation-filter, filter-map, filter_same}
-use Rattle.sqlite_rules.specs.Cast.{as_text, cast}
-use Rattle.sqlite_schema.specs.declared.schema.Kind.TheVariants.{Integer}
-use Rattle.sqlite_value.specs.Order.{Row as Raw, column}
-use Rattle.sqlite_value.specs.declared.value.Value.{Value, TheVariants.Int, TheVariants.Text}
-use Rattle.review_sql_tables.proofs.{Keys.itself, Keys.same_int, Meaning.cast_int}
-use Rattle.review_sql_tables.specs.{Columns.number_in, Columns.text_in, Content.has_key, Content.is_value}
-use Rattle.review_sql_tables.specs.Moved.{AreMoved, columns_of, with_first_epoch, without_parent}
-use Rattle.review_sql_tables.specs.Search.{Search, only, reads, rows_at}
-use Rattle.review_machine_rows.specs.declared.rows.StoredFile.{StoredFile}
-use Rattle.review_sql_records.specs.Forms.{answered, answers, earlier_answers, earlier_key, first_epoch, stored_file, first_projects, file_without_parent, stored_parent, projects}
-use Rattle.review_sql_records.specs.Keyed.{answer_keyed, earlier_answer_keyed, is_natural, is_text, project_keyed}
-use Rattle.review_sql_records.specs.{Laws.no_text, Laws.number_is, declared.rows.Answered.Answered as Rest}
+use Rattle.std.proofs.lemmas.{Bool.not-false, List.Sorted.list_any-IsPermutation}
+use Rattle.sqlite_keyed.proofs.ListLemmas.{filter_none, none_from_any}
+use Rattle.{sqlite_rules.specs.Cast.as_text, sqlite_trees.proofs.ListLemmas.filter_same as filter_as}
+use Rattle.review_sql_tables.proofs.ByTree.{all_weaker as all_of}
+use Rattle.review_sql_tables.proofs.Common.{◌≡◌, ◌≢◌, ◌∙◌, ◌&&◌, ℕ, pos, suc, Bool, true, false, not, List, [], ◌∷◌, Option, Some, None, option_map, map, filter, length, get_or, refl, sym, ap, subst, subst₂, inl, inr, and_from, and_parts, cases_Bool, length-map, length_permutation, same_Some, AllByRecursion, list_any, IsPermutation, one_permutation, IsPermutation-filter, filter-map, filter_same, cast, Integer, Raw, column, Value, Int, Text, number_in, text_in, has_key, is_value, AreMoved, columns_of, with_first_epoch, without_parent, Search, only, reads, rows_at}
+use Rattle.review_sql_tables.proofs.{Found.any_map, Keys.same_int, Meaning.cast_int}
+use Rattle.review_sql_records.proofs.Common.{itself, StoredFile, answers, earlier_answers, earlier_key, first_epoch, file_without_parent, projects, answer_keyed, earlier_answer_keyed, project_keyed, number_is, Rest}
+use Rattle.review_sql_records.specs.Forms.{answered, stored_file, first_projects, stored_parent, is_natural, is_text}
+use Rattle.review_sql_records.specs.Laws.{no_text}
 
 -- the column at a place of a row is that before it of its columns
 behind : (r : Raw) (at : ℕ) → column (columns_of r) at ≡ column r (suc at)
@@ -38,33 +29,12 @@ natural_stays : (v : Value) → is_natural v ≡ true → cast Integer v ≡ v
 natural_stays (Int (pos n)) is = cast_int (pos n)
 natural_stays _ is = absurd (cc)
 
-filter_as : {X : Type 0} (p q : X → Bool) (xs : List X) → AllByRecursion (λ x. p x ≡ q x) xs → filter p xs ≡ filter q xs
-filter_as p q [] all = refl
-filter_as p q (x ∷ xs) all = rw (all.0, filter_as p q xs all.1) refl
-
-filter_none : {X : Type 0} (p : X → Bool) (xs : List X) → list_any p xs ≡ false → filter p xs ≡ []
-filter_none p [] none = refl
-filter_none p (x ∷ xs) none = let parts = or_parts (p x) (list_any p xs) none in rw parts.0 (filter_none p xs parts.1)
-
 any_as : {X : Type 0} (p q : X → Bool) (xs : List X) → AllByRecursion (λ x. p x ≡ q x) xs → list_any p xs ≡ list_any q xs
 any_as p q [] all = refl
 any_as p q (x ∷ xs) all = rw (all.0, any_as p q xs all.1) refl
 
-any_map : {X Y : Type 0} (p : Y → Bool) (f : X → Y) (xs : List X) → list_any p (map f xs) ≡ list_any (λ x. p (f x)) xs
-any_map p f [] = refl
-any_map p f (x ∷ xs) = ap (λ b. p (f x) || b) (any_map p f xs)
-
 all_pass : (keyed : Raw → Bool) (rows : List Raw) → list_any (λ r. not (keyed r)) rows ≡ false → AllByRecursion (λ r. keyed r ≡ true) rows
-all_pass keyed [] none = tt
-all_pass keyed (r ∷ rows) none = let parts = or_parts _ _ none in (pass (keyed r) parts.0, all_pass keyed rows parts.1)
-  where
-    pass : (b : Bool) → not b ≡ false → b ≡ true
-    pass true is = refl
-    pass false is = absurd (cc)
-
-all_of : {P Q : Raw → Type 0} (rows : List Raw) → ((r : Raw) → P r → Q r) → AllByRecursion P rows → AllByRecursion Q rows
-all_of [] f all = tt
-all_of (r ∷ rows) f all = (f r all.0, all_of rows f all.1)
+all_pass keyed rows none = all_of {P = λ r. not (keyed r) ≡ false} {Q = λ r. keyed r ≡ true} rows (λ r is. not-false (keyed r) is) (none_from_any (λ r. not (keyed r)) rows none)
 
 every : {Q : Raw → Type 0} (rows : List Raw) → ((r : Raw) → Q r) → AllByRecursion Q rows
 every [] f = tt
@@ -157,7 +127,7 @@ module _ (old new : List Raw) (moved : AreMoved with_first_epoch old new) where
   pub answers_of_others : (caller epoch : ℕ) (id : List ℕ) → epoch ≢ first_epoch → rows_at (answers.at (record { caller = caller; epoch = epoch; id = id })) new ≡ []
   answers_of_others caller epoch id other =
       let none = none_pass earlier_answers answers with_first_epoch old new moved (identified caller epoch id) (every {Q = λ r. identified caller epoch id (with_first_epoch r) ≡ false} old not_it) in
-      filter_none _ new (any_as _ _ new (every {Q = λ r. has_key (answers.at (record { caller = caller; epoch = epoch; id = id })) r ≡ identified caller epoch id (columns_of r)} new (λ r. sym (identified_behind caller epoch id r))) ∙ none)
+      filter_none _ new (none_from_any _ new (any_as _ _ new (every {Q = λ r. has_key (answers.at (record { caller = caller; epoch = epoch; id = id })) r ≡ identified caller epoch id (columns_of r)} new (λ r. sym (identified_behind caller epoch id r))) ∙ none))
     where
       not_it : (r : Raw) → identified caller epoch id (with_first_epoch r) ≡ false
       not_it r = elim (cases_Bool (identified caller epoch id (with_first_epoch r))) [

@@ -1,19 +1,52 @@
 -- The tables that are not of changes: how their rows are looked up and stored.
-use Rattle.std.specs.Prelude.{nat_le, string_bytes, ℕ, pos, ◌&&◌, Bool, List, [], ◌∷◌, Option, Some, None, option_map}
+use Rattle.std.specs.Prelude.{ℕ, ◌&&◌, Bool, Option, Some, None, is_some, nat_lt, if◌then◌else◌, nat_le, string_bytes, pos, List, [], ◌∷◌, option_map}
 use Rattle.{std.specs.Str.is_utf8, sqlite_value.specs.Order.Row, sqlite_value.specs.Order.column}
-use Rattle.sqlite_value.specs.declared.value.Value.TheVariants.{Int, Text}
-use Rattle.review_names.specs.{Forms.is_commit, Forms.is_slashed_name, Names.is_word, Names.is_account_number}
+use Rattle.sqlite_value.specs.declared.value.Value.{Value, TheVariants.Int, TheVariants.Text}
+use Rattle.review_names.specs.{Forms.is_commit, Forms.is_slashed_name, Names.is_account_number, Names.is_word}
 use Rattle.review_words.specs.{Epochs.is_epoch, History.Identity}
-use Rattle.review_sql_tables.specs.Columns.{number_in, text_in}
 use Rattle.review_sql_tables.specs.Content.{is_number_below, is_natural, is_text}
-use Rattle.review_sql_tables.specs.Search.{Search, Form, with_rowid, with_number}
+use Rattle.review_sql_tables.specs.Search.{number_in, text_in, Search, Form, with_rowid, with_number}
 use Rattle.review_machine_rows.specs.declared.rows.{Base.Base, BranchKey.BranchKey, Kept.Kept, MemberKey.MemberKey}
 use Rattle.review_machine_rows.specs.declared.rows.{PlaceKey.PlaceKey, StoredFile.StoredFile}
-use Rattle.review_sql_records.specs.Keyed.{is_small, account_keyed, member_keyed, project_keyed, base_keyed, answer_keyed, earlier_answer_keyed}
 use Rattle.review_sql_records.specs.declared.rows.{Answered.Answered, DeskRow.DeskRow, RequestKey.RequestKey}
+pub use Rattle.review_sql_tables.specs.Content.{is_natural, is_text}
 use Rattle.review_sql_tables.specs.Desk as table
 pub use Rattle.std.specs.Option.{option_zip as both}
-pub use Rattle.review_sql_records.specs.Keyed.{where_is}
+
+-- ---- which stored rows have a key of their table: those whose columns of the key have values of their kinds
+
+-- a number below 2^32
+abbrev pub is_small : ℕ → Bool
+is_small n = nat_lt n 4294967296
+
+-- a value that passes a test
+abbrev pub where_is : {X : Type 0} → (X → Bool) → Option X → Option X
+where_is test None = None
+where_is test (Some x) = if test x then Some x else None
+
+-- whether a value is a number that passes a test
+abbrev pub is_number : (ℕ → Bool) → Value → Bool
+is_number test v = is_some (where_is test (number_in v))
+
+abbrev pub account_keyed : Row → Bool
+account_keyed r = is_number is_account_number (column r 0)
+
+abbrev pub member_keyed : Row → Bool
+member_keyed r = is_text (column r 1) && is_number is_account_number (column r 2)
+
+abbrev pub project_keyed : Row → Bool
+project_keyed r = is_text (column r 1)
+
+abbrev pub base_keyed : Row → Bool
+base_keyed r = is_text (column r 1) && (is_text (column r 2) && is_number is_small (column r 3))
+
+-- A stored request has one where it is of some identity that a history may hold, in which nothing is asked of the forms of callers, epochs and ids.
+abbrev pub answer_keyed : Row → Bool
+answer_keyed r = is_natural (column r 1) && (is_natural (column r 2) && is_text (column r 3))
+
+-- the same in versions 1 and 2, where identities have no epoch
+abbrev pub earlier_answer_keyed : Row → Bool
+earlier_answer_keyed r = is_natural (column r 1) && is_text (column r 2)
 
 -- ---- accounts
 

@@ -11,12 +11,11 @@ use Rattle.review_names.specs.Names.{is_word, is_account_number}
 use Rattle.review_sql_tables.proofs.Keys.{equal_is, int_is, itself, same_int, same_text, text_is}
 use Rattle.review_sql_tables.proofs.Single.{at_place, by_rowid}
 use Rattle.review_sql_tables.proofs.TextsOfChanges.{delete_account, delete_answer, delete_base, delete_desk, delete_epochs, delete_member, delete_project, insert_account, insert_answer, insert_base, insert_desk, insert_epochs, insert_member, insert_project}
-use Rattle.review_sql_tables.specs.Columns.{number_in, text_in}
-use Rattle.review_sql_tables.specs.{Content.is_value, Fronts.IsExact, Fronts.IsFront, Record.Records, Search.IsLawful}
+use Rattle.review_sql_tables.specs.{Content.is_value, Record.Records}
+use Rattle.review_sql_tables.specs.Search.{number_in, text_in, IsExact, IsFront, IsLawful}
 use Rattle.review_sql_tables.specs.declared.table.Sets.TheVariants.{PutsIn, Replaces}
 use Rattle.review_machine_rows.specs.declared.rows.{MemberKey.MemberKey, PlaceKey.PlaceKey, StoredFile.StoredFile}
-use Rattle.review_sql_records.specs.Forms.{where_is, alone, both, member_parts, group_members, base_parts, branch_bases, accounts, account_form, members, member_form, projects, project_form, stored_parent, parent_text, is_parent, stored_file, bases, base_form, answers, answer_form, epochs, epochs_form, desk, desk_form}
-use Rattle.review_sql_records.specs.Keyed.{is_natural, is_number, is_small, is_text}
+use Rattle.review_sql_records.specs.Forms.{where_is, alone, both, member_parts, group_members, base_parts, branch_bases, accounts, account_form, members, member_form, projects, project_form, stored_parent, parent_text, is_parent, stored_file, bases, base_form, answers, answer_form, epochs, epochs_form, desk, desk_form, is_natural, is_number, is_small, is_text}
 use Rattle.review_sql_records.specs.declared.rows.{Answered.Answered, DeskRow.DeskRow, RequestKey.RequestKey}
 use Rattle.review_sql_tables.specs.Desk as table
 use Rattle.review_sql_tables.specs.declared.texts.TheConstants as texts

@@ -1,3 +1,2 @@
-pub mod Keyed
 pub mod Forms
 pub mod Laws

@@ -2,7 +2,7 @@
 ghost use Rattle.std.specs.Prelude.{pos, ◌≡◌, ◌∷◌, [], length, Some};
 ghost use Rattle.{sqlite.specs.Held.state, sqlite_value.specs.declared.value.Value.TheVariants.Text};
 ghost use Rattle.review_sql_tables.proofs.TextsOfLookups.{find_base, find_base_commit, find_branch, find_last_place};
-ghost use Rattle.review_sql_tables.specs.{Greatest.as_counted, Ran.Looks, Search.rows_at, inner.Words.ShowsCount};
+ghost use Rattle.review_sql_tables.specs.{Ran.Looks, Search.as_counted, Search.rows_at, inner.Words.ShowsCount};
 ghost use Rattle.review_sql_records.specs.Forms.{base_commits, base_parts, base_places, bases, branch_bases};
 ghost use Rattle.review_sql_records.specs.Laws.{base_table, bases_of_branch};
 ghost use Rattle.review_sql_tables.specs.declared.texts.TheConstants as texts;

@@ -2,11 +2,10 @@
 ghost use Rattle.std.specs.List.{list_any};
 ghost use Rattle.std.specs.Prelude.{◌≡◌, ◌≢◌, [], ℕ, List, Option, Some, false, length, not, option_map};
 ghost use Rattle.sqlite_value.specs.Order.{Row as Raw};
-ghost use Rattle.review_sql_tables.specs.Moved.{AreMoved, with_first_epoch, without_parent};
 ghost use Rattle.review_sql_tables.specs.Search.{only, reads, rows_at};
+ghost use Rattle.review_sql_tables.specs.Versions.{AreMoved, with_first_epoch, without_parent};
 ghost use Rattle.review_machine_rows.specs.declared.rows.StoredFile.{StoredFile};
-ghost use Rattle.review_sql_records.specs.Forms.{answers, earlier_answers, first_epoch, first_projects, projects, earlier_key};
-ghost use Rattle.review_sql_records.specs.Keyed.{answer_keyed, earlier_answer_keyed, project_keyed};
+ghost use Rattle.review_sql_records.specs.Forms.{answers, earlier_answers, first_epoch, first_projects, projects, earlier_key, answer_keyed, earlier_answer_keyed, project_keyed};
 ghost use Rattle.review_sql_records.specs.declared.rows.Answered.{Answered as Rest};
 
 /// Where each row of the projects of version 1 has a name, those that moved to the table of version 2 are as many, have names, and have under each name the

@@ -2,8 +2,8 @@
 ghost use Rattle.std.specs.Prelude.{◌≡◌, true, Some, IfOk, nat_le, option_map, pos};
 ghost use Rattle.{sqlite_value.specs.Order.column, review_names.specs.Names.is_account_number};
 ghost use Rattle.review_words.specs.Epochs.{is_epoch};
-ghost use Rattle.review_sql_tables.specs.Columns.{number_in, text_in};
-ghost use Rattle.review_sql_records.specs.{Forms.where_is, Keyed.is_small};
+ghost use Rattle.review_sql_tables.specs.Search.{number_in, text_in};
+ghost use Rattle.review_sql_records.specs.Forms.{where_is, is_small};
 
 use crate::rows::PlaceNo;
 use review_sql_tables::columns::{number_at, text_at};

@@ -2,7 +2,7 @@
 ghost use Rattle.std.specs.Prelude.{◌≡◌, [], true, Some, IfOk, length};
 ghost use Rattle.{sqlite.specs.Held.state, sqlite_value.specs.Order.column};
 ghost use Rattle.review_sql_tables.proofs.TextsOfLookups.{find_project, find_project_name};
-ghost use Rattle.review_sql_tables.specs.{Columns.text_in, Greatest.as_counted, Ran.Looks, Search.rows_at};
+ghost use Rattle.review_sql_tables.specs.{Ran.Looks, Search.text_in, Search.as_counted, Search.rows_at};
 ghost use Rattle.review_sql_tables.specs.inner.Words.{ShowsCount};
 ghost use Rattle.review_sql_records.specs.Forms.{parent_text, project_names, projects, is_parent, stored_parent};
 ghost use Rattle.review_sql_records.specs.Laws.{project_table};

@@ -1,9 +1,5 @@
 -- Tables by their trees.
-use Rattle.std.proofs.Common.{◌≡◌, ℕ, ◌||◌, Bool, true, false, List, [], ◌∷◌, eqb, eqb-true, sym, subst, inl, inr}
-use Rattle.std.proofs.lemmas.Bool.{and_parts, both_ways, cases_Bool, or_cases}
-use Rattle.std.specs.List.{AllByRecursion, list_all, list_any}
-use Rattle.{sqlite_schema.specs.declared.schema.Table.Table, sqlite_trees.specs.Tree.Trees}
-use Rattle.sqlite_value.specs.Order.{Row}
+use Rattle.review_sql_tables.proofs.Common.{◌≡◌, ℕ, ◌||◌, Bool, true, false, List, [], ◌∷◌, eqb, eqb-true, sym, subst, inl, inr, and_parts, both_ways, cases_Bool, or_cases, AllByRecursion, list_all, list_any, Table, Trees, Row}
 
 -- one of these tables has this tree
 abbrev pub has_tree : List Table → ℕ → Bool
@@ -13,13 +9,13 @@ pub at_tree : (P : ℕ → Type 0) (tables : List Table) → AllByRecursion (λ 
 at_tree P [] all t is = absurd (cc)
 at_tree P (x ∷ tables) all t is = elim (or_cases _ _ is) [ inl here ↦ subst P (eqb-true x.tree t here) all.0 | inr later ↦ at_tree P tables all.1 t later ]
 
-pub all_both : {P Q R : Table → Type 0} (tables : List Table) → ((t : Table) → P t → Q t → R t) → AllByRecursion P tables → AllByRecursion Q tables → AllByRecursion R tables
+pub all_both : {X : Type 0} {P Q R : X → Type 0} (xs : List X) → ((x : X) → P x → Q x → R x) → AllByRecursion P xs → AllByRecursion Q xs → AllByRecursion R xs
 all_both [] f p q = tt
-all_both (t ∷ tables) f p q = (f t p.0 q.0, all_both tables f p.1 q.1)
+all_both (x ∷ xs) f p q = (f x p.0 q.0, all_both xs f p.1 q.1)
 
-pub all_weaker : {P Q : Table → Type 0} (tables : List Table) → ((t : Table) → P t → Q t) → AllByRecursion P tables → AllByRecursion Q tables
+pub all_weaker : {X : Type 0} {P Q : X → Type 0} (xs : List X) → ((x : X) → P x → Q x) → AllByRecursion P xs → AllByRecursion Q xs
 all_weaker [] f p = tt
-all_weaker (t ∷ tables) f p = (f t p.0, all_weaker tables f p.1)
+all_weaker (x ∷ xs) f p = (f x p.0, all_weaker xs f p.1)
 
 -- what holds of tables holds of others with their trees
 pub covered : (P : ℕ → Type 0) (tables others : List Table) → AllByRecursion (λ x. P x.tree) tables → list_all (λ o. has_tree tables o.tree) others ≡ true → AllByRecursion (λ x. P x.tree) others

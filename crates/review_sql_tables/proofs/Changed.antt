@@ -1,10 +1,6 @@
 -- What changes leave at each key.
-use Rattle.std.proofs.Common.{◌≡◌, ◌≢◌, ◌∙◌, List, [], ◌∷◌, true, Ordering, Some, option_map, sym, ap, subst, inl, inr}
-use Rattle.std.proofs.lemmas.Bool.{cases_Bool, both_ways}
-use Rattle.{std.specs.BTreeMap.is_at, sqlite_trees.specs.Tree.Trees}
-use Rattle.review_table.specs.{Rows.row_edit_of, Rows.after_row_edit, declared.table.RowEdit.RowEdit}
-use Rattle.review_sql_tables.{proofs.Keys.spares_then, specs.Content.SparesOthers}
-use Rattle.review_sql_tables.specs.{Fronts.IsExact, Fronts.SetsParts, Search.Search, Search.row_at, Search.SetsRows}
+use Rattle.review_sql_tables.proofs.Common.{◌≡◌, ◌≢◌, ◌∙◌, List, [], ◌∷◌, true, Ordering, Some, option_map, sym, ap, subst, inl, inr, cases_Bool, both_ways, is_at, Trees, row_edit_of, after_row_edit, RowEdit, SparesOthers, IsExact, SetsParts, Search, row_at, SetsRows}
+use Rattle.review_sql_tables.proofs.Keys.{spares_then}
 
 module _ {A X : Type 0} (s : Search A X) where
   module _ (cmp : A → A → Ordering) (exact : IsExact cmp) where

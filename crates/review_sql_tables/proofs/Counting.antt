@@ -1,16 +1,8 @@
 -- What a query shows that counts the rows of a key.
-use Rattle.std.proofs.Common.{◌≡◌, ◌∙◌, ℕ, false, List, [], ◌∷◌, Some, sym, ap, subst, map, filter, length}
-use Rattle.std.{proofs.lemmas.List.length-map, proofs.lemmas.List.Sorted.length_permutation, specs.List.AllZip}
-use Rattle.sqlite.proofs.Callers.{reads_as, one_permutation}
-use Rattle.{sqlite.specs.State.State, sqlite.specs.State.Shown, sqlite_keyed.proofs.ListLemmas.filter_same}
-use Rattle.sqlite_sql.specs.{Aggregate.count, Group.Grouping, Group.IsSummary, Group.value_over, Program.overlay}
-use Rattle.sqlite_sql.specs.{Query.Query, Query.Output, Query.output, Term.Env, Term.lit}
-use Rattle.{sqlite_sql.specs.declared.aggregate.AggregateOp.TheVariants.CountRows, sqlite_value.specs.Order.Row}
-use Rattle.sqlite_value.specs.declared.{keys.Collation.TheVariants.Binary, value.Value.TheVariants.Null}
+use Rattle.sqlite_sql.specs.{Aggregate.count, Group.Grouping, Group.IsSummary, Group.value_over, Term.Env}
+use Rattle.sqlite_sql.specs.declared.aggregate.AggregateOp.TheVariants.{CountRows}
+use Rattle.review_sql_tables.proofs.Common.{◌≡◌, ◌∙◌, ℕ, false, List, [], ◌∷◌, Some, sym, ap, subst, map, filter, length, length-map, length_permutation, AllZip, reads_as, one_permutation, State, Shown, filter_same, overlay, Query, Output, output, lit, Row, Binary, Null, has_key, desk_schema, At, Asks, values_of, tests_from, ShowsCount, count_where}
 use Rattle.review_sql_tables.proofs.{Meaning.tested, Meaning.plain, Queries.passes, Queries.staged_is}
-use Rattle.review_sql_tables.specs.{Content.has_key, Desk.desk_schema, Search.At}
-use Rattle.review_sql_tables.specs.Texts.{Asks, values_of, tests_from}
-use Rattle.review_sql_tables.specs.inner.Words.{ShowsCount, count_where}
 
 -- how all rows are grouped
 abbrev all_rows : Grouping

@@ -1,23 +1,10 @@
 -- What a query shows that is cut: the row with the greatest value of a column.
-use Rattle.std.proofs.Common.{◌≡◌, ◌∙◌, ℕ, suc, pos, List, [], ◌∷◌, false, Ordering, Less, Equal, Greater, refl, sym, ap, subst, subst₂, arith, map, filter, take, is_gt, is_lt, inl, inr, IsSorted}
-use Rattle.std.proofs.lemmas.Cmp.{upto, on_total}
-use Rattle.std.proofs.lemmas.List.Elements.{recursion_from_All, All-from_recursion}
-use Rattle.std.proofs.lemmas.List.Sorted.{length_permutation, All-permutation, IsPermutation-sym}
-use Rattle.std.specs.{Cmp.IsTotalOrder, List.AllByRecursion, List.Sorted.IsPermutation}
-use Rattle.std.specs.Ordering.{ordering_reverse, ordering_then}
-use Rattle.sqlite.{proofs.Callers.reads_as, specs.State.State, specs.State.Shown}
-use Rattle.sqlite_keyed.proofs.ListLemmas.{all_weaker, all_map, all_unmap, filter_same, map-map}
-use Rattle.{sqlite_rules.specs.Lists.Has, sqlite_sql.proofs.QueryLemmas.key_cmp_total, sqlite_sql.specs.Program.overlay}
-use Rattle.sqlite_sql.specs.Query.{Query, IsAnswer, Output, output, output_cmp}
-use Rattle.sqlite_sql.specs.Term.{Term, lit, col}
-use Rattle.sqlite_trees.specs.Tree.{Trees}
-use Rattle.sqlite_value.specs.Order.{Row, column, value_cmp}
-use Rattle.sqlite_value.specs.declared.value.Value.TheVariants.{Null, Int}
+use Rattle.std.{proofs.Common.IsSorted, proofs.lemmas.Cmp.upto, proofs.lemmas.Cmp.on_total, specs.Cmp.IsTotalOrder}
+use Rattle.sqlite_sql.{proofs.QueryLemmas.key_cmp_total, specs.Query.output_cmp}
+use Rattle.review_sql_tables.proofs.Common.{◌≡◌, ◌∙◌, ℕ, suc, pos, List, [], ◌∷◌, false, Ordering, Less, Equal, Greater, refl, sym, ap, subst, subst₂, arith, map, filter, take, is_gt, is_lt, inl, inr, recursion_from_All, All-from_recursion, length_permutation, All-permutation, IsPermutation-sym, AllByRecursion, IsPermutation, ordering_reverse, ordering_then, reads_as, State, Shown, all_weaker, all_map, all_unmap, filter_same, map-map, Has, overlay, Query, IsAnswer, Output, output, Term, lit, col, Trees, Row, column, value_cmp, Null, Int, has_key, desk_schema, At, Asks, values_of, tests_from, over_table, last_where}
 use Rattle.review_sql_tables.proofs.Meaning.{tested, plain, shows_columns}
 use Rattle.review_sql_tables.proofs.Queries.{passes, shows, staged_is}
-use Rattle.review_sql_tables.specs.{Content.has_key, Desk.desk_schema, Search.At}
-use Rattle.review_sql_tables.specs.Texts.{Asks, values_of, tests_from, over_table, falling, last_where}
-use Rattle.review_sql_tables.specs.inner.Words.{ShowsGreatest}
+use Rattle.review_sql_tables.specs.{Texts.falling, inner.Words.ShowsGreatest}
 
 -- ---- the first of rows in order is at most each
 

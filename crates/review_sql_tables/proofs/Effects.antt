@@ -1,20 +1,9 @@
 -- What the texts of changes do.
-use Rattle.std.proofs.Common.{◌≡◌, ◌∙◌, ◌/◌, ℕ, suc, zero, ℤ, List, [], ◌∷◌, Some, Ok, Bool, ◌||◌, true, false, refl, sym, ap, subst, length, slice_get, eqb, filter, not, pos, ◌&&◌}
-use Rattle.std.{proofs.lemmas.Bool.Decides.Decides-eqb, specs.List.AllByRecursion, specs.List.list_any}
-use Rattle.sqlite.proofs.Callers.{command_of}
-use Rattle.sqlite.specs.{Effect.value_rows, Listing.understood, State.State, State.Executes}
-use Rattle.sqlite_rules.specs.{Cast.cast_row, Edit.edit_of, Edit.id_in, declared.error.Rowids.TheVariants.Chosen}
-use Rattle.sqlite_schema.specs.declared.command.Command.TheVariants.{Delete, Update}
-use Rattle.sqlite_schema.specs.declared.schema.Table.{Table}
-use Rattle.sqlite_sql.specs.Term.{Term, col, eval_all}
-use Rattle.sqlite_trees.specs.Tree.{rowid}
-use Rattle.sqlite_value.specs.{Order.Row, Order.column, declared.value.Value.TheVariants.Int}
+use Rattle.std.proofs.lemmas.Bool.Decides.{Decides-eqb}
+use Rattle.review_sql_tables.proofs.Common.{◌≡◌, ◌∙◌, ◌/◌, ℕ, suc, zero, ℤ, List, [], ◌∷◌, Some, Ok, Bool, ◌||◌, true, false, refl, sym, ap, subst, length, slice_get, eqb, filter, not, pos, ◌&&◌, AllByRecursion, list_any, command_of, value_rows, understood, State, Executes, cast_row, edit_of, id_in, Chosen, Delete, Update, Table, Term, col, eval_all, rowid, Row, column, Int, Adds, Remakes, Removes, RemovesWhere, SparesOthers, has_key, is_number_below, is_natural, is_text, desk_schema, IsReady, At, Deletes, Inserts, Updates, over_table, tests_from, values_of, IsSimple, DeletesBelow, tests_below}
 use Rattle.review_sql_tables.proofs.{Meaning.tested, Meaning.tested_below, Meaning.plain, Queries.passes}
 use Rattle.review_sql_tables.proofs.Statements.{inserts, updates, deletes}
-use Rattle.review_sql_tables.specs.Content.{Adds, Remakes, Removes, RemovesWhere, SparesOthers, has_key, is_number_below, is_natural, is_text}
-use Rattle.review_sql_tables.specs.{Desk.desk_schema, Ran.IsReady, Search.At}
-use Rattle.review_sql_tables.specs.Texts.{Alters, Deletes, Inserts, Updates, changed_terms, over_table, tests_from, values_of, new_terms}
-use Rattle.review_sql_tables.specs.inner.{Moving.IsSimple, Words.DeletesBelow, Words.tests_below}
+use Rattle.review_sql_tables.specs.Texts.{Alters, changed_terms, new_terms}
 
 -- ---- the tables of a desk
 

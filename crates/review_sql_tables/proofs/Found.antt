@@ -1,15 +1,7 @@
 -- What was found, as it reads.
-use Rattle.std.proofs.Common.{◌≡◌, ◌∙◌, List, [], ◌∷◌, map, not, Bool, true, false, Option, Some, None, Ok, Err, Result, IfOk, refl, sym, ap, subst, arith, is_some, IsTrue, inl, inr}
-use Rattle.std.proofs.lemmas.List.Elements.{recursion_from_All, All-from_recursion}
-use Rattle.std.proofs.lemmas.List.Sorted.{length_permutation, IsPermutation-map, All-permutation}
-use Rattle.std.specs.List.{list_any, AllByRecursion, Sorted.IsPermutation}
-use Rattle.sqlite.proofs.{Callers.one_permutation, StateLemmas.survives_then}
-use Rattle.sqlite.specs.{Effect.Database, State.State, State.HasCleanDisk, declared.error.Error.Error}
-use Rattle.sqlite_keyed.proofs.ListLemmas.{IsPermutation-filter, none_counted, map-map}
-use Rattle.{sqlite_rules.specs.Lists.Has, sqlite_trees.specs.Tree.Trees, sqlite_value.specs.Order.Row}
-use Rattle.review_sql_tables.{proofs.Sequences.keeps_then, specs.Greatest.HasOne, specs.Ran.Looks}
-use Rattle.review_sql_tables.specs.Search.{Search, shown, reads, only, row_at, rows_at, Finds, AreFound}
-use Rattle.review_sql_tables.specs.inner.Words.{first_as, WereRead}
+use Rattle.std.proofs.lemmas.List.Sorted.{list_any-IsPermutation}
+use Rattle.review_sql_tables.proofs.Common.{◌||◌, ◌≡◌, ◌∙◌, List, [], ◌∷◌, map, not, Bool, Option, Some, None, Ok, Err, Result, IfOk, refl, sym, ap, subst, arith, is_some, IsTrue, inl, inr, recursion_from_All, All-from_recursion, length_permutation, IsPermutation-map, All-permutation, list_any, AllByRecursion, IsPermutation, one_permutation, survives_then, Database, State, Error, map-map, Has, Trees, Row, HasOne, Looks, Search, shown, reads, only, row_at, rows_at, Finds, AreFound, first_as, WereRead}
+use Rattle.review_sql_tables.proofs.Sequences.{clean_before, keeps_then}
 
 -- one row of a table is shown as one row
 only_shown : {X : Type 0} (f : Row → Row) (read : Row → Option X) (xs ys : List Row) → IsPermutation (map f xs) ys → only read ys ≡ only (λ r. read (f r)) xs
@@ -22,25 +14,14 @@ only_shown f read (x ∷ z ∷ xs) _ h = absurd (let e = length_permutation _ _ 
 pub one_found : {A X : Type 0} (s : Search A X) (db : Trees) (a : A) (rows : List Row) → Finds s a db rows → only s.read rows ≡ row_at s db a
 one_found s db a rows h = only_shown (shown s) s.read (rows_at (s.at a) (db s.tree)) rows h
 
-any_permuted : (q : Row → Bool) (xs ys : List Row) → IsPermutation xs ys → list_any q ys ≡ list_any q xs
-any_permuted q xs ys same =
-    let len = length_permutation _ _ (IsPermutation-filter q xs ys same) in
-    either (list_any q xs) (list_any q ys) (sym (none_counted q xs) ∙ (ap (λ n. Rattle.std.proofs.Common.eqb n 0) (sym len) ∙ none_counted q ys))
-  where
-    either : (x y : Bool) → not x ≡ not y → y ≡ x
-    either true true e = refl
-    either true false e = absurd (cc)
-    either false true e = absurd (cc)
-    either false false e = refl
-
-any_shown : (f : Row → Row) (q : Row → Bool) (xs : List Row) → list_any q (map f xs) ≡ list_any (λ r. q (f r)) xs
-any_shown f q [] = refl
-any_shown f q (x ∷ xs) = ap (λ b. Rattle.std.proofs.Common.◌||◌ (q (f x)) b) (any_shown f q xs)
+pub any_map : {X Y : Type 0} (p : Y → Bool) (f : X → Y) (xs : List X) → list_any p (map f xs) ≡ list_any (λ x. p (f x)) xs
+any_map p f [] = refl
+any_map p f (x ∷ xs) = ap (λ b. p (f x) || b) (any_map p f xs)
 
 pub all_found : {A X : Type 0} (s : Search A X) (db : Trees) (a : A) (rows : List Row) (found : Option (List X)) → WereRead s.read rows found → Finds s a db rows → AreFound s db a found
 all_found s db a rows None odd h =
     let mine = rows_at (s.at a) (db s.tree) in
-    sym (any_shown (shown s) (λ r. not (is_some (s.read r))) mine) ∙ (sym (any_permuted (λ r. not (is_some (s.read r))) (map (shown s) mine) rows h) ∙ odd)
+    sym (any_map (λ r. not (is_some (s.read r))) (shown s) mine) ∙ (list_any-IsPermutation (λ r. not (is_some (s.read r))) (map (shown s) mine) rows h ∙ odd)
 all_found s db a rows (Some xs) all h =
     let mine = rows_at (s.at a) (db s.tree) in
     subst (IsPermutation (map (reads s) mine)) all (subst (λ l. IsPermutation l (map s.read rows)) (map-map s.read (shown s) mine) (IsPermutation-map s.read (map (shown s) mine) rows h))
@@ -60,20 +41,16 @@ pub look_both : {X Y : Type 0} (F : Trees → X → Type 0) (G : Trees → Y →
     → Looks F a b (Ok x) → Looks G b c r → Looks (λ db y. F db x × G db y) a c r
 look_both {X} {Y} F G a b c x r one two = record {
   found = λ clean on desk.
-      let earlier = back clean in
+      let earlier = clean_before two.survives clean in
       let first = one.found earlier on desk in
       by_found r first (two.found clean (one.kept earlier on).1 (λ is_open. ap (λ (d : Database). d.schema) first.0 ∙ desk ((one.kept earlier on).0.was_open is_open)));
   kept = λ clean on.
-      let earlier = back clean in
-      let first = one.kept earlier on in
+      let first = one.kept (clean_before two.survives clean) on in
       let second = two.kept clean first.1 in
       (keeps_then a b c first.0 second.0, second.1);
   survives = survives_then a b c _ _ _ (λ _ db h. h) (λ _ db h. h) one.survives two.survives;
 }
   where
-    back : HasCleanDisk c → HasCleanDisk b
-    back clean = omega (arith, two.survives.clean)
-
     by_found : (r : Result Y Error) → (b.now ≡ a.now) × IsTrue b.is_open × F a.now.trees x → IfOk r (λ y. (c.now ≡ b.now) × IsTrue c.is_open × G b.now.trees y)
         → IfOk r (λ y. (c.now ≡ a.now) × IsTrue c.is_open × (F a.now.trees x × G a.now.trees y))
     by_found (Ok y) first second = (second.0 ∙ first.0, second.1, (first.2, subst (λ (t : Trees). G t y) (ap (λ (d : Database). d.trees) first.0) second.2))

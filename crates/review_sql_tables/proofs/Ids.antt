@@ -1,21 +1,10 @@
 -- Rowids that were read, and what they say of the rows of a table.
-use Rattle.std.proofs.Common.{◌≡◌, ◌∙◌, ◌&&◌, ℕ, zero, suc, ℤ, ◌+◌, ◌≤◌, List, [], ◌∷◌, ◌++◌, take, drop, map, length, Bool, true, false, cond, nat_eq, eqb-true, eq-eqb, Some, None, refl, sym, ap, subst, IsTrue, arith, inl, inr}
-use Rattle.std.proofs.lemmas.Bool.{or_parts, cases_Bool, Decides.Decides-and, Decides.Decides-like}
-use Rattle.std.proofs.lemmas.Cmp.{int_cmp_total, int_eq_equiv}
+use Rattle.std.proofs.lemmas.{Bool.Decides.Decides-and, Bool.Decides.Decides-like, Cmp.int_cmp_total, Cmp.int_eq_equiv}
 use Rattle.std.proofs.lemmas.List.{Filters.dedup_is, Kept.IsStrictlySortedBy-dedup}
-use Rattle.std.proofs.lemmas.List.Sorted.{IsPermutation-sym, IsPermutation-map, length_permutation}
 use Rattle.std.proofs.lemmas.Map.Keys.{IsDistinct-from_sorted, IsDistinct-IsPermutation}
-use Rattle.std.specs.{Bool.Decides, List.AllByRecursion, List.IsDistinct, List.dedup, List.dedup_from}
-use Rattle.std.specs.List.{Retain.IsFiltered, Retain.DiffersFromLast, Sorted.IsPermutation, Sorted.IsSorted}
-use Rattle.std.specs.Ordering.{int_cmp, int_eq, is_eq}
-use Rattle.{sqlite_keyed.proofs.ListLemmas.map-map, sqlite_rules.specs.Edit.is_taken}
-use Rattle.sqlite_schema.specs.declared.schema.Table.{Table}
-use Rattle.sqlite_trees.{proofs.ListLemmas.all-permutation, specs.Tree.Trees, specs.Tree.rowid, specs.View.is_int}
-use Rattle.sqlite_value.{proofs.OrderLemmas.value_cmp-Int, specs.Order.Row, specs.Order.column}
-use Rattle.sqlite_value.specs.declared.value.Value.{Value, TheVariants.Int}
-use Rattle.review_sql_tables.{proofs.Lists.eq_back, specs.Content.AreApart, specs.Desk.desk_tables}
-use Rattle.review_sql_tables.specs.inner.Rowids.{firsts, is_same, AreOwn, AreIds}
-use Rattle.review_sql_tables.specs.inner.Words.{table_at, FindsIds}
+use Rattle.std.specs.List.{dedup, dedup_from, Retain.IsFiltered, Retain.DiffersFromLast, Sorted.IsSorted}
+use Rattle.review_sql_tables.proofs.Common.{◌≡◌, ◌∙◌, ◌&&◌, ℕ, zero, suc, ℤ, ◌+◌, ◌≤◌, List, [], ◌∷◌, ◌++◌, take, drop, map, length, Bool, true, false, cond, nat_eq, eqb-true, eq-eqb, Some, None, refl, sym, ap, subst, IsTrue, arith, inl, inr, or_parts, cases_Bool, IsPermutation-sym, IsPermutation-map, length_permutation, Decides, AllByRecursion, IsDistinct, IsPermutation, int_cmp, int_eq, is_eq, map-map, is_taken, Table, all-permutation, Trees, rowid, is_int, value_cmp-Int, Row, column, Value, Int, AreApart, desk_tables, firsts, AreOwn, AreIds, table_at, FindsIds}
+use Rattle.review_sql_tables.{proofs.Lists.eq_back, specs.inner.Words.is_same}
 
 int_back : (m n : ℤ) → int_eq m n ≡ int_eq n m
 int_back m n = int_eq_equiv.symm m n
@@ -64,8 +53,7 @@ differ old up new same sorted filtered =
     let is = dedup_is int_eq up new filtered in
     let long = length_permutation old up same in (
       λ yes.
-          let e = eqb-true (length new) (length old) yes in
-          let all = whole_kept up (sym (ap length is) ∙ (e ∙ sym long)) in
+          let all = whole_kept up (sym (ap length is) ∙ ((eqb-true (length new) (length old) yes) ∙ sym long)) in
           IsDistinct-IsPermutation int_eq int_back up old (IsPermutation-sym old up same) (subst (IsDistinct int_eq) all (strictly up sorted)),
       λ apart. eq-eqb (length new) (length old) (ap length is ∙ (ap length (whole_untouched up (IsDistinct-IsPermutation int_eq int_back old up same apart)) ∙ long)),
     )

@@ -1,13 +1,7 @@
 -- Rows at keys.
-use Rattle.std.proofs.Common.{◌≡◌, ◌≢◌, ◌∙◌, ◌+◌, ◌≤◌, ℕ, ℤ, pos, List, [], ◌∷◌, filter, length, Bool, true, false, not, Some, None, refl, sym, ap, subst, inl, inr, arith}
-use Rattle.std.proofs.lemmas.{Bool.cases_Bool, Bool.both_ways, Cmp.tied_itself, Map.Lookups.exact_bytes}
-use Rattle.{std.specs.Ordering.is_eq, sqlite_keyed.proofs.ListLemmas.filter-filter, sqlite_trees.specs.Tree.Trees}
-use Rattle.sqlite_value.proofs.OrderLemmas.{value_cmp_total, value_cmp-Text}
-use Rattle.sqlite_value.specs.Order.{Row, value_cmp}
-use Rattle.sqlite_value.specs.declared.value.Value.{Value, TheVariants.Int, TheVariants.Text}
-use Rattle.review_sql_tables.specs.Content.{has_key, is_value, IsAdded, Remakes, Removes, SparesOthers}
-use Rattle.review_sql_tables.specs.Search.{At, Search, reads, only, Form, IsLawful, Puts, SetsRow}
-use Rattle.review_sql_tables.specs.inner.Words.{Sets, Then}
+use Rattle.std.proofs.lemmas.List.{nil_from_length}
+use Rattle.review_sql_tables.proofs.Common.{◌≡◌, ◌≢◌, ◌∙◌, ◌+◌, ◌≤◌, ℕ, ℤ, pos, List, [], ◌∷◌, filter, length, Bool, true, false, not, Some, None, refl, sym, ap, subst, inl, inr, arith, cases_Bool, both_ways, tied_itself, exact_bytes, is_eq, filter-filter, Trees, value_cmp_total, value_cmp-Text, Row, value_cmp, Value, Int, Text, has_key, is_value, IsAdded, Remakes, Removes, SparesOthers, At, Search, reads, only, SetsRow, Then}
+use Rattle.review_sql_tables.specs.{Search.Form, Search.IsLawful, Search.Puts, inner.Words.Sets}
 pub use Rattle.review_sql_tables.proofs.Values.{equal_is, same_value, same_whole, int_is}
 
 pub same_int : (v : Value) (m n : ℕ) → is_value v (Int (pos m)) ≡ true → is_value v (Int (pos n)) ≡ true → m ≡ n
@@ -70,10 +64,6 @@ all_others key (r ∷ rows) none = elim (cases_Bool (has_key key r)) [
   | inr apart ↦ let less : filter (has_key key) rows ≡ [] = rw apart at none in rw apart (ap (λ l. r ∷ l) (all_others key rows less))
 ]
 
-empty : (rows : List Row) → length rows ≡ 0 → rows ≡ []
-empty [] none = refl
-empty (r ∷ rows) none = absurd (omega (arith, none))
-
 module _ {A X : Type 0} (s : Search A X) (f : Form A X) (lawful : IsLawful s f) where
   keys_apart : (a b : A) → a ≢ b → (r : Row) → has_key (s.at b) r ≡ true → has_key (s.at a) r ≡ false
   keys_apart a b other r is = elim (cases_Bool (has_key (s.at a) r)) [ inl too ↦ absurd (other (lawful.exact a b r too is)) | inr apart ↦ apart ]
@@ -117,7 +107,7 @@ module _ {A X : Type 0} (s : Search A X) (f : Form A X) (lawful : IsLawful s f) 
     pub row_new : (old new : Trees) → length (filter (has_key (s.at key)) (new s.tree)) ≤ 1 → Puts s f key x old new → SetsRow s key (Some x) old new
     row_new old new single put =
         let more = put.1.rows.count (has_key (s.at key)) (lawful.keyed key x put.0) in
-        row_first old new (empty _ (omega (arith, single, more))) put
+        row_first old new (nil_from_length _ (omega (arith, single, more))) put
 
     -- the rows of the key got other values
     module _ (old mid : Trees) (count : ℕ) (it : Remakes s.tree (s.at key) (f.stored key x) count old mid) where

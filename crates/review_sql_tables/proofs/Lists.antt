@@ -1,14 +1,7 @@
 -- Rows put into a tree, and taken out.
-use Rattle.std.proofs.Common.{◌≡◌, ◌∙◌, ℤ, ◌+◌, List, [], ◌∷◌, map, filter, length, Bool, ◌||◌, true, false, not, cond, Ordering, Less, Equal, Greater, refl, sym, ap, IsTrue, arith, inl, inr}
-use Rattle.std.proofs.lemmas.{Bool.or_parts, Bool.cases_Bool, Cmp.tied_itself, List.Sorted.length_permutation}
-use Rattle.std.specs.List.{AllByRecursion, list_any, Sorted.IsPermutation}
-use Rattle.std.specs.Ordering.{is_eq, match_ordering, ordering_reverse}
-use Rattle.sqlite_keyed.proofs.ListLemmas.{IsPermutation-filter, none_counted, filter_same}
-use Rattle.sqlite_rules.{proofs.TableLemmas.int_is, specs.Edit.id_in, specs.Edit.is_taken, specs.Edit.without_all}
-use Rattle.sqlite_trees.specs.{Tree.rowid, Tree.put_row, Tree.without_rowid, Tree.has_rowid, View.is_int}
-use Rattle.sqlite_value.proofs.OrderLemmas.{value_cmp_total}
-use Rattle.sqlite_value.specs.{Order.Row, Order.value_cmp, declared.value.Value.Value}
-use Rattle.review_sql_tables.specs.Content.{AreApart, IsAdded}
+use Rattle.std.proofs.lemmas.List.Sorted.{list_any-IsPermutation}
+use Rattle.sqlite_trees.specs.Tree.{without_rowid, has_rowid}
+use Rattle.review_sql_tables.proofs.Common.{sym, ◌≡◌, ◌∙◌, ℤ, ◌+◌, List, [], ◌∷◌, map, filter, length, Bool, ◌||◌, true, false, not, cond, Ordering, Less, Equal, Greater, refl, ap, IsTrue, arith, inl, inr, or_parts, cases_Bool, tied_itself, AllByRecursion, list_any, IsPermutation, is_eq, match_ordering, ordering_reverse, filter_same, int_is, id_in, is_taken, without_all, rowid, put_row, is_int, value_cmp_total, Row, value_cmp, Value, AreApart, IsAdded}
 
 module _ (new : Row) (p : Row → Bool) where
   abbrev Put : Ordering → Row → List Row → List Row
@@ -156,21 +149,8 @@ without_is (id ∷ ids) rows = without_is ids (without_rowid id rows) ∙ both r
       | inr apart ↦ rw apart (ap (λ l. cond (not (list_any (λ i. has_rowid i x) ids)) (x ∷ l) l) (both xs))
     ]
 
-any_permuted : (q : ℤ → Bool) (xs ys : List ℤ) → IsPermutation xs ys → list_any q ys ≡ list_any q xs
-any_permuted q xs ys same =
-    let len = length_permutation _ _ (IsPermutation-filter q xs ys same) in
-    let a = none_counted q xs in
-    let b = none_counted q ys in
-    either (list_any q xs) (list_any q ys) (sym a ∙ (ap (λ n. Rattle.std.proofs.Common.eqb n 0) (sym len) ∙ b))
-  where
-    either : (x y : Bool) → not x ≡ not y → y ≡ x
-    either true true e = refl
-    either true false e = absurd (cc)
-    either false true e = absurd (cc)
-    either false false e = refl
-
 -- what a DELETE takes out is what passed its test
 pub removed : (p : Row → Bool) (rows : List Row) (ids : List ℤ) → AreApart rows → IsPermutation (map id_of (filter p rows)) ids → without_all rows ids ≡ filter (λ r. not (p r)) rows
 removed p rows ids all same =
     let mine = map id_of (filter p rows) in
-    without_is ids rows ∙ (filter_same _ _ (λ r. ap not (any_permuted (λ id. has_rowid id r) mine ids same)) rows ∙ filter_on (has_one mine) p rows (passing p rows all))
+    without_is ids rows ∙ (filter_same _ _ (λ r. ap not (sym (list_any-IsPermutation (λ id. has_rowid id r) mine ids same))) rows ∙ filter_on (has_one mine) p rows (passing p rows all))

@@ -1,27 +1,13 @@
 -- What a fixed CREATE TABLE does.
-use Rattle.std.proofs.Common.{◌≡◌, ◌<◌, ℕ, zero, suc, List, [], false, None, Ok, refl, sym, ap, subst, subst₂, ◌∙◌, map, take, length, slice_index_or, append-nil, arith, ◌∷◌, ◌++◌, true, inl, inr, eqb, eqb-true, Bool}
-use Rattle.std.proofs.lemmas.{Bool.or_cases, Bool.and_parts, List.append_assoc}
-use Rattle.std.specs.{Bool.Decides, List.AllByRecursion, List.list_all, List.list_any}
-use Rattle.sqlite.proofs.Callers.{IsPlain, command_of, statement_of, runs_as, memory_is_clean}
-use Rattle.sqlite.specs.{Does.Tally, Does.lacks_sequence, Effect.Database, Effect.IsDatabase, Held.Held, Held.state}
-use Rattle.sqlite.specs.{Listing.understood, State.State, State.Executes, State.Writes}
-use Rattle.sqlite.specs.Steps.{over_memory, IsEmpty}
-use Rattle.sqlite_catalog.specs.Change.{created, next_tree, KeepsRows}
-use Rattle.sqlite_resolve.specs.Compile.{table_defined_by}
-use Rattle.sqlite_schema.specs.declared.command.Command.TheVariants.{CreateTable}
-use Rattle.sqlite_schema.specs.declared.schema.{Column.Column, Schema.Schema, Table.Table}
-use Rattle.{sqlite_sql.specs.Ops.is_null, sqlite_tied.specs.Compute.everything, sqlite_trees.specs.Tree.Trees}
-use Rattle.{sqlite_trees.specs.declared.memory.MemStore.MemStore, sqlite_value.specs.declared.value.Value.Value}
-use Rattle.sqlite_value.specs.declared.value.Value.TheVariants.{Null, Int, Real, Text, Blob}
+use Rattle.sqlite.proofs.Callers.{memory_is_clean}
+use Rattle.sqlite.specs.{Does.lacks_sequence, State.Writes, Steps.over_memory, Steps.IsEmpty}
+use Rattle.{sqlite_catalog.specs.Change.created, sqlite_schema.specs.declared.command.Command.TheVariants.CreateTable}
+use Rattle.sqlite_trees.specs.declared.memory.MemStore.{MemStore}
+use Rattle.review_sql_tables.proofs.Common.{◌≡◌, ◌<◌, ℕ, zero, suc, List, [], false, None, Ok, refl, sym, ap, subst, subst₂, ◌∙◌, map, take, length, slice_index_or, append-nil, arith, ◌∷◌, ◌++◌, true, inl, inr, eqb, eqb-true, Bool, or_cases, and_parts, append_assoc, Decides, AllByRecursion, list_all, list_any, IsPlain, command_of, statement_of, runs_as, Tally, Database, IsDatabase, Held, state, understood, State, Executes, next_tree, KeepsRows, table_defined_by, Column, Schema, Table, is_null, everything, Trees, Value, Null, Int, Real, Text, Blob, AreApart, desk_schema, schema_of, schema_0, tables_1, tables_2, simple, MakesText, IsBlank, IsMade, MakesBy, Grows, IsReady, Transacts, schema_at, TablesVersion, First, Second, Third, IsSimple}
 use Rattle.review_sql_tables.proofs.{Effects.are_simple, Sequences.Next, Statements.went, Statements.same_value}
-use Rattle.review_sql_tables.{proofs.TextsOfTables.◌also◌, specs.Content.AreApart}
-use Rattle.review_sql_tables.specs.Desk.{desk_schema, schema_of, schema_0, tables_1, tables_2, simple}
-use Rattle.review_sql_tables.specs.Made.{MakesText, IsBlank, IsMade, MakesBy, Grows}
+use Rattle.review_sql_tables.proofs.TextsOfTables.{◌also◌}
 use Rattle.review_sql_tables.specs.Plain.{IsPlainColumn, IsPlainForm, IsPlainSchema}
-use Rattle.review_sql_tables.specs.{Ran.IsReady, Ran.Transacts, Versions.schema_at}
-use Rattle.review_sql_tables.specs.declared.{texts.TheConstants.CREATE, versions.TablesVersion.TablesVersion}
-use Rattle.review_sql_tables.specs.declared.versions.TablesVersion.TheVariants.{First, Second, Third}
-use Rattle.review_sql_tables.specs.inner.Moving.{IsSimple}
+use Rattle.review_sql_tables.specs.declared.texts.TheConstants.{CREATE}
 
 -- a table is made, and the others keep their rows
 pub record Makes (schema : Schema) (table : Table) (old new : State) : Type 0 where

@@ -1,27 +1,12 @@
 -- What the parts of texts mean: the tests of a WHERE, the values of an INSERT, and whole queries.
-use Rattle.std.proofs.Common.{arith, inl, inr, codes, ◌≡◌, ◌∙◌, ◌&&◌, ◌++◌, ◌^◌, ◌-◌, ℕ, zero, suc, ℤ, get_or, List, [], ◌∷◌, Bool, cond, Some, true, false, refl, sym, ap, map, filter, drop, nat_le, subst, subst₂}
-use Rattle.std.proofs.lemmas.{Bool.cases_Bool, Bool.ltb-true, List.get_or-drop}
-use Rattle.std.specs.{Cmp.Lexicographic.slice_cmp, List.list_all, List.Sorted.IsPermutation}
-use Rattle.std.specs.Ordering.{is_eq, is_lt, nat_cmp}
-use Rattle.std.specs.Prelude.{int_lt, pos, negsuc, nat_lt, not}
-use Rattle.std.specs.declared.cmp.Ordering.TheVariants.{Less, Equal, Greater}
-use Rattle.sqlite.{proofs.Callers.reads_as, specs.State.State, specs.State.Shown}
-use Rattle.sqlite_keyed.proofs.ListLemmas.{filter_same, map-map}
-use Rattle.{sqlite_rules.specs.Cast.cast, sqlite_schema.specs.declared.schema.Kind.TheVariants.Integer}
-use Rattle.sqlite_sql.specs.{Ops.unary, Ops.binary, Ops.is_true, Ops.is_null, Ops.from_truth, Program.overlay}
-use Rattle.sqlite_sql.specs.{Term.col, Term.eval, Term.holds, declared.ops.BinaryOp.TheVariants.Compare}
+use Rattle.std.proofs.{Common.◌^◌, lemmas.Bool.ltb-true, lemmas.List.get_or-drop, lemmas.List.Folds.list_all-append}
+use Rattle.sqlite_sql.specs.Ops.{unary, is_true, from_truth}
+use Rattle.sqlite_sql.specs.{Term.eval, declared.ops.BinaryOp.TheVariants.Compare}
 use Rattle.sqlite_sql.specs.declared.ops.CompareOp.TheVariants.{Eq, Lt}
 use Rattle.sqlite_sql.specs.declared.ops.UnaryOp.TheVariants.{Not, ToNumeric, TypeOf}
-use Rattle.sqlite_trees.specs.{Tree.Trees, Tree.rowid, View.is_int}
-use Rattle.sqlite_value.proofs.OrderLemmas.{value_cmp-Int, value_cmp-Null, value_cmp-Text}
-use Rattle.sqlite_value.specs.Order.{Row, column, value_cmp}
-use Rattle.sqlite_value.specs.declared.{keys.Collation.TheVariants.Binary, value.Value.Value}
-use Rattle.sqlite_value.specs.declared.value.Value.TheVariants.{Null, Int, Real, Text, Blob}
+use Rattle.review_sql_tables.proofs.Common.{arith, inl, inr, codes, ◌≡◌, ◌∙◌, ◌&&◌, ◌-◌, ℕ, zero, suc, ℤ, get_or, List, [], ◌∷◌, Bool, cond, Some, true, false, refl, sym, ap, map, filter, drop, nat_le, subst, subst₂, cases_Bool, slice_cmp, list_all, IsPermutation, is_eq, is_lt, nat_cmp, int_lt, pos, negsuc, nat_lt, not, Less, Equal, Greater, reads_as, State, Shown, filter_same, map-map, cast, Integer, binary, is_null, overlay, col, holds, Trees, rowid, is_int, value_cmp-Int, value_cmp-Null, value_cmp-Text, Row, column, value_cmp, Binary, Value, Null, Int, Real, Text, Blob, has_key, is_number_below, is_natural, is_text, is_value, desk_schema, At, Asks, tests_from, values_of, rows_where, FindsIds, tests_below}
 use Rattle.review_sql_tables.proofs.Queries.{passes, shows, selects}
-use Rattle.review_sql_tables.specs.Content.{has_key, is_number_below, is_integer, is_natural, is_text, is_value}
-use Rattle.review_sql_tables.specs.{Desk.desk_schema, Search.At}
-use Rattle.review_sql_tables.specs.Texts.{Asks, number_at, tests_for, tests_from, values_of, rows_where}
-use Rattle.review_sql_tables.specs.inner.Words.{FindsIds, tests_below}
+use Rattle.review_sql_tables.specs.{Content.is_integer, Texts.number_at, Texts.tests_for}
 
 either : (b : Bool) (x : Value) → cond b x x ≡ x
 either true x = refl
@@ -121,10 +106,6 @@ below _ least b = and_false _
 
 -- ---- the tests of a key
 
-all_append : {X : Type 0} (p : X → Bool) (xs ys : List X) → list_all p (xs ++ ys) ≡ (list_all p xs && list_all p ys)
-all_append p [] ys = refl
-all_append p (x ∷ xs) ys = elim (p x) as (λ b. (b && list_all p (xs ++ ys)) ≡ ((b && list_all p xs) && list_all p ys)) [ true ↦ all_append p xs ys | false ↦ refl ]
-
 module _ (params row : Row) where
   abbrev env : List Row
   env = params ∷ row ∷ []
@@ -146,7 +127,7 @@ module _ (params row : Row) where
   passes_from : (key : At) (at : ℕ) → drop at params ≡ values_of key → list_all (holds env) (tests_from at key) ≡ has_key key row
   passes_from [] at bound = refl
   passes_from (c ∷ key) at bound =
-      all_append (holds env) (tests_for c.0 c.1 at) (tests_from (suc at) key)
+      list_all-append (holds env) (tests_for c.0 c.1 at) (tests_from (suc at) key)
       ∙ (λ i. passes_one c.0 at c.1 (first params at c.1 (values_of key) bound) i && passes_from key (suc at) (rest params at c.1 (values_of key) bound) i)
     where
       first : (xs : Row) (at : ℕ) (v : Value) (vs : Row) → drop at xs ≡ v ∷ vs → column xs at ≡ v

@@ -1,22 +1,10 @@
 -- What the texts of a migration do one after the other.
-use Rattle.std.proofs.Common.{◌≡◌, ◌≢◌, ◌∙◌, ℕ, Bool, true, false, List, [], ◌∷◌, ◌++◌, map, refl, sym, subst, eqb, eqb-true}
-use Rattle.std.proofs.lemmas.{Bool.eqb-false, Bool.or_parts, List.Sorted.length_permutation}
-use Rattle.std.specs.List.{AllByRecursion, list_all, Sorted.IsPermutation}
-use Rattle.sqlite.specs.{Effect.Database, Listing.understood}
-use Rattle.{sqlite_catalog.specs.Change.next_tree, sqlite_schema.specs.declared.schema.Table.Table}
-use Rattle.{sqlite_tied.specs.Compute.everything, sqlite_value.specs.Order.Row}
 use Rattle.review_sql_tables.proofs.ByTree.{all_after, all_both, all_weaker, at_tree, covered, covered_but, has_tree}
+use Rattle.review_sql_tables.proofs.Common.{◌≡◌, ◌≢◌, ◌∙◌, ℕ, Bool, true, false, List, [], ◌∷◌, ◌++◌, map, refl, sym, subst, eqb, eqb-true, eqb-false, or_parts, length_permutation, AllByRecursion, list_all, IsPermutation, Database, understood, next_tree, Table, everything, Row, AreApart, answers_3, desk_schema, desk_tables, epochs, projects_2, schema_0, schema_1, schema_2, schema_of, tables_1, tables_2, IsBlank, Grows, IsMade, MakesBy, MakesText, Migrates, Moves, AreMoved, Move, answers_move, columns_of, projects_move, with_first_epoch, without_parent, is_new, schema_at, version_of, DROP_ANSWERS, DROP_PROJECTS, MOVE_ANSWERS, MOVE_PROJECTS, EarlierVersion, DropsText, FillsText, DropsBy, FillsBy, Drops, Fills, with_both}
 use Rattle.review_sql_tables.proofs.Sequences.{Next}
 use Rattle.review_sql_tables.proofs.TextsOfMoves.{answers_dropped, answers_filled, projects_dropped, projects_filled}
-use Rattle.review_sql_tables.specs.Content.{AreApart}
-use Rattle.review_sql_tables.specs.Desk.{answers_3, desk_schema, desk_tables, epochs, projects_2, schema_0, schema_1, schema_2, schema_of, tables_1, tables_2}
-use Rattle.review_sql_tables.specs.Made.{IsBlank, Grows, IsMade, MakesBy, MakesText}
-use Rattle.review_sql_tables.specs.Migrated.{Migrates, Moves}
-use Rattle.review_sql_tables.specs.Moved.{AreMoved, Move, answers_move, columns_of, projects_move, tables_without_epochs, with_first_epoch, without_parent}
-use Rattle.review_sql_tables.specs.Versions.{is_new, schema_at, tables_since, version_of}
-use Rattle.review_sql_tables.specs.declared.texts.TheConstants.{CREATE_ANSWERS_3, CREATE_EPOCHS, CREATE_PROJECTS_2, DROP_ANSWERS, DROP_PROJECTS, MOVE_ANSWERS, MOVE_PROJECTS}
-use Rattle.review_sql_tables.specs.declared.versions.EarlierVersion.{EarlierVersion}
-use Rattle.review_sql_tables.specs.inner.Moving.{DropsText, FillsText, DropsBy, FillsBy, Drops, Fills, with_both}
+use Rattle.review_sql_tables.specs.Versions.{tables_without_epochs, tables_since}
+use Rattle.review_sql_tables.specs.declared.texts.TheConstants.{CREATE_ANSWERS_3, CREATE_EPOCHS, CREATE_PROJECTS_2}
 use Rattle.review_sql_tables.specs.declared.versions.EarlierVersion.TheVariants as earlier
 
 -- ---- one move
@@ -172,12 +160,6 @@ module _ (old mid new : Database) (moved : Moves projects_move old mid) (later :
 of_earlier : (version : EarlierVersion) (P : ℕ → Type 0) → AllByRecursion (λ t. P t.tree) (schema_at (version_of version)).tables → AllByRecursion (λ t. is_new version t.tree ≡ false → P t.tree) desk_tables
 of_earlier earlier.First P all = covered_but (is_new earlier.First) P tables_1 desk_tables all refl
 of_earlier earlier.Second P all = covered_but (is_new earlier.Second) P tables_2 desk_tables all refl
-
--- rowids that are apart stay so
-pub apart_after : (version : EarlierVersion) (old new : Database) → Migrates version old new → old.schema ≡ schema_at (version_of version) → AllByRecursion (λ t. AreApart (old.trees t.tree)) (schema_at (version_of version)).tables
-    → AllByRecursion (λ t. AreApart (new.trees t.tree)) desk_tables
-apart_after version old new it has all =
-    all_after (is_new version) AreApart old.trees new.trees desk_tables (λ t is. at_tree (λ n. AreApart (new.trees n)) (tables_since version) (it.apart has) t is) (it.others has) (of_earlier version (λ n. AreApart (old.trees n)) all)
 
 -- ---- empty tables
 

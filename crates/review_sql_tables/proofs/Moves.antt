@@ -1,13 +1,8 @@
 -- What INSERT with a SELECT of all rows of another table does, and what DROP TABLE does.
-use Rattle.std.proofs.Common.{◌≡◌, ◌∙◌, true, false, List, [], ◌∷◌, ◌++◌, map, append-nil, Ordering, Less, Equal, Greater, refl, ap, subst}
-use Rattle.std.proofs.lemmas.Bool.{or_parts, and_parts, not-true}
-use Rattle.std.proofs.lemmas.List.Sorted.{IsPermutation-refl, IsPermutation-trans, IsPermutation-cons, IsPermutation-sym, IsPermutation-middle, IsPermutation-append_right}
-use Rattle.std.specs.{List.Sorted.IsPermutation, Ordering.is_eq, Ordering.match_ordering}
-use Rattle.sqlite_rules.specs.Edit.{is_taken, put_all, are_fresh, have_rowids, numbered, with_rowid, is_chosen}
-use Rattle.sqlite_rules.specs.declared.error.Rowids.TheVariants.{Chosen}
-use Rattle.sqlite_trees.specs.Tree.{rowid, put_row}
-use Rattle.sqlite_value.specs.Order.{Row, value_cmp}
-use Rattle.review_sql_tables.{proofs.Lists.apart_put, specs.Content.AreApart, specs.Moved.columns_of}
+use Rattle.std.proofs.lemmas.List.Sorted.{IsPermutation-refl, IsPermutation-cons, IsPermutation-middle, IsPermutation-append_right}
+use Rattle.sqlite_rules.specs.Edit.{with_rowid, is_chosen}
+use Rattle.review_sql_tables.proofs.Common.{◌≡◌, ◌∙◌, true, false, List, [], ◌∷◌, ◌++◌, map, append-nil, Ordering, Less, Equal, Greater, refl, ap, subst, or_parts, and_parts, not-true, IsPermutation-trans, IsPermutation-sym, IsPermutation, is_eq, match_ordering, is_taken, put_all, are_fresh, have_rowids, numbered, Chosen, rowid, put_row, Row, value_cmp, AreApart, columns_of}
+use Rattle.review_sql_tables.proofs.Lists.{apart_put}
 
 -- ---- rows put into a tree
 

@@ -1,18 +1,10 @@
 -- Trees list one schema.
-use Rattle.std.proofs.Common.{Equal, ◌≡◌, ◌∙◌, inl, inr, ℕ, ◌+◌, ◌<◌, List, [], ◌∷◌, ◌++◌, Result, Ok, true, false, refl, sym, ap, subst, arith}
-use Rattle.std.proofs.lemmas.{Bool.Decides.nat_tests, Fmt.decimal_is_IsNumeral, List.append_cancel_left}
-use Rattle.std.{proofs.lemmas.Option.same_Some, specs.Char.to_ascii_lowercase}
-use Rattle.std.specs.{Cmp.Lexicographic.slice_cmp, Fmt.decimal, List.AllByRecursion, List.AllZip}
-use Rattle.std.specs.Ordering.{is_eq, nat_cmp, ordering_then}
-use Rattle.std.specs.Prelude.{codes, filter, pos, slice_get, map}
-use Rattle.std.specs.Str.Parse.{digits_value}
-use Rattle.sqlite_catalog.specs.Listing.{IsTableRow, IsIndexRow, IsViewRow, IsDefined, IsSound, automatic, is_table_row, is_index_row, is_view_row}
-use Rattle.{sqlite_resolve.specs.Compile.table_defined_by, sqlite_rules.specs.Lists.Has}
-use Rattle.sqlite_schema.specs.Names.{same_name}
-use Rattle.sqlite_schema.specs.declared.schema.{Index.Index, Schema.Schema, Table.Table, View.View as Stored}
-use Rattle.sqlite_trees.specs.{Objects.catalog_tree, Tree.Trees, Tree.rowid, Tree.IsAscending}
-use Rattle.sqlite_value.specs.Order.{Row, column}
-use Rattle.sqlite_value.specs.declared.value.Value.{Value, TheVariants.Null, TheVariants.Int, TheVariants.Text}
+use Rattle.std.proofs.lemmas.{Fmt.decimal_is_IsNumeral, List.append_cancel_left}
+use Rattle.std.specs.{Char.to_ascii_lowercase, Fmt.decimal, Str.Parse.digits_value}
+use Rattle.sqlite_catalog.specs.Listing.{IsTableRow, IsIndexRow, IsViewRow, IsDefined, automatic, is_table_row, is_index_row, is_view_row}
+use Rattle.sqlite_schema.specs.{Names.same_name, declared.schema.Index.Index, declared.schema.View.View as Stored}
+use Rattle.sqlite_trees.specs.{Objects.catalog_tree, Tree.IsAscending}
+use Rattle.review_sql_tables.proofs.Common.{tied_itself, nat_list_cmp_total, ◌≡◌, ◌∙◌, inl, inr, ℕ, ◌+◌, ◌<◌, List, [], ◌∷◌, ◌++◌, Result, Ok, true, false, refl, sym, ap, subst, arith, same_Some, AllByRecursion, AllZip, is_eq, codes, filter, pos, slice_get, map, IsSound, table_defined_by, Has, Schema, Table, Trees, rowid, Row, column, Value, Null, Int, Text}
 
 -- elements that stand in a relation to those of a list, each to one of its own
 one_list : {A B : Type 0} (R : A → B → Type 0) → ((a : A) (x y : B) → R a x → R a y → x ≡ y) → (es : List A) (xs ys : List B) → AllZip R es xs → AllZip R es ys → xs ≡ ys
@@ -44,16 +36,9 @@ one_table row t u x y =
     let both : record x.defined.0 { tree = t.tree } ≡ record y.defined.0 { tree = u.tree } = λ i. record (made i) { tree = tree i } in
     x.defined.2 ∙ both ∙ sym y.defined.2
 
-level_number : (n : ℕ) → nat_cmp n n ≡ Equal
-level_number n = grind (arith, nat_tests)
-
-level : (l : List ℕ) → slice_cmp nat_cmp l l ≡ Equal
-level [] = refl
-level (n ∷ l) = ap (λ r. ordering_then r (slice_cmp nat_cmp l l)) (level_number n) ∙ level l
-
 same_as_itself : (name : List ℕ) → same_name name name ≡ true
 unfolding same_name
-same_as_itself name = ap is_eq (level (map to_ascii_lowercase name))
+same_as_itself name = ap is_eq (tied_itself nat_list_cmp_total (map to_ascii_lowercase name))
 
 apart : (x : Table) (xs : List Table) → AllByRecursion (λ t. same_name x.name t.name ≡ false) xs → (t : Table) → Has xs t → x.name ≡ t.name → ⊥
 apart x (y ∷ ys) all t (inl h) same = let e : true ≡ false = sym (same_as_itself x.name) ∙ ap (same_name x.name) (same ∙ ap (λ z. z.name) h) ∙ all.0 in cc

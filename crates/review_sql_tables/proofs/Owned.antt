@@ -1,17 +1,9 @@
 -- What is found of an owner's rows, as it reads.
-use Rattle.std.proofs.Common.{◌≤◌, ◌<◌, ◌+◌, ◌||◌, ℕ, not, is_some, drop, get_or, take, ◌≡◌, ◌∙◌, List, [], ◌∷◌, ◌++◌, Bool, true, false, Ordering, Option, Some, None, option_map, option_to_list, cond, map, filter, length, refl, sym, ap, subst, inl, inr, arith}
-use Rattle.std.proofs.lemmas.Bool.{cases_Bool, both_ways}
-use Rattle.std.proofs.lemmas.List.{length-map, length-append, map-append, append-nil, take_more, take-append-drop}
-use Rattle.std.proofs.lemmas.List.Elements.{filter-append, recursion_from_All, All-from_recursion}
-use Rattle.std.proofs.lemmas.List.Sorted.{length_permutation, IsPermutation-map, All-permutation, IsPermutation-sym}
-use Rattle.std.specs.{BTreeMap.is_at, List.AllByRecursion, List.list_any, List.Sorted.IsPermutation}
-use Rattle.sqlite.proofs.Callers.{one_permutation}
-use Rattle.sqlite_keyed.proofs.ListLemmas.{IsPermutation-filter, filter-map, filter-filter, map-map, all_unmap}
-use Rattle.{sqlite_trees.specs.Tree.Trees, sqlite_value.specs.Order.Row, review_table.specs.Rows.row_in}
-use Rattle.review_sql_tables.{proofs.Found.all_found, specs.Content.has_key}
-use Rattle.review_sql_tables.specs.Fronts.{IsFront, IsExact, AreParts, HaveRows}
-use Rattle.review_sql_tables.specs.Search.{Search, shown, reads, row_at, only, rows_at, Finds}
-use Rattle.review_sql_tables.specs.inner.Words.{WereApart, WereSorted, HasTwins, is_of, at_key}
+use Rattle.std.proofs.Common.{option_to_list}
+use Rattle.std.proofs.lemmas.List.{length-append, append-nil, take-append-drop, Elements.filter-append}
+use Rattle.review_sql_tables.proofs.Common.{◌≤◌, ◌<◌, ◌+◌, ◌||◌, ℕ, not, is_some, drop, get_or, take, ◌≡◌, ◌∙◌, List, [], ◌∷◌, ◌++◌, Bool, true, false, Ordering, Option, Some, None, option_map, cond, map, filter, length, refl, sym, ap, subst, inl, inr, arith, cases_Bool, both_ways, length-map, map-append, take_more, recursion_from_All, All-from_recursion, length_permutation, IsPermutation-map, All-permutation, IsPermutation-sym, is_at, AllByRecursion, list_any, IsPermutation, one_permutation, IsPermutation-filter, filter-map, filter-filter, map-map, all_unmap, Trees, Row, row_in, has_key, IsExact, AreParts, HaveRows, Search, shown, reads, row_at, only, rows_at, Finds, WereApart, WereSorted}
+use Rattle.review_sql_tables.{proofs.Found.all_found, specs.Search.IsFront}
+use Rattle.review_sql_tables.specs.inner.Words.{HasTwins, is_of, at_key}
 
 -- it is there
 abbrev IsThere : {X : Type 0} → Option X → Type 0
@@ -89,31 +81,28 @@ module _ {O K X : Type 0} (cmp : K → K → Ordering) (front : Search O (K × X
     ])
   ]
 
+  -- where each of an owner's rows reads, those of a key are those that read so
+  of_key : (k : K) → AllByRecursion (λ r. IsThere (reads front r)) mine → filter (has_key (whole.at (o, k))) (db whole.tree) ≡ filter (λ r. is_of cmp k (reads front r)) mine
+  of_key k there =
+      let both = all_both (λ r. has_key (front.at o) r ≡ true) (λ r. IsThere (reads front r)) mine (all_pass (has_key (front.at o)) (db front.tree)) there in
+      ap (λ t. filter (has_key (whole.at (o, k))) (db t)) (sym law.tree)
+      ∙ (sym (filter-filter (has_key (whole.at (o, k))) (has_key (front.at o)) (λ r. law.within o k r) (db front.tree))
+      ∙ filter_where (λ r. (has_key (front.at o) r ≡ true) × IsThere (reads front r)) _ _ (agree k) mine both)
+
   pub owned : (rows : List Row) (entries : List (K × X)) → WereApart cmp front.read rows entries → Finds front o db rows → HaveRows cmp whole o db entries
   owned rows entries were found k =
       let same : IsPermutation (map (reads front) mine) (map Some were.items) =
       subst (IsPermutation (map (reads front) mine)) were.read_as (subst (λ l. IsPermutation l (map front.read rows)) (map-map front.read (shown front) mine) (IsPermutation-map front.read (map (shown front) mine) rows found)) in
       let there : AllByRecursion (λ r. IsThere (reads front r)) mine =
       all_unmap IsThere (reads front) mine (recursion_from_All IsThere _ (All-permutation IsThere _ _ (IsPermutation-sym _ _ same) (All-from_recursion IsThere _ (some_all were.items)))) in
-      let both = all_both (λ r. has_key (front.at o) r ≡ true) (λ r. IsThere (reads front r)) mine (all_pass (has_key (front.at o)) (db front.tree)) there in
-      let here : filter (has_key (whole.at (o, k))) (db whole.tree) ≡ filter (λ r. is_of cmp k (reads front r)) mine =
-      ap (λ t. filter (has_key (whole.at (o, k))) (db t)) (sym law.tree)
-      ∙ (sym (filter-filter (has_key (whole.at (o, k))) (has_key (front.at o)) (λ r. law.within o k r) (db front.tree))
-      ∙ filter_where (λ r. (has_key (front.at o) r ≡ true) × IsThere (reads front r)) _ _ (agree k) mine both) in
       let picked : IsPermutation (map (reads front) (filter (λ r. is_of cmp k (reads front r)) mine)) (map Some (at_key cmp k were.items)) =
       subst (IsPermutation _) (has_some cmp k were.items) (subst (λ l. IsPermutation l (filter (is_of cmp k) (map Some were.items))) (filter-map (is_of cmp k) (reads front) mine) (IsPermutation-filter (is_of cmp k) _ _ same)) in
-      ap (only (reads whole)) here
+      ap (only (reads whole)) (of_key k there)
       ∙ read_one (reads front) (reads whole) (λ e. e.1) (filter (λ r. is_of cmp k (reads front r)) mine) (at_key cmp k were.items) (row_in cmp entries k) picked (were.each k) (λ r y is. law.shows o y.0 y.1 r is)
 
   -- where each row reads, two that read with one key stand at one key
   twins : (k : K) → AllByRecursion (λ r. IsThere (reads front r)) mine → 1 < length (filter (λ r. is_of cmp k (reads front r)) mine) → row_at whole db (o, k) ≡ Some None
-  twins k there two =
-      let both = all_both (λ r. has_key (front.at o) r ≡ true) (λ r. IsThere (reads front r)) mine (all_pass (has_key (front.at o)) (db front.tree)) there in
-      let here : filter (has_key (whole.at (o, k))) (db whole.tree) ≡ filter (λ r. is_of cmp k (reads front r)) mine =
-      ap (λ t. filter (has_key (whole.at (o, k))) (db t)) (sym law.tree)
-      ∙ (sym (filter-filter (has_key (whole.at (o, k))) (has_key (front.at o)) (λ r. law.within o k r) (db front.tree))
-      ∙ filter_where (λ r. (has_key (front.at o) r ≡ true) × IsThere (reads front r)) _ _ (agree k) mine both) in
-      ap (only (reads whole)) here ∙ several (reads whole) (filter (λ r. is_of cmp k (reads front r)) mine) two
+  twins k there two = ap (only (reads whole)) (of_key k there) ∙ several (reads whole) (filter (λ r. is_of cmp k (reads front r)) mine) two
 
   pub sorted_owned : (rows : List Row) (found : Option (List (K × X))) → WereSorted cmp front.read rows found → Finds front o db rows → AreParts cmp front whole o db found
   sorted_owned rows None (inl odd) h = inl (all_found front db o rows None odd h)
@@ -130,9 +119,6 @@ module _ {O K X : Type 0} (cmp : K → K → Ordering) (front : Search O (K × X
 -- ---- one more row that was read
 
 module _ {K X : Type 0} (cmp : K → K → Ordering) (exact : IsExact cmp) (read : Row → Option (K × X)) where
-  pub none_apart : (entries : List (K × X)) → entries ≡ [] → WereApart cmp read [] entries
-  none_apart entries none = rw none (record { items = []; read_as = refl; each = λ k. refl })
-
   one_more : (k j : K) (x : X) (was : Option X) (now : Option X) (items : List (K × X)) → map (λ e. e.1) (at_key cmp k items) ≡ option_to_list was → now ≡ cond (is_at (cmp j) k) (Some x) was → (j ≡ k → was ≡ None)
       → map (λ e. e.1) (at_key cmp k (items ++ (j, x) ∷ [])) ≡ option_to_list now
   one_more k j x was now items before after free = elim (cases_Bool (is_at (cmp j) k)) [

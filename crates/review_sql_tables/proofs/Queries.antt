@@ -1,12 +1,7 @@
 -- What a query over one table shows.
-use Rattle.std.proofs.Common.{◌≡◌, ℕ, List, [], ◌∷◌, true, false, refl, Bool, subst₂, map, filter, ap, ◌∙◌, ◌++◌, if◌then◌else◌, sym}
-use Rattle.std.{proofs.lemmas.List.Sorted.IsPermutation-map, specs.List.list_all, specs.List.flat_map}
-use Rattle.{std.specs.List.Sorted.IsPermutation, sqlite_keyed.proofs.ListLemmas.map-map}
-use Rattle.sqlite_sql.specs.{Program.overlay, Query.Query, Query.IsAnswer, Query.output, Query.Output}
-use Rattle.sqlite_sql.specs.Term.{Term, holds, eval_all}
-use Rattle.sqlite_trees.specs.Tree.{Trees}
-use Rattle.sqlite_value.specs.{Order.Row, declared.keys.Collation.Collation, declared.keys.Key.Key}
-use Rattle.review_sql_tables.specs.Texts.{over_table}
+use Rattle.std.{proofs.Common.if◌then◌else◌, specs.List.flat_map}
+use Rattle.sqlite_value.specs.declared.keys.{Collation.Collation, Key.Key}
+use Rattle.review_sql_tables.proofs.Common.{◌≡◌, ℕ, List, [], ◌∷◌, true, false, refl, Bool, subst₂, map, filter, ap, ◌∙◌, ◌++◌, sym, IsPermutation-map, list_all, IsPermutation, map-map, overlay, Query, IsAnswer, output, Output, Term, holds, eval_all, Trees, Row, over_table}
 
 abbrev pub passes : Row → List Term → Row → Bool
 passes params tests row = list_all (holds (params ∷ row ∷ [])) tests

@@ -1,12 +1,7 @@
 -- Rows that are taken out of a tree and put in again, each as another.
-use Rattle.std.proofs.Common.{◌≡◌, ◌∙◌, ℤ, ℕ, List, [], ◌∷◌, map, filter, length, Bool, true, false, not, refl, sym, ap, subst, inl, inr, IsTrue, arith}
-use Rattle.std.{proofs.lemmas.Bool.cases_Bool, specs.List.AllByRecursion}
-use Rattle.sqlite_keyed.proofs.ListLemmas.{filter-filter}
-use Rattle.sqlite_rules.specs.{Edit.put_all, Edit.are_fresh, Edit.numbered, declared.error.Rowids.TheVariants.Given}
-use Rattle.sqlite_trees.specs.{Tree.rowid, Tree.put_row, Tree.Trees, View.is_int}
-use Rattle.sqlite_value.specs.{Order.Row, declared.value.Value.Value}
+use Rattle.std.proofs.lemmas.List.{nil_from_length}
+use Rattle.review_sql_tables.proofs.Common.{◌≡◌, ◌∙◌, ℤ, ℕ, List, [], ◌∷◌, map, filter, length, Bool, true, false, not, refl, sym, ap, subst, inl, inr, IsTrue, arith, cases_Bool, AllByRecursion, filter-filter, put_all, are_fresh, numbered, Given, rowid, put_row, Trees, is_int, Row, Value, has_key, AreApart, IsAdded, Remakes, SparesOthers}
 use Rattle.review_sql_tables.proofs.{Lists.added, Lists.id_of, Moves.free_first}
-use Rattle.review_sql_tables.specs.Content.{has_key, AreApart, IsAdded, Remakes, SparesOthers}
 
 -- rows that have rowids keep them
 pub numbered_given : (sources rows : List Row) → numbered Given rows sources ≡ sources
@@ -40,16 +35,12 @@ module _ (key : List (ℕ × Value)) (stored : ℤ → Row) (keyed : (id : ℤ) 
   single (n ∷ []) rows all fresh one = let free = (free_first rows [] n fresh).0 in (all.0.0, subst (λ r. IsAdded r rows (put_row n rows)) all.0.1 (added n rows free))
   single (n ∷ m ∷ news) rows all fresh one = absurd (omega (arith, one))
 
-  nothing : (news : List Row) → length news ≡ 0 → news ≡ []
-  nothing [] none = refl
-  nothing (n ∷ news) none = absurd (omega (arith, none))
-
   pub remade : (tree : ℕ) (old new : Trees) (news : List Row) (count : ℕ) → count ≡ length news → AreStored news → are_fresh (filter (λ r. not (has_key key r)) (old tree)) news ≡ true
       → new tree ≡ put_all (filter (λ r. not (has_key key r)) (old tree)) news → SparesOthers tree old new → Remakes tree key stored count old new
   remade tree old new news count many all fresh is others =
       let p = λ (r : Row). not (has_key key r) in
       let left = filter p (old tree) in record {
-        none = λ zero. ap (filter (has_key key)) (is ∙ ap (put_all left) (nothing news (sym many ∙ zero))) ∙ none_of_both (has_key key) (old tree);
+        none = λ zero. ap (filter (has_key key)) (is ∙ ap (put_all left) (nil_from_length news (sym many ∙ zero))) ∙ none_of_both (has_key key) (old tree);
         one = λ one. let it = single news left all fresh (sym many ∙ one) in (it.0, subst (IsAdded (stored it.0) left) (sym is) it.1);
         apart = ap (filter p) is ∙ (put_beside p news left fresh (have_key news all) ∙ filter-filter p p (λ r h. h) (old tree));
         others = others;

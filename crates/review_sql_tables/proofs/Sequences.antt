@@ -1,14 +1,13 @@
 -- Statements one after the other, and the transaction around them.
-use Rattle.std.proofs.Common.{◌≡◌, ◌∙◌, ◌⊎◌, inl, inr, ℕ, List, true, false, refl, sym, ap, subst, IsTrue, Ok, Err, Result, OnOk, OnErr, IfErr, arith, [], Option, Some, None, IfOk}
-use Rattle.{std.proofs.lemmas.Bool.cases_Bool, sqlite.proofs.Callers.IsPlain, sqlite.proofs.StateLemmas.survives_then}
-use Rattle.sqlite.specs.{Clock.timed, Effect.Database, Listing.understood}
-use Rattle.sqlite.specs.State.{RunsCommand, shows_rows, store_error, ExecutesIn, FailsToQuery, FailsToShow, Shown, ShowsRows, IsNotRun, IsTooLate, State, HasCleanDisk, Survives, KeepsCommit, IsUnchanged, IsRolledBack, Executes, ExecutesInside, Shows, KeepsCounts}
-use Rattle.sqlite.specs.{Steps.FailsToCommit, declared.error.Error.Error}
-use Rattle.{sqlite_schema.specs.declared.command.Returning.Returning, sqlite_trees.specs.Tree.Trees}
-use Rattle.sqlite_trees.specs.declared.error.StoreError.{StoreError, TheVariants.OutOfMemory}
-use Rattle.{sqlite_value.specs.Order.Row, review_sql_tables.specs.Desk.desk_schema}
-use Rattle.review_sql_tables.specs.Ran.{count_in, is_violation, IsReady, IsDeskIfOpen, Within, OnDesk, Inside, Transacts, Looks, Serves}
-use Rattle.review_sql_tables.specs.inner.Words.{Then}
+use Rattle.sqlite.specs.Clock.{timed}
+use Rattle.sqlite.specs.State.{RunsCommand, shows_rows, ExecutesIn, ShowsRows, IsTooLate, KeepsCommit, ExecutesInside, Shows, KeepsCounts}
+use Rattle.sqlite.specs.Steps.{FailsToCommit}
+use Rattle.review_sql_tables.proofs.Common.{◌≡◌, ◌∙◌, ◌⊎◌, inl, inr, ℕ, List, true, false, refl, sym, ap, subst, IsTrue, Ok, Err, Result, OnOk, OnErr, IfErr, arith, [], Option, Some, None, IfOk, cases_Bool, IsPlain, survives_then, Database, understood, store_error, FailsToQuery, FailsToShow, Shown, IsNotRun, State, HasCleanDisk, Survives, IsUnchanged, IsRolledBack, Executes, Error, Returning, Trees, StoreError, OutOfMemory, Row, desk_schema, IsReady, IsDeskIfOpen, Within, OnDesk, Inside, Transacts, Looks, Serves, Then}
+use Rattle.review_sql_tables.specs.Ran.{count_in, is_violation}
+
+-- before a statement behind which the disk is clean it was clean
+pub clean_before : {b c : State} {P : Trees → Type 0} → Survives b c P → HasCleanDisk c → HasCleanDisk b
+clean_before survives clean = omega (arith, survives.clean)
 
 kept_unchanged : (old new : State) → IsUnchanged old new ⊎ IsRolledBack old new → KeepsCommit old new
 kept_unchanged old new (inl same) = record { was_open = λ _. same.0.was_open; committed = λ _. same.0.committed_is }
@@ -95,19 +94,15 @@ module _ {X Y : Type 0} (R Q : Database → Database → Type 0) (a b c : State)
   pub follow : (x : X) (r : Result Y Error) → Within R a b (Ok x) → Within Q b c r → Within (Next R Q) a c r
   follow x r one two = record {
     ran = λ clean on.
-        let earlier = back clean in
+        let earlier = clean_before two.survives clean in
         by_result r (one.ran earlier on) (two.ran clean (one.kept earlier on).1);
     kept = λ clean on.
-        let earlier = back clean in
-        let first = one.kept earlier on in
+        let first = one.kept (clean_before two.survives clean) on in
         let second = two.kept clean first.1 in
         (keeps_then a b c first.0 second.0, second.1);
     survives = survives_then a b c _ _ _ (λ _ db h. h) (λ _ db h. h) one.survives two.survives;
   }
     where
-      back : HasCleanDisk c → HasCleanDisk b
-      back clean = omega (arith, two.survives.clean)
-
       by_result : (r : Result Y Error) → R a.now b.now → OnOk r (Q b.now c.now) → OnOk r (Next R Q a.now c.now)
       by_result (Ok y) first second = (b.now, first, second)
       by_result (Err e) first second = tt
@@ -147,13 +142,10 @@ told_ready R Q a b x y f one = record { ran = λ clean on. let it = one.ran clea
 pub anew : {X Y : Type 0} (R Q : Trees → Trees → Type 0) (a b c : State) (e : Error) (r : Result Y Error) → Inside {X = X} R a b (Err e)
     → (HasCleanDisk b → IsTrue a.in_transaction → (b.now ≡ a.now) × IsTrue b.in_transaction) → Inside Q b c r → Inside Q a c r
 anew R Q a b c e r one same two = record {
-  ran = λ clean on. let it = same (back clean) on in subst (λ d. OnOk r (OnDesk Q d c.now)) it.0 (two.ran clean it.1);
-  kept = λ clean on. let second = two.kept clean (same (back clean) on).1 in (keeps_then a b c (one.kept (back clean) on).0 second.0, second.1);
+  ran = λ clean on. let it = same (clean_before two.survives clean) on in subst (λ d. OnOk r (OnDesk Q d c.now)) it.0 (two.ran clean it.1);
+  kept = λ clean on. let second = two.kept clean (same (clean_before two.survives clean) on).1 in (keeps_then a b c (one.kept (clean_before two.survives clean) on).0 second.0, second.1);
   survives = survives_then a b c _ _ _ (λ _ db h. h) (λ _ db h. h) one.survives two.survives;
 }
-  where
-    back : HasCleanDisk c → HasCleanDisk b
-    back clean = omega (arith, two.survives.clean)
 
 -- the same, told otherwise, however it ended
 pub weaker : {X : Type 0} (R Q : Trees → Trees → Type 0) (a b : State) (r : Result X Error) → ((old new : Trees) → R old new → Q old new) → Inside R a b r → Inside Q a b r
@@ -208,18 +200,15 @@ module _ {X : Type 0} (R : Database → Database → Type 0) (s0 s2 s3 : State) 
       → (HasCleanDisk s3 → OnOk r (IsTrue s2.in_transaction × Shows s2 s3 s2.now s2.now false × KeepsCounts s2 s3 × (s3.marks ≡ [])))
       → (HasCleanDisk s3 → IfErr r (FailsToCommit s2 s3)) → Survives s2 s3 (λ db. db ≡ s2.now.trees) → Transacts R s0 s3 r
   ended x r inside opened ok err last = record {
-    done = λ clean. by_result r (ok clean) (inside.ran (back clean) refl) (inside.kept (back clean) refl).0;
+    done = λ clean. by_result r (ok clean) (inside.ran (clean_before last clean) refl) (inside.kept (clean_before last clean) refl).0;
     undone = λ is_open.
         let clean = open_clean is_open in
-        let kept = inside.kept (back clean) refl in
+        let kept = inside.kept (clean_before last clean) refl in
         not_committed s0 s2 s3 r settled kept.0 kept.1 (err clean) is_open;
     survives = survives_from s0 s3 _ (survives_then (begun s0) s2 s3 _ _ _ (λ _ db h. absurd h)
-        (λ clean db is. ((inside.kept (back clean) refl).0.was_open (opened (back clean)), (s2.now, is, inside.ran (back clean) refl))) inside.survives last);
+        (λ clean db is. ((inside.kept (clean_before last clean) refl).0.was_open (opened (clean_before last clean)), (s2.now, is, inside.ran (clean_before last clean) refl))) inside.survives last);
   }
     where
-      back : HasCleanDisk s3 → HasCleanDisk s2
-      back clean = omega (arith, last.clean)
-
       by_result : (r : Result (Unit {0}) Error) → OnOk r (IsTrue s2.in_transaction × Shows s2 s3 s2.now s2.now false × KeepsCounts s2 s3 × (s3.marks ≡ [])) → R s0.now s2.now
           → KeepsCommit (begun s0) s2 → OnOk r (IsTrue s0.is_open × IsTrue s3.is_open × R s0.now s3.now)
       by_result (Err e) h it kept = tt
@@ -232,7 +221,7 @@ abbrev pub Follows : {X : Type 0} → X → Result (Unit {0}) Error → Result X
 Follows x (Ok u) q = q ≡ Ok x
 Follows x (Err e) q = (f : Error) × (q ≡ Err f)
 
-fails_keeps : (sql : List ℕ) (params : Row) (old new : State) (e : Error) → FailsToQuery sql params old new e → IsUnchanged old new ⊎ IsRolledBack old new
+pub fails_keeps : (sql : List ℕ) (params : Row) (old new : State) (e : Error) → FailsToQuery sql params old new e → IsUnchanged old new ⊎ IsRolledBack old new
 unfolding FailsToQuery IsNotRun
 fails_keeps sql params old new e (inl (inl none)) = inl none.1
 fails_keeps sql params old new e (inl (inr fails)) = inr fails.3
@@ -306,21 +295,18 @@ module _ {X : Type 0} (Found : Trees → X → Type 0) (s0 s2 s3 : State) (settl
       → (HasCleanDisk s3 → OnOk r (IsTrue s2.in_transaction × Shows s2 s3 s2.now s2.now false × KeepsCounts s2 s3 × (s3.marks ≡ [])))
       → (HasCleanDisk s3 → IfErr r (FailsToCommit s2 s3)) → Survives s2 s3 (λ db. db ≡ s2.now.trees) → (q : Result X Error) → Follows x r q → Serves Found s0 s3 q
   look_ended x r inside ok err last q follows = record {
-    found = λ clean ready. by_found r q follows (ok clean) (inside.found (back clean) refl ready) (inside.kept (back clean) refl).0;
+    found = λ clean ready. by_found r q follows (ok clean) (inside.found (clean_before last clean) refl ready) (inside.kept (clean_before last clean) refl).0;
     undone = λ _ is_open.
         let clean = open_clean is_open in
-        let kept = inside.kept (back clean) refl in
+        let kept = inside.kept (clean_before last clean) refl in
         by_undone r q follows (not_committed s0 s2 s3 r settled kept.0 kept.1 (err clean) is_open);
     survives = λ ready. survives_from s0 s3 _ (survives_then (begun s0) s2 s3 _ _ _ (λ _ db h. absurd h)
         (λ clean db is.
-        let it = inside.found (back clean) refl ready in
-        ((inside.kept (back clean) refl).0.was_open it.1, is ∙ ap (λ (d : Database). d.trees) it.0))
+        let it = inside.found (clean_before last clean) refl ready in
+        ((inside.kept (clean_before last clean) refl).0.was_open it.1, is ∙ ap (λ (d : Database). d.trees) it.0))
         inside.survives last);
   }
     where
-      back : HasCleanDisk s3 → HasCleanDisk s2
-      back clean = omega (arith, last.clean)
-
       by_found : (r : Result (Unit {0}) Error) (q : Result X Error) → Follows x r q → OnOk r (IsTrue s2.in_transaction × Shows s2 s3 s2.now s2.now false × KeepsCounts s2 s3 × (s3.marks ≡ []))
           → (s2.now ≡ s0.now) × IsTrue s2.is_open × Found s0.now.trees x → KeepsCommit (begun s0) s2 → IfOk q (λ y. IsTrue s0.is_open × IsTrue s3.is_open × (s3.now ≡ s0.now) × Found s0.now.trees y)
       by_found (Ok u) q is ok it kept = rw is (kept.was_open it.1, ok.1.is_open, ok.1.now_is ∙ it.0, it.2)

@@ -1,20 +1,8 @@
 -- No two rows of a table have one UNIQUE key.
-use Rattle.std.proofs.Common.{◌≡◌, ◌∙◌, ◌≤◌, ◌&&◌, inl, inr, ℕ, zero, suc, ℤ, List, [], ◌∷◌, Some, filter, get_or, slice_get, length, map, Bool, true, false, not, Ordering, Less, refl, sym, ap, subst, IsTrue, arith}
-use Rattle.std.proofs.lemmas.Bool.{and_parts, and_from, cases_Bool, or_parts, both_ways}
-use Rattle.std.specs.{List.AllByRecursion, List.list_any, Ordering.is_eq, Ordering.is_ne}
-use Rattle.sqlite.specs.Effect.{Database}
-use Rattle.sqlite_catalog.{proofs.AlterLemmas.keys_are_unique, specs.Listing.IsSound}
-use Rattle.sqlite_rules.{proofs.TableLemmas.int_is, specs.Edit.is_taken, specs.Edit.id_in, specs.Lists.Has}
-use Rattle.sqlite_schema.specs.{Rules.agree, Rules.clashes, Rules.equal, Rules.differ, declared.schema.Table.Table}
-use Rattle.{sqlite_sql.specs.Ops.binary, sqlite_sql.specs.Ops.is_null, sqlite_trees.specs.Tree.rowid}
-use Rattle.{sqlite_trees.specs.View.is_int, sqlite_value.proofs.OrderLemmas.value_cmp-Null}
-use Rattle.sqlite_value.specs.{Keys.plain, Keys.first_key, Order.Row, Order.column, Order.value_cmp}
-use Rattle.sqlite_value.specs.declared.{keys.Collation.TheVariants.Binary, value.Value.Value}
-use Rattle.sqlite_value.specs.declared.value.Value.TheVariants.{Null, Int, Real, Text, Blob}
+use Rattle.{std.specs.Ordering.is_ne, sqlite_schema.specs.Rules.clashes, sqlite_schema.specs.Rules.equal}
+use Rattle.review_sql_tables.proofs.Common.{◌≡◌, ◌∙◌, ◌≤◌, ◌&&◌, inl, inr, ℕ, zero, suc, ℤ, List, [], ◌∷◌, Some, filter, get_or, slice_get, length, map, Bool, true, false, not, Ordering, Less, refl, sym, ap, subst, IsTrue, arith, and_parts, and_from, cases_Bool, or_parts, both_ways, AllByRecursion, list_any, is_eq, Database, keys_are_unique, IsSound, int_is, is_taken, id_in, Has, agree, differ, Table, binary, is_null, rowid, is_int, value_cmp-Null, plain, first_key, Row, column, value_cmp, Binary, Value, Null, Int, Real, Text, Blob, has_key, is_value, AreApart, desk_schema, is_tree, IsReady, At, rows_at}
 use Rattle.review_sql_tables.proofs.{Effects.is_there, Keys.int_is as whole_is, Keys.itself, Keys.same_value}
 use Rattle.review_sql_tables.proofs.{Lists.eq_back, Meaning.equals, Meaning.told_true}
-use Rattle.review_sql_tables.specs.Content.{has_key, is_value, AreApart}
-use Rattle.review_sql_tables.specs.{Desk.desk_schema, Desk.is_tree, Ran.IsReady, Search.At, Search.rows_at}
 
 there : (v w : Value) → is_null w ≡ false → is_eq (value_cmp v w) ≡ true → is_null v ≡ false
 there Null w some is = absurd (let e = rw (value_cmp-Null-apart w some) at is in cc)

@@ -1,34 +1,17 @@
 -- What a fixed INSERT, DELETE or SELECT does, whatever the table.
-use Rattle.std.proofs.Common.{ℤ, drop, unwrap_or, ◌≡◌, ◌≢◌, ◌⊎◌, inl, inr, ℕ, ◌/◌, List, [], ◌∷◌, length, map, slice_get, append-nil, true, false, Some, None, Ok, Err, Result, refl, sym, ap, subst, subst₂, ◌∙◌, IsTrue, Option, Bool, not, filter, eqb, eqb-true}
-use Rattle.std.proofs.lemmas.Bool.{or_cases, cases_Bool, eqb-false, and_parts, not-true}
-use Rattle.std.{proofs.lemmas.List.Sorted.IsPermutation-map, specs.Bool.MatchBool}
-use Rattle.std.specs.List.{AllByRecursion, list_any, Sorted.IsPermutation}
-use Rattle.sqlite.proofs.Callers.{IsPlain, command_of, statement_of, runs_as, one_step}
-use Rattle.sqlite.specs.Does.{Tally, Does, AtPlace, OnRows, Concludes, Drops, is_acted_on}
-use Rattle.sqlite.specs.Effect.{Database, IsDatabase, value_rows, IsSource, Answers}
-use Rattle.sqlite.specs.Listing.{understood}
+use Rattle.{std.specs.Bool.MatchBool, sqlite.proofs.Callers.one_step}
+use Rattle.sqlite.specs.Does.{Does, AtPlace, OnRows, Concludes, Drops}
+use Rattle.sqlite.specs.Effect.{IsSource, Answers}
 use Rattle.sqlite.specs.Rows.{Part, Written, Task, stamped, Inserts, Updates, Deletes}
-use Rattle.sqlite.specs.{State.State, State.Executes, declared.run.Mode.Mode}
-use Rattle.sqlite_catalog.specs.Change.{without_table, KeepsRows}
-use Rattle.sqlite_keyed.proofs.ListLemmas.{map-map, filter_same}
-use Rattle.sqlite_rules.specs.{Calls.ids_of, Cast.cast_row}
-use Rattle.sqlite_rules.specs.Edit.{Edit, edit_of, edited, taken_by, without_all, id_in, have_rowids, are_fresh, left_by, numbered, put_all, is_taken}
-use Rattle.sqlite_rules.specs.declared.error.Rowids.TheVariants.{Chosen, Given}
-use Rattle.sqlite_schema.specs.declared.command.Command.TheVariants.{Insert, Update, Delete, DropTable}
+use Rattle.sqlite.specs.declared.run.Mode.{Mode}
+use Rattle.sqlite_rules.specs.{Calls.ids_of, Edit.Edit, Edit.edited, Edit.taken_by, Edit.left_by}
 use Rattle.sqlite_schema.specs.declared.command.Source.{Source, TheVariants.Values, TheVariants.Query}
-use Rattle.sqlite_schema.specs.declared.program.Program.{Program}
-use Rattle.sqlite_schema.specs.declared.schema.{Column.Column, Keys.TheVariants.Enforced, Schema.Schema, Table.Table}
-use Rattle.sqlite_sql.specs.{Program.overlay, Term.Term, Term.col, Term.eval_all}
-use Rattle.sqlite_trees.{proofs.ListLemmas.all-permutation, specs.Tree.Trees, specs.Tree.rowid, specs.Tree.put_row}
-use Rattle.{sqlite_trees.specs.View.is_int, sqlite_value.specs.Order.Row, sqlite_value.specs.Order.column}
-use Rattle.sqlite_value.specs.declared.{keys.Order.Order, value.Value.Value, value.Value.TheVariants.Null}
+use Rattle.{sqlite_schema.specs.declared.program.Program.Program, sqlite_value.specs.declared.keys.Order.Order}
+use Rattle.review_sql_tables.proofs.Common.{ℤ, drop, unwrap_or, ◌≡◌, ◌≢◌, ◌⊎◌, inl, inr, ℕ, ◌/◌, List, [], ◌∷◌, length, map, slice_get, append-nil, true, false, Some, None, Ok, Err, Result, refl, sym, ap, subst, subst₂, ◌∙◌, IsTrue, Option, Bool, not, filter, eqb, eqb-true, or_cases, cases_Bool, eqb-false, and_parts, not-true, IsPermutation-map, AllByRecursion, list_any, IsPermutation, IsPlain, command_of, statement_of, runs_as, Tally, is_acted_on, Database, IsDatabase, value_rows, understood, State, Executes, without_table, KeepsRows, map-map, filter_same, cast_row, edit_of, without_all, id_in, have_rowids, are_fresh, numbered, put_all, is_taken, Chosen, Given, Insert, Update, Delete, DropTable, Column, Enforced, Schema, Table, overlay, Term, col, eval_all, all-permutation, Trees, rowid, put_row, is_int, Row, column, Value, Null, has_key, AreApart, IsAdded, Adds, Remakes, SparesOthers, simple, desk_schema, is_tree, columns_of, IsReady, over_table, HasNoKeys}
 use Rattle.review_sql_tables.proofs.Lists.{id_of, added, removed, apart_put, apart_filter}
 use Rattle.review_sql_tables.proofs.Moves.{apart_all, put_in_empty}
 use Rattle.review_sql_tables.proofs.Queries.{passes, shows, selects}
 use Rattle.review_sql_tables.proofs.Remade.{numbered_given, all_become, all_to_map, remade}
-use Rattle.review_sql_tables.specs.Content.{has_key, AreApart, IsAdded, Adds, Remakes, SparesOthers}
-use Rattle.review_sql_tables.specs.Desk.{simple, desk_schema, is_tree}
-use Rattle.review_sql_tables.specs.{Moved.columns_of, Ran.IsReady, Texts.over_table, inner.Moving.HasNoKeys}
 
 -- a part that gave a value did not stop on the way
 pub went : {B E R : Type 0} {b : B} {Stops : E → Type 0} → ((stop : E) × Stops stop × (Ok b ≡ Err stop)) ⊎ R → R
@@ -235,8 +218,7 @@ module _ (name : List ℕ) (tree : ℕ) (columns : List Column) (key : Option �
         → (row : Row) → (edit_of old.now.trees the [] Chosen 0 (value_rows params width (length terms / width) terms)).news ≡ row ∷ []
         → IsReady new.now × Adds tree row old.now.trees new.now.trees
     inserts terms width is count h row news =
-        let command = Insert at (Values terms width) in
-        let w = runs_as sql params old new desk_schema has.schema command is plain count h in
+        let w = runs_as sql params old new desk_schema has.schema (Insert at (Values terms width)) is plain count h in
         let it = inserts_in old.step_limit params old.now (statement_of sql (understood desk_schema sql)) at here none w.tally new.now terms width w.changed in
         let rows : new.now.trees tree ≡ put_row row (old.now.trees tree) = it.1.is ∙ ap (put_all (old.now.trees tree)) news in
         let keyed : IsTrue (is_int (rowid row)) = (and_parts _ _ (ap have_rowids (sym news) ∙ it.2.keyed)).0 in
@@ -253,8 +235,7 @@ module _ (name : List ℕ) (tree : ℕ) (columns : List Column) (key : Option �
         → IsReady new.now × (new.now.trees tree ≡ filter (λ r. not (test r)) (old.now.trees tree)) × SparesOthers tree old.now.trees new.now.trees
     deletes tests is own count h test same =
         let q : Program = record { lets = []; body = over_table tree tests (col 1 0 ∷ []) [] } in
-        let command = Delete at q in
-        let w = runs_as sql params old new desk_schema has.schema command is plain count h in
+        let w = runs_as sql params old new desk_schema has.schema (Delete at q) is plain count h in
         let it = deletes_in old.step_limit params old.now (statement_of sql (understood desk_schema sql)) at here none w.tally new.now q w.changed in
         let found = selects tree tests (col 1 0 ∷ []) [] old.now.trees params it.1 own (it.2.answer Null) in
         let up = has.apart tree listed in
@@ -272,8 +253,7 @@ module _ (name : List ℕ) (tree : ℕ) (columns : List Column) (key : Option �
         → IsReady new.now × Remakes tree key stored count old.now.trees new.now.trees
     updates tests project is own count h key same stored keyed cast =
         let q : Program = record { lets = []; body = over_table tree tests (col 1 0 ∷ project) [] } in
-        let command = Update at q in
-        let w = runs_as sql params old new desk_schema has.schema command is plain count h in
+        let w = runs_as sql params old new desk_schema has.schema (Update at q) is plain count h in
         let it = updates_in old.step_limit params old.now (statement_of sql (understood desk_schema sql)) at here none w.tally new.now q w.changed in
         let before = old.now.trees tree in
         let up = has.apart tree listed in

@@ -1,18 +1,8 @@
 -- What the texts of changes are understood as.
-use Rattle.std.proofs.Common.{◌≡◌, ◌∙◌, IsTrue, true, ap, ℕ, ℤ, pos, List, [], ◌∷◌, refl}
-use Rattle.{std.proofs.lemmas.Bool.and_parts, sqlite.specs.Listing.understood}
-use Rattle.sqlite_rules.proofs.TableLemmas.{int_is as table_int_is}
-use Rattle.sqlite_rules.specs.{Cast.cast, Edit.id_in, Edit.next_rowid}
-use Rattle.{sqlite_schema.specs.declared.schema.Kind.TheVariants.Integer, sqlite_tied.specs.Compute.everything}
-use Rattle.sqlite_trees.specs.{Tree.rowid, View.is_int}
-use Rattle.sqlite_value.specs.Order.{Row, column}
-use Rattle.sqlite_value.specs.declared.value.Value.TheVariants.{Null, Int, Text}
-use Rattle.review_sql_tables.proofs.Meaning.{cast_null, cast_int, tested}
-use Rattle.review_sql_tables.{proofs.Values.int_is, specs.Content.has_key}
-use Rattle.review_sql_tables.specs.Desk.{accounts, members, projects_2, bases, changes, patches, votes, reviewers, comments, attention, answers_3, desk, epochs}
-use Rattle.review_sql_tables.specs.Texts.{Deletes, Inserts, Updates}
+use Rattle.sqlite_rules.{proofs.TableLemmas.int_is as table_int_is, specs.Edit.next_rowid}
+use Rattle.review_sql_tables.proofs.Common.{◌≡◌, ◌∙◌, IsTrue, true, ap, ℕ, ℤ, pos, List, [], ◌∷◌, refl, and_parts, understood, cast, id_in, Integer, everything, rowid, is_int, Row, column, Null, Int, Text, has_key, accounts, members, projects_2, bases, changes, patches, votes, reviewers, comments, attention, answers_3, desk, epochs, Deletes, Inserts, Updates, DeletesBelow}
+use Rattle.review_sql_tables.proofs.{Meaning.cast_null, Meaning.cast_int, Meaning.tested, Values.int_is}
 use Rattle.review_sql_tables.specs.declared.texts.TheConstants.{INSERT_ACCOUNT, DELETE_ACCOUNT, INSERT_MEMBER, DELETE_MEMBER, INSERT_PROJECT, DELETE_PROJECT, INSERT_BASE, DELETE_BASE, INSERT_CHANGE, UPDATE_CHANGE, DELETE_CHANGE, INSERT_PATCH, DELETE_PATCH, INSERT_VOTE, DELETE_VOTE, INSERT_REVIEWER, DELETE_REVIEWER, INSERT_COMMENT, DELETE_COMMENT, INSERT_ATTENTION, DELETE_ATTENTION, INSERT_ANSWER, DELETE_ANSWER, INSERT_DESK, UPDATE_DESK, DELETE_DESK, INSERT_EPOCHS, UPDATE_EPOCHS, DELETE_EPOCHS, DELETE_ANSWERS_BELOW}
-use Rattle.review_sql_tables.specs.inner.Words.{DeletesBelow}
 
 -- a rowid stays what it is
 cast_id : (r : Row) → IsTrue (is_int (rowid r)) → cast Integer (column r 0) ≡ Int (id_in (rowid r))

@@ -1,11 +1,6 @@
 -- What the texts of look-ups are understood as.
-use Rattle.std.proofs.Common.{ℕ, ℤ, List, [], ◌∷◌, codes, refl}
-use Rattle.{sqlite.specs.Listing.understood, sqlite_tied.specs.Compute.everything}
-use Rattle.sqlite_value.specs.declared.value.Value.TheVariants.{Int, Text}
-use Rattle.review_sql_tables.specs.Desk.{accounts, members, projects_2, bases, changes, patches, votes, reviewers, comments, attention, answers_3, desk, epochs}
-use Rattle.review_sql_tables.specs.Texts.{Asks, rows_where, last_where}
-use Rattle.review_sql_tables.specs.declared.texts.TheConstants.{FIND_ACCOUNT, FIND_MEMBER, FIND_PROJECT, FIND_BASE, FIND_CHANGE, FIND_PATCH, FIND_ANSWER, FIND_DESK, FIND_EPOCHS, FIND_ACCOUNT_NAMED, FIND_GROUP, FIND_PROJECT_NAME, FIND_BASE_COMMIT, FIND_BRANCH, FIND_PATCHES, FIND_VOTES, FIND_REVIEWERS, FIND_COMMENTS, FIND_CALLS, FIND_CHANGE_BRANCH, FIND_SENT, FIND_CHANGE_AT, FIND_LAST_ACCOUNT, FIND_LAST_PLACE, FIND_LAST_CHANGE, FIND_LAST_JOINED, FIND_LAST_PATCH, COUNT_PROJECTS, COUNT_BASES}
-use Rattle.review_sql_tables.specs.inner.Words.{count_where}
+use Rattle.review_sql_tables.proofs.Common.{ℕ, ℤ, List, [], ◌∷◌, codes, refl, understood, everything, Int, Text, accounts, members, projects_2, bases, changes, patches, votes, reviewers, comments, attention, answers_3, desk, epochs, Asks, rows_where, last_where, FIND_ANSWER, FIND_DESK, FIND_EPOCHS, count_where}
+use Rattle.review_sql_tables.specs.declared.texts.TheConstants.{FIND_ACCOUNT, FIND_MEMBER, FIND_PROJECT, FIND_BASE, FIND_CHANGE, FIND_PATCH, FIND_ACCOUNT_NAMED, FIND_GROUP, FIND_PROJECT_NAME, FIND_BASE_COMMIT, FIND_BRANCH, FIND_PATCHES, FIND_VOTES, FIND_REVIEWERS, FIND_COMMENTS, FIND_CALLS, FIND_CHANGE_BRANCH, FIND_SENT, FIND_CHANGE_AT, FIND_LAST_ACCOUNT, FIND_LAST_PLACE, FIND_LAST_CHANGE, FIND_LAST_JOINED, FIND_LAST_PATCH, COUNT_PROJECTS, COUNT_BASES}
 
 pub find_account : (number : ℤ) → Asks FIND_ACCOUNT.now (rows_where accounts.tree ((0, Int number) ∷ []) (2 ∷ []))
 unfolding understood everything

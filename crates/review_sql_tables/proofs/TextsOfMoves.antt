@@ -1,23 +1,8 @@
 -- What the texts of a migration are understood as, and what such texts do.
-use Rattle.std.proofs.Common.{◌≡◌, ◌≢◌, ◌∙◌, ℕ, List, [], ◌∷◌, map, filter, slice_get, Some, Ok, refl, ap, sym, subst, pos}
-use Rattle.std.proofs.lemmas.List.Sorted.{IsPermutation-map, IsPermutation-trans}
-use Rattle.std.specs.List.{AllByRecursion, Sorted.IsPermutation}
-use Rattle.sqlite.proofs.Callers.{statement_of, runs_as}
-use Rattle.sqlite.specs.{Does.is_acted_on, Listing.understood, State.State, State.Executes}
-use Rattle.sqlite_catalog.specs.Change.{without_table, KeepsRows}
-use Rattle.{sqlite_keyed.proofs.ListLemmas.map-map, sqlite_rules.specs.Cast.cast_row}
-use Rattle.sqlite_schema.specs.declared.command.Command.TheVariants.{Insert, DropTable}
 use Rattle.sqlite_schema.specs.declared.command.Source.TheVariants.{Query}
-use Rattle.sqlite_schema.specs.declared.schema.{Keys.TheVariants.Enforced, Schema.Schema}
-use Rattle.{sqlite_sql.specs.Term.lit, sqlite_sql.specs.Term.col, sqlite_tied.specs.Compute.everything}
-use Rattle.sqlite_value.specs.{Order.Row, declared.keys.Collation.TheVariants.Binary}
-use Rattle.sqlite_value.specs.declared.value.Value.TheVariants.{Null, Int, Text}
+use Rattle.review_sql_tables.proofs.Common.{◌≡◌, ◌≢◌, ◌∙◌, ℕ, List, [], ◌∷◌, map, filter, slice_get, Some, Ok, refl, ap, sym, subst, pos, IsPermutation-map, IsPermutation-trans, AllByRecursion, IsPermutation, statement_of, runs_as, is_acted_on, understood, State, Executes, without_table, KeepsRows, map-map, cast_row, Insert, DropTable, Enforced, Schema, lit, col, everything, Row, Binary, Null, Int, Text, schema_of, simple, Move, columns_of, projects_move, answers_move, MOVE_PROJECTS, DROP_PROJECTS, MOVE_ANSWERS, DROP_ANSWERS, FillsText, DropsText, HasNoKeys, with_both, Fills, Drops}
 use Rattle.review_sql_tables.proofs.{Meaning.plain, Meaning.cast_int, Queries.selects_by, Queries.shows, Queries.passes}
-use Rattle.review_sql_tables.proofs.Statements.{copies_in, drops_in}
-use Rattle.review_sql_tables.specs.Desk.{schema_of, simple}
-use Rattle.review_sql_tables.specs.Moved.{Move, columns_of, projects_move, answers_move}
-use Rattle.review_sql_tables.specs.declared.texts.TheConstants.{MOVE_PROJECTS, DROP_PROJECTS, MOVE_ANSWERS, DROP_ANSWERS}
-use Rattle.review_sql_tables.specs.inner.Moving.{FillsText, DropsText, all_rows, HasNoKeys, with_both, Fills, Drops}
+use Rattle.review_sql_tables.{proofs.Statements.copies_in, proofs.Statements.drops_in, specs.inner.Words.all_rows}
 
 -- ---- the texts of both steps
 

@@ -1,10 +1,6 @@
 -- Values that keys have.
-use Rattle.std.proofs.Common.{◌≡◌, ◌∙◌, ℤ, true, Ordering, Equal, refl, sym, ap}
-use Rattle.std.{proofs.lemmas.Cmp.tied_itself, specs.Ordering.is_eq}
 use Rattle.sqlite_keyed.proofs.KeyedLemmas.{same_int as whole}
-use Rattle.sqlite_value.proofs.OrderLemmas.{value_cmp_total, value_cmp-Int}
-use Rattle.sqlite_value.specs.{Order.value_cmp, declared.value.Value.Value, declared.value.Value.TheVariants.Int}
-use Rattle.review_sql_tables.specs.Content.{is_value}
+use Rattle.review_sql_tables.proofs.Common.{◌≡◌, ◌∙◌, ℤ, true, Ordering, Equal, refl, sym, ap, tied_itself, is_eq, value_cmp_total, value_cmp-Int, value_cmp, Value, Int, is_value}
 
 pub equal_is : (o : Ordering) → is_eq o ≡ true → o ≡ Equal
 equal_is Equal h = refl

@@ -2,15 +2,8 @@ pub mod Desk
 pub mod Content
 pub mod Ran
 pub mod Search
-pub mod Greatest
 pub mod Texts
-pub mod Moved
-pub mod Fronts
-pub mod Made
-pub mod Migrated
 pub mod Plain
-pub mod Single
 pub mod Record
-pub mod Columns
 pub mod Versions
 pub mod inner

@@ -1,8 +1,13 @@
 -- What the texts of a table of records mean.
-use Rattle.std.specs.Prelude.{ℕ, List, ◌≡◌}
-use Rattle.review_sql_tables.specs.Search.{Form, IsLawful, Search}
-use Rattle.review_sql_tables.specs.{Single.IsSingle, Texts.Deletes, Texts.Inserts}
+use Rattle.std.specs.Prelude.{◌≤◌, length, ℕ, List, ◌≡◌}
+use Rattle.sqlite.specs.Effect.{Database}
+use Rattle.review_sql_tables.specs.{Ran.IsReady, Search.Search, Search.rows_at, Search.Form, Search.IsLawful}
+use Rattle.review_sql_tables.specs.Texts.{Deletes, Inserts}
 use Rattle.review_sql_tables.specs.declared.table.Sets.{Sets, TheVariants.PutsIn}
+
+-- at a key a table of a desk has one row, at most
+abbrev pub IsSingle : {A X : Type 0} → Search A X → Type 0
+IsSingle {A} s = (db : Database) → IsReady db → (key : A) → length (rows_at (s.at key) (db.trees s.tree)) ≤ 1
 
 -- how a record is given to a key, and the texts that put one in and take those of a key away
 pub record Written : Type 0 where

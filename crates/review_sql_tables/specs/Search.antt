@@ -1,10 +1,33 @@
--- How rows are looked up and stored, whatever the table.
-use Rattle.std.specs.List.{list_any, Sorted.IsPermutation}
-use Rattle.std.specs.Prelude.{[], ℕ, List, filter, Bool, Option, map, ◌∷◌, Some, None, ◌≡◌, true, not, is_some, ℤ, ◌≢◌, ◌+◌, false, length, option_map}
-use Rattle.{sqlite_trees.specs.Tree.Trees, sqlite_value.specs.Order.Row as Raw, sqlite_value.specs.Order.column}
-use Rattle.sqlite_value.specs.declared.value.Value.{Value, TheVariants.Int, TheVariants.Null}
-use Rattle.review_table.specs.declared.table.RowEdit.{RowEdit}
+-- How values of columns read, and how rows are looked up and stored, whatever the table.
+use Rattle.std.specs.{BTreeMap.is_at, List.list_any, List.AllByRecursion, List.Sorted.IsPermutation, Ordering.is_gt}
+use Rattle.std.specs.Prelude.{ℕ, pos, List, Option, Some, None, if◌then◌else◌, [], filter, Bool, map, ◌∷◌, ◌≡◌, true, not, is_some, ℤ, ◌≢◌, ◌+◌, false, length, option_map, min, ◌⊎◌}
+use Rattle.std.specs.{Str.is_utf8, declared.cmp.Ordering.Ordering}
+use Rattle.{sqlite_rules.specs.Lists.Has, sqlite_trees.specs.Tree.Trees}
+use Rattle.sqlite_value.specs.{Order.Row as Raw, Order.column, Order.value_cmp, declared.value.Value.Value}
+use Rattle.sqlite_value.specs.declared.value.Value.TheVariants.{Null, Int, Real, Text, Blob}
+use Rattle.review_table.specs.{Rows.row_in, declared.table.RowEdit.RowEdit}
 use Rattle.review_sql_tables.specs.Content.{has_key, Adds, SparesOthers}
+
+-- ---- how values of columns read
+
+-- a number that is not negative, where the value is one
+abbrev pub number_in : Value → Option ℕ
+number_in Null = None
+number_in (Int (pos n)) = Some n
+number_in (Int n) = None
+number_in (Real x) = None
+number_in (Text t) = None
+number_in (Blob b) = None
+
+-- a text, where the value is one and UTF-8
+abbrev pub text_in : Value → Option (List ℕ)
+text_in Null = None
+text_in (Int n) = None
+text_in (Real x) = None
+text_in (Text t) = if is_utf8 t then Some t else None
+text_in (Blob b) = None
+
+-- ---- look-ups
 
 -- places of columns, and the values that a row has there
 abbrev pub At : Type 0
@@ -106,3 +129,54 @@ pub record SetsRow {A X : Type 0} (s : Search A X) (key : A) (row : Option X) (o
 abbrev pub SetsRows : {A X : Type 0} → Search A X → List (RowEdit A X) → Trees → Trees → Type 0
 SetsRows s [] old new = new ≡ old
 SetsRows s (c ∷ cs) old new = (mid : Trees) × SetsRows s cs old mid × SetsRow s c.key c.row mid new
+
+-- ---- the row with the greatest value of a column, and how many rows there are
+
+-- the row is one of these, and none of them has more in the column, as SQL orders values
+pub record IsGreatest (place : ℕ) (rows : List Raw) (r : Raw) : Type 0 where
+  pub among : Has rows r
+  pub most : AllByRecursion (λ q. is_gt (value_cmp (column q place) (column r place)) ≡ false) rows
+
+-- how many rows there are as SQL counts them, up to its greatest integer
+abbrev pub as_counted : ℕ → ℕ
+as_counted n = min n 9223372036854775807
+
+-- the row with the greatest value of a column as it reads, or that there is no row
+abbrev pub HasGreatest : {A X : Type 0} → Search A X → ℕ → A → Trees → Option (Option X) → Type 0
+HasGreatest s place a db None = rows_at (s.at a) (db s.tree) ≡ []
+HasGreatest s place a db (Some x) = (r : Raw) × IsGreatest place (rows_at (s.at a) (db s.tree)) r × (x ≡ reads s r)
+
+-- one of the rows of a look-up as it reads, or that there is none
+abbrev pub HasOne : {A X : Type 0} → Search A X → A → Trees → Option (Option X) → Type 0
+HasOne s a db None = rows_at (s.at a) (db s.tree) ≡ []
+HasOne s a db (Some x) = (r : Raw) × Has (rows_at (s.at a) (db s.tree)) r × (x ≡ reads s r)
+
+-- ---- rows that are looked up by the front of their keys: those of an owner
+
+-- the order of keys tells them apart
+pub record IsExact {A : Type 0} (cmp : A → A → Ordering) : Type 0 where
+  pub same : (a b : A) → is_at (cmp a) b ≡ true → a ≡ b
+  pub itself : (a : A) → is_at (cmp a) a ≡ true
+
+-- A look-up finds the rows of an owner, each with the rest of its key: they are those of the keys that begin with the owner, and read as such.
+pub record IsFront {O K X : Type 0} (cmp : K → K → Ordering) (front : Search O (K × X)) (whole : Search (O × K) X) : Type 0 where
+  pub tree : front.tree ≡ whole.tree
+  pub exact : IsExact cmp
+  pub within : (o : O) (k : K) (r : Raw) → has_key (whole.at (o, k)) r ≡ true → has_key (front.at o) r ≡ true
+  pub keyed : (o : O) (k : K) (x : X) (r : Raw) → has_key (front.at o) r ≡ true → reads front r ≡ Some (k, x) → has_key (whole.at (o, k)) r ≡ true
+  pub shows : (o : O) (k : K) (x : X) (r : Raw) → reads front r ≡ Some (k, x) → reads whole r ≡ Some x
+  pub alone : (o : O) (j k : K) (x : X) (r : Raw) → reads front r ≡ Some (j, x) → has_key (whole.at (o, k)) r ≡ true → j ≡ k
+
+-- the rows of an owner are these, by the rest of their keys
+abbrev pub HaveRows : {O K X : Type 0} → (K → K → Ordering) → Search (O × K) X → O → Trees → List (K × X) → Type 0
+HaveRows {K = K} cmp s o db entries = (k : K) → row_at s db (o, k) ≡ option_map Some (row_in cmp entries k)
+
+-- the rows of an owner by the rest of their keys, or that one of them is odd, or two have one key
+abbrev pub AreParts : {O K X : Type 0} → (K → K → Ordering) → Search O (K × X) → Search (O × K) X → O → Trees → Option (List (K × X)) → Type 0
+AreParts {K = K} cmp front whole o db None = HasOdd (reads front) (rows_at (front.at o) (db front.tree)) ⊎ ((k : K) × (row_at whole db (o, k) ≡ Some None))
+AreParts cmp front whole o db (Some entries) = HaveRows cmp whole o db entries
+
+-- changes of an owner's rows are made, the last first
+abbrev pub SetsParts : {O K X : Type 0} → Search (O × K) X → O → List (RowEdit K X) → Trees → Trees → Type 0
+SetsParts s o [] old new = new ≡ old
+SetsParts s o (c ∷ cs) old new = (mid : Trees) × SetsParts s o cs old mid × SetsRow s (o, c.key) c.row mid new

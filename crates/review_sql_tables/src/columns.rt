@@ -1,7 +1,7 @@
 //! The columns of a row, as they read.
 ghost use Rattle.std.specs.Prelude.{◌≡◌, option_map};
 ghost use Rattle.sqlite_value.specs.Order.{column};
-ghost use Rattle.review_sql_tables.specs.Columns.{number_in, text_in};
+ghost use Rattle.review_sql_tables.specs.Search.{number_in, text_in};
 
 use sqlite::Row;
 use sqlite::types::ValueRef;

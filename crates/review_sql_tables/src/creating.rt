@@ -1,7 +1,7 @@
 //! The tables of a version are made, and known again.
 ghost use Rattle.std.specs.{Bool.Decides, Prelude.◌≡◌, Prelude.false, Prelude.IfOk};
 ghost use Rattle.{sqlite.specs.Held.state, review_sql_tables.specs.Desk.schema_0};
-ghost use Rattle.review_sql_tables.specs.{Made.Grows, Ran.Within, Ran.Opens, Ran.Transacts, Versions.schema_at};
+ghost use Rattle.review_sql_tables.specs.{Ran.Within, Ran.Opens, Ran.Transacts, Versions.Grows, Versions.schema_at};
 
 use crate::making::make_first_tables;
 use crate::migrating::{migrate_tables, move_projects};

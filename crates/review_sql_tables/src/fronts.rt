@@ -1,8 +1,8 @@
 //! The rows of an owner are looked up and changed, whatever the table.
 ghost use Rattle.std.specs.Prelude.{◌≡◌, option_map, IfOk};
 ghost use Rattle.{sqlite.specs.Held.state, review_table.specs.Rows.rows_of};
-ghost use Rattle.review_sql_tables.specs.Fronts.{AreParts, SetsParts};
-ghost use Rattle.review_sql_tables.specs.{Ran.Inside, Ran.Looks, Ran.Opens, Search.SetsRow, inner.Words.WereSorted};
+ghost use Rattle.review_sql_tables.specs.Ran.{Inside, Looks, Opens};
+ghost use Rattle.review_sql_tables.specs.{Search.AreParts, Search.SetsParts, Search.SetsRow, inner.Words.WereSorted};
 
 use crate::changes::change;
 use crate::table::{Lookup, Record, select};
@@ -13,7 +13,7 @@ use std::alloc::{AllocError, Global};
 /// A look-up of all rows of an owner, each with the rest of its key.
 pub trait Front: Lookup<Item = (<Self as Front>::Part, <Self as Front>::Rest)> {
     ghost use Rattle.std.specs.Prelude.{◌≡◌};
-    ghost use Rattle.review_sql_tables.specs.{Fronts.IsFront, Search.Search};
+    ghost use Rattle.review_sql_tables.specs.Search.{IsFront, Search};
 
     /// The rest of a key.
     type Part: Key;

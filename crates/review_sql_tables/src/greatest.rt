@@ -1,7 +1,8 @@
 //! The row with the greatest value of a column is looked up.
 ghost use Rattle.std.specs.Prelude.{◌≡◌, IfOk};
-ghost use Rattle.{sqlite.specs.Held.state, review_sql_tables.specs.Greatest.HasGreatest};
-ghost use Rattle.review_sql_tables.specs.{Ran.Looks, Texts.values_of, inner.Words.first_as, inner.Words.FindsGreatest};
+ghost use Rattle.sqlite.specs.Held.{state};
+ghost use Rattle.review_sql_tables.specs.{Ran.Looks, Search.HasGreatest, Texts.values_of};
+ghost use Rattle.review_sql_tables.specs.inner.Words.{first_as, FindsGreatest};
 
 use crate::bound::Bound;
 use crate::table::Sql;

@@ -1,16 +1,19 @@
 //! Tables are made by their texts.
 ghost use Rattle.std.specs.Prelude.{◌≡◌, ◌<◌, ℕ, List, map, slice_index_or};
 ghost use Rattle.sqlite.specs.Held.{state};
-ghost use Rattle.review_sql_tables.specs.{Desk.schema_0, Desk.schema_1, Made.MakesBy, Made.Grows};
-ghost use Rattle.review_sql_tables.specs.{Ran.Within, Ran.Opens, declared.texts.TheConstants.CREATE};
+ghost use Rattle.review_sql_tables.specs.{Desk.schema_0, Desk.schema_1, Ran.Within, Ran.Opens};
+ghost use Rattle.review_sql_tables.specs.{Versions.MakesBy, Versions.Grows, declared.texts.TheConstants.CREATE};
+ghost use Rattle.review_sql_tables.specs.inner.Words.{DropsBy, FillsBy};
 
 use crate::texts;
 use sqlite::{Alter, Error, Transaction};
 
-/// Makes the table of a text.
-pub fn make<S: Alter>(tx: &mut Transaction<'_, S>, sql: &str) -> Result<usize, Error>
+/// Runs a text by which a table is made, gets the rows of another, or is dropped.
+pub fn run_text<S: Alter>(tx: &mut Transaction<'_, S>, sql: &str) -> Result<usize, Error>
     ensures same_reference { tx.new.conn.ghost_name ≡ tx.old.conn.ghost_name }
-    ensures ran { Within (MakesBy sql.now) (state S.Store tx.old.conn.now) (state S.Store tx.new.conn.now) result }
+    ensures makes { Within (MakesBy sql.now) (state S.Store tx.old.conn.now) (state S.Store tx.new.conn.now) result }
+    ensures fills { Within (FillsBy sql.now) (state S.Store tx.old.conn.now) (state S.Store tx.new.conn.now) result }
+    ensures drops { Within (DropsBy sql.now) (state S.Store tx.old.conn.now) (state S.Store tx.new.conn.now) result }
     ensures open { Opens (state S.Store tx.old.conn.now) (state S.Store tx.new.conn.now) result }
 {
     tx.execute(sql, &[])
@@ -30,9 +33,9 @@ pub fn make_first_tables<S: Alter>(tx: &mut Transaction<'_, S>) -> Result<(), Er
     ensures ran { Within (Grows schema_0 schema_1) (state S.Store tx.old.conn.now) (state S.Store tx.new.conn.now) result }
     ensures open { Opens (state S.Store tx.old.conn.now) (state S.Store tx.new.conn.now) result }
 {
-    make(tx, create_text(0))?;
+    run_text(tx, create_text(0))?;
     for at in 1..12 {
-        make(tx, create_text(at))?;
+        run_text(tx, create_text(at))?;
     }
     Ok(())
 }

@@ -1,32 +1,13 @@
 //! Tables of an earlier version become those of the latest, a version after the other.
 ghost use Rattle.std.specs.Prelude.{◌≡◌};
-ghost use Rattle.sqlite.specs.Held.{state};
-ghost use Rattle.review_sql_tables.specs.{Migrated.Migrates, Migrated.Moves, Moved.answers_move, Moved.projects_move};
-ghost use Rattle.review_sql_tables.specs.{Ran.Within, Ran.Opens, inner.Moving.DropsBy, inner.Moving.FillsBy};
+ghost use Rattle.{sqlite.specs.Held.state, review_sql_tables.specs.Ran.Within, review_sql_tables.specs.Ran.Opens};
+ghost use Rattle.review_sql_tables.specs.Versions.{Migrates, Moves, answers_move, projects_move};
 ghost use Rattle.review_sql_tables.specs.declared.versions.EarlierVersion.TheVariants as earlier;
 
-use crate::making::make;
+use crate::making::run_text;
 use crate::texts;
 use crate::versions::EarlierVersion;
 use sqlite::{Alter, Error, Transaction};
-
-// Moves rows to a new table, by a text.
-fn fill<S: Alter>(tx: &mut Transaction<'_, S>, sql: &str) -> Result<usize, Error>
-    ensures same_reference { tx.new.conn.ghost_name ≡ tx.old.conn.ghost_name }
-    ensures ran { Within (FillsBy sql.now) (state S.Store tx.old.conn.now) (state S.Store tx.new.conn.now) result }
-    ensures open { Opens (state S.Store tx.old.conn.now) (state S.Store tx.new.conn.now) result }
-{
-    tx.execute(sql, &[])
-}
-
-// Drops a table, by a text.
-fn drop_table<S: Alter>(tx: &mut Transaction<'_, S>, sql: &str) -> Result<usize, Error>
-    ensures same_reference { tx.new.conn.ghost_name ≡ tx.old.conn.ghost_name }
-    ensures ran { Within (DropsBy sql.now) (state S.Store tx.old.conn.now) (state S.Store tx.new.conn.now) result }
-    ensures open { Opens (state S.Store tx.old.conn.now) (state S.Store tx.new.conn.now) result }
-{
-    tx.execute(sql, &[])
-}
 
 /// Makes tables of version 1 those of version 2: each project moves to the new table, where it has no parent. The version that the table `desk` says stays.
 pub fn move_projects<S: Alter>(tx: &mut Transaction<'_, S>) -> Result<(), Error>
@@ -34,9 +15,9 @@ pub fn move_projects<S: Alter>(tx: &mut Transaction<'_, S>) -> Result<(), Error>
     ensures ran { Within (Moves projects_move) (state S.Store tx.old.conn.now) (state S.Store tx.new.conn.now) result }
     ensures open { Opens (state S.Store tx.old.conn.now) (state S.Store tx.new.conn.now) result }
 {
-    make(tx, texts::CREATE_PROJECTS_2)?;
-    fill(tx, texts::MOVE_PROJECTS)?;
-    drop_table(tx, texts::DROP_PROJECTS)?;
+    run_text(tx, texts::CREATE_PROJECTS_2)?;
+    run_text(tx, texts::MOVE_PROJECTS)?;
+    run_text(tx, texts::DROP_PROJECTS)?;
     Ok(())
 }
 
@@ -46,9 +27,9 @@ fn move_answers<S: Alter>(tx: &mut Transaction<'_, S>) -> Result<(), Error>
     ensures ran { Within (Moves answers_move) (state S.Store tx.old.conn.now) (state S.Store tx.new.conn.now) result }
     ensures open { Opens (state S.Store tx.old.conn.now) (state S.Store tx.new.conn.now) result }
 {
-    make(tx, texts::CREATE_ANSWERS_3)?;
-    fill(tx, texts::MOVE_ANSWERS)?;
-    drop_table(tx, texts::DROP_ANSWERS)?;
+    run_text(tx, texts::CREATE_ANSWERS_3)?;
+    run_text(tx, texts::MOVE_ANSWERS)?;
+    run_text(tx, texts::DROP_ANSWERS)?;
     Ok(())
 }
 
@@ -59,7 +40,7 @@ fn migrate_second<S: Alter>(tx: &mut Transaction<'_, S>) -> Result<(), Error>
     ensures open { Opens (state S.Store tx.old.conn.now) (state S.Store tx.new.conn.now) result }
 {
     move_answers(tx)?;
-    make(tx, texts::CREATE_EPOCHS)?;
+    run_text(tx, texts::CREATE_EPOCHS)?;
     Ok(())
 }
 

@@ -1,7 +1,7 @@
 //! What a look-up finds is read, whatever the table.
 ghost use Rattle.std.specs.Prelude.{◌≡◌, option_map, IfOk};
 ghost use Rattle.sqlite.specs.Held.{state};
-ghost use Rattle.review_sql_tables.specs.{Greatest.HasOne, Ran.Looks, Search.only, Search.row_at, Search.AreFound};
+ghost use Rattle.review_sql_tables.specs.{Ran.Looks, Search.HasOne, Search.only, Search.row_at, Search.AreFound};
 ghost use Rattle.review_sql_tables.specs.inner.Words.{first_as, WereRead};
 
 use crate::table::{Lookup, select};

@@ -3,8 +3,7 @@ ghost use Rattle.std.specs.{Bool.Decides, List.AllByRecursion, List.IsDistinct, 
 ghost use Rattle.std.specs.Prelude.{◌≡◌, ◌<◌, ℕ, List, map, option_map, slice_index_or, IfOk};
 ghost use Rattle.{sqlite.specs.Held.state, review_sql_tables.specs.Content.AreApart};
 ghost use Rattle.review_sql_tables.specs.{Desk.desk_schema, Ran.Looks, declared.texts.TheConstants.ROW_IDS};
-ghost use Rattle.review_sql_tables.specs.inner.Rowids.{AreIds, AreOwn, IsIdOf, firsts};
-ghost use Rattle.review_sql_tables.specs.inner.Words.{table_at, FindsIds};
+ghost use Rattle.review_sql_tables.specs.inner.Words.{AreIds, AreOwn, IsIdOf, firsts, table_at, FindsIds};
 
 use crate::texts;
 use sqlite::types::ValueRef;

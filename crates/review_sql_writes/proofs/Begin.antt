@@ -1,23 +1,16 @@
 -- A desk before its first request.
-use Rattle.std.proofs.Common.{◌≡◌, ◌≢◌, ◌∙◌, ◌==◌, ℕ, List, [], ◌∷◌, Some, None, option_map, cond, true, refl, sym, ap, subst, arith, inl, inr, length, eqb-true, Bool, Option, false}
-use Rattle.std.proofs.lemmas.Bool.{cases_Bool, both_ways, eqb-false}
-use Rattle.{std.specs.Prelude.nat_lt, std.specs.Str.bytes_eq, sqlite.specs.Effect.Database}
-use Rattle.{sqlite_trees.specs.Tree.Trees, sqlite_value.specs.declared.value.Value.TheVariants.Text}
 use Rattle.review_names.specs.Names.{admin_name, administrators}
-use Rattle.review_words.specs.History.{is_listed}
-use Rattle.review_sql_tables.proofs.{Made.ready_blank, Made.empty_at, Sequences.Next}
-use Rattle.review_sql_tables.specs.{Desk.schema_0, Desk.desk_schema, Desk.is_tree, Made.Grows, Made.IsBlank, Ran.OnDesk}
-use Rattle.review_sql_tables.specs.Search.{rows_at, row_at, only, reads, SetsRow}
+use Rattle.review_sql_tables.proofs.Common.{◌≡◌, ◌≢◌, ◌∙◌, ◌==◌, ℕ, List, [], ◌∷◌, Some, None, option_map, cond, true, refl, sym, ap, subst, arith, inl, inr, length, eqb-true, Bool, Option, false, cases_Bool, both_ways, eqb-false, nat_lt, bytes_eq, Database, Trees, Text, schema_0, desk_schema, is_tree, Grows, IsBlank, OnDesk, rows_at, row_at, only, reads, SetsRow}
+use Rattle.review_sql_tables.proofs.Made.{ready_blank, empty_at}
 use Rattle.review_core_rules.specs.Parts.{Part, TheHeader, PatchOf, VoteOf, RoleOf, CommentOf, AttentionOf, AHeader, APatch, ARole, AComment, AnAttentionEntry}
-use Rattle.review_machine_rows.specs.Changes.{Reading}
-use Rattle.review_machine_rows.specs.Rows.{Key, AccountKey, MemberKey as OfMember, FileKey, BaseKey, PartKey, OddKey, AccountRow, MemberRow, FileRow, BaseRow, APart, OddRow, Count, Projects, BasesOf, ClosedEpochs, Stored}
-use Rattle.review_machine_rows.specs.{View.IsView, View.fact, View.counted, declared.rows.MemberKey.MemberKey}
-use Rattle.review_sql_records.specs.Forms.{accounts, members, projects, bases, answers, epochs, request_key}
+use Rattle.review_machine_rows.specs.{Rows.MemberKey as OfMember, Rows.Stored, declared.rows.MemberKey.MemberKey}
+use Rattle.review_sql_records.proofs.Common.{is_listed, Next, Reading, Key, AccountKey, FileKey, BaseKey, PartKey, OddKey, AccountRow, MemberRow, FileRow, BaseRow, APart, OddRow, Count, Projects, BasesOf, ClosedEpochs, IsView, fact, counted, projects, answers, request_key}
+use Rattle.review_sql_records.specs.Forms.{accounts, members, bases, epochs}
 use Rattle.review_sql_change_records.specs.Forms.{headers, patches, votes, roles, comments, attention_entries}
 use Rattle.{review_sql_change_records.specs.Laws.same_bytes, review_sql_lookups.proofs.Telling.own_bytes}
 use Rattle.review_sql_lookups.specs.Tables.{part_in, vote_told, told, row_in, count_in, stored_as, number_of, tables_at, least_in, version_in}
 use Rattle.review_sql_writes.proofs.Unkeyed.{first_keeps, none_unkeyed, unkeyed_same}
-use Rattle.review_sql_writes.specs.{First.MakesDesk, Numbers.IsDesk, inner.Words.SetsFirst}
+use Rattle.review_sql_writes.specs.{Commits.MakesDesk, Commits.IsDesk, inner.Words.SetsFirst}
 
 module _ (a b : Trees) (blank : (t : ℕ) → is_tree t ≡ true → a t ≡ []) (h : SetsFirst a b) where
   abbrev m1 : Trees

@@ -1,45 +1,23 @@
 -- What the statements of a commit do together.
-use Rattle.std.proofs.Common.{◌≡◌, ◌≢◌, ◌∙◌, ◌+◌, ◌≤◌, ℕ, List, [], ◌∷◌, Option, Some, None, option_map, cond, Ordering, Equal, true, false, Bool, is_some, not, pos, refl, sym, ap, subst, arith, inl, inr, length, filter, eqb-true, eq-eqb, ◌&&◌}
-use Rattle.std.proofs.lemmas.Bool.{cases_Bool, and_parts, and_from, both_ways}
-use Rattle.std.proofs.lemmas.Cmp.{nat_cmp_total, tied_itself, nat_list_cmp_total}
-use Rattle.std.{proofs.lemmas.Map.Lookups.exact_unsigned, proofs.lemmas.Map.Lookups.exact_bytes, specs.BTreeMap.is_at}
-use Rattle.std.specs.{Cmp.Lexicographic.slice_cmp, Ordering.nat_cmp, Ordering.is_eq, Ordering.ordering_then}
-use Rattle.{std.specs.Prelude.nat_lt, std.specs.Prelude.unwrap_or, std.specs.Str.bytes_eq, sqlite.specs.Effect.Database}
-use Rattle.{sqlite_trees.specs.Tree.Trees, sqlite_value.specs.Order.Row as Raw, sqlite_value.specs.Order.column}
-use Rattle.sqlite_value.specs.declared.value.Value.TheVariants.{Int, Text}
-use Rattle.review_table.specs.Rows.{row_edit_of, after_row_edit}
-use Rattle.review_words.specs.History.{Identity, is_same}
+use Rattle.std.proofs.lemmas.{Cmp.nat_cmp_total, Map.Lookups.exact_unsigned}
 use Rattle.review_sql_tables.proofs.Changed.{rows_changed, rows_spare}
-use Rattle.review_sql_tables.proofs.{Keys.equal_is, Keys.int_is, Keys.same_text, Keys.text_is, Meaning.and_true}
-use Rattle.review_sql_tables.specs.Content.{SparesOthers, has_key, is_number_below, is_natural, is_text, is_value}
-use Rattle.review_sql_tables.specs.{Desk.is_tree, Fronts.IsExact, Ran.OnDesk}
-use Rattle.review_sql_tables.specs.Search.{row_at, rows_at, only, reads, Search}
-use Rattle.review_sql_tables.specs.inner.Words.{Then}
+use Rattle.review_sql_tables.proofs.Common.{ap, is_eq, ◌≡◌, ◌≢◌, ◌∙◌, ◌+◌, ◌≤◌, ℕ, List, [], ◌∷◌, Option, Some, None, option_map, cond, Ordering, true, false, Bool, is_some, not, pos, refl, sym, subst, arith, inl, inr, length, filter, eqb-true, eq-eqb, ◌&&◌, cases_Bool, and_parts, and_from, both_ways, tied_itself, nat_list_cmp_total, exact_bytes, is_at, slice_cmp, nat_cmp, nat_lt, unwrap_or, bytes_eq, Database, Trees, Raw, column, Int, Text, row_edit_of, after_row_edit, SparesOthers, has_key, is_number_below, is_natural, is_text, is_value, is_tree, IsExact, OnDesk, row_at, rows_at, only, reads, Search, Then}
+use Rattle.review_sql_tables.proofs.{Keys.int_is, Keys.text_is, Meaning.and_true}
 use Rattle.review_machine_rows.proofs.Puts.{exact_place, place_total}
-use Rattle.review_machine_rows.specs.Rows.{is_below, Key, AccountKey, MemberKey, FileKey, BaseKey, PartKey, OddKey, Row, AccountRow, MemberRow, FileRow, BaseRow, APart, OddRow, edited, Count, Projects, BasesOf, ClosedEpochs, Answered, member_cmp, member_change, account_change, after_put, count_put, place_cmp, kept_row, after, count_after}
-use Rattle.review_machine_rows.specs.Shelf.{IsCommitted}
-use Rattle.review_machine_rows.specs.declared.rows.{Delta.Delta, Kept.Kept, MemberKey.MemberKey as Member}
-use Rattle.review_machine_rows.specs.declared.rows.{PlaceKey.PlaceKey, Put.Put, StoredFile.StoredFile}
-use Rattle.review_sql_records.specs.Forms.{accounts, members, projects, bases, answers, epochs, is_of_lower, request_key}
-use Rattle.{review_sql_change_records.specs.Laws.same_bytes, review_sql_lookups.proofs.Telling.own_bytes}
+use Rattle.review_machine_rows.specs.Rows.{is_below, Row, member_cmp, member_change, account_change, after_put, place_cmp, after, count_after}
+use Rattle.review_machine_rows.specs.declared.rows.MemberKey.{MemberKey as Member}
+use Rattle.review_sql_records.proofs.Common.{Identity, is_same, equal_is, same_text, Key, AccountKey, MemberKey, FileKey, BaseKey, PartKey, OddKey, AccountRow, MemberRow, FileRow, BaseRow, APart, OddRow, edited, Count, Projects, BasesOf, ClosedEpochs, Answered, count_put, kept_row, IsCommitted, Delta, Kept, PlaceKey, Put, StoredFile, projects, answers, is_of_lower, request_key}
+use Rattle.review_sql_records.specs.{Forms.accounts, Forms.members, Forms.bases, Forms.epochs, Laws.numbers_exact}
+use Rattle.review_sql_change_records.specs.Laws.{both_equal, then_equal, same_bytes}
+use Rattle.review_sql_lookups.proofs.Telling.{own_bytes}
 use Rattle.review_sql_lookups.specs.Tables.{told, row_in, count_in, answer_in, least_in, stored_as, number_of, tables_at, version_in}
 use Rattle.review_sql_writes.proofs.Edits.{edits_spare, is_part_tree, part_same, parts_edited}
 use Rattle.review_sql_writes.proofs.{Rest.keeps_rest, Unkeyed.commit_keeps, Unkeyed.unkeyed_same}
-use Rattle.review_sql_writes.specs.Commits.{Commits, AreSingle}
-use Rattle.review_sql_writes.specs.{Numbers.IsDesk, Numbers.with_request, declared.numbers.Numbers.Numbers}
-use Rattle.review_sql_writes.specs.inner.Changes.{GivesUp, SetsDelta, SetsKept, SetsDesk, SetsPut}
+use Rattle.review_sql_writes.specs.Commits.{Commits, AreSingle, IsDesk, with_request}
+use Rattle.review_sql_writes.specs.declared.numbers.Numbers.{Numbers}
+use Rattle.review_sql_writes.specs.inner.Words.{GivesUp, SetsDelta, SetsKept, SetsDesk, SetsPut}
 
 -- ---- keys
-
-numbers_exact : IsExact nat_cmp
-numbers_exact = record { same = λ a b is. exact_unsigned a b (equal_is _ is); itself = λ a. ap is_eq (tied_itself nat_cmp_total a) }
-
-both_equal : (o p : Ordering) → is_eq (ordering_then o p) ≡ true → (is_eq o ≡ true) × (is_eq p ≡ true)
-both_equal Equal p is = (refl, is)
-both_equal _ p is = absurd (cc)
-
-then_equal : (o p : Ordering) → o ≡ Equal → p ≡ Equal → is_eq (ordering_then o p) ≡ true
-then_equal o p a b = rw (a, b) refl
 
 members_exact : IsExact member_cmp
 members_exact = record {
@@ -48,7 +26,7 @@ members_exact = record {
       let group : a.group ≡ b.group = exact_bytes a.group b.group (equal_is _ parts.0) in
       let account : a.account ≡ b.account = exact_unsigned a.account b.account (equal_is _ parts.1) in
       (λ i. record { group = group i; account = account i });
-  itself = λ a. then_equal (slice_cmp nat_cmp a.group a.group) (nat_cmp a.account a.account) (tied_itself nat_list_cmp_total a.group) (tied_itself nat_cmp_total a.account);
+  itself = λ a. ap is_eq (then_equal (slice_cmp nat_cmp a.group a.group) (nat_cmp a.account a.account) (tied_itself nat_list_cmp_total a.group) (tied_itself nat_cmp_total a.account));
 }
 
 names_exact : IsExact (slice_cmp nat_cmp)

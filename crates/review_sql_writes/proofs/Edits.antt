@@ -1,18 +1,15 @@
 -- What edits of changes leave of their rows.
-use Rattle.std.proofs.Common.{◌≡◌, ◌≢◌, ◌∙◌, ◌==◌, ◌||◌, ◌++◌, ℕ, ℤ, List, [], ◌∷◌, Bool, true, false, Option, Some, None, option_map, cond, refl, sym, ap, subst, inl, inr, eqb-true, eq-eqb}
-use Rattle.std.proofs.lemmas.Bool.{cases_Bool, both_ways, eqb-false, or_parts}
-use Rattle.{std.specs.List.list_any, std.specs.Ordering.nat_cmp, sqlite_trees.specs.Tree.Trees}
-use Rattle.review_table.specs.Rows.{row_edit_of, after_row_edit}
 use Rattle.review_sql_tables.proofs.Changed.{parts_apart, parts_changed, parts_spare}
-use Rattle.review_sql_tables.specs.{Content.SparesOthers, Desk.is_tree, Search.only, Search.reads, Search.rows_at}
+use Rattle.review_sql_tables.proofs.Common.{◌≡◌, ◌≢◌, ◌∙◌, ◌==◌, ◌||◌, ◌++◌, ℕ, ℤ, List, [], ◌∷◌, Bool, true, false, Option, Some, None, option_map, cond, refl, sym, ap, subst, inl, inr, eqb-true, eq-eqb, cases_Bool, both_ways, eqb-false, or_parts, list_any, nat_cmp, Trees, row_edit_of, after_row_edit, SparesOthers, is_tree, only, reads, rows_at}
 use Rattle.review_core_rules.specs.Parts.{Part, TheHeader, PatchOf, VoteOf, RoleOf, CommentOf, AttentionOf, PartRow, AHeader, APatch, ARole, AComment, AnAttentionEntry}
 use Rattle.review_core_rules.specs.{Seen.vote_cmp, declared.rows.VoteKey.VoteKey}
-use Rattle.review_machine_rows.specs.Rows.{APart, edited, part_change, vote_row}
-use Rattle.{review_machine_rows.specs.declared.rows.ChangeEdit.ChangeEdit, review_sql_records.specs.Laws.numbers_exact}
+use Rattle.review_machine_rows.specs.Rows.{part_change}
+use Rattle.review_sql_records.proofs.Common.{APart, edited, vote_row, ChangeEdit}
+use Rattle.review_sql_records.specs.Laws.{numbers_exact}
 use Rattle.review_sql_change_records.specs.Forms.{headers, patches, votes, roles, comments, attention_entries}
 use Rattle.review_sql_change_records.specs.Laws.{votes_exact}
 use Rattle.review_sql_lookups.specs.Tables.{part_in, told, vote_told}
-use Rattle.review_sql_writes.specs.inner.Changes.{SetsEdit, SetsEdits, SetsUnless, is_named}
+use Rattle.review_sql_writes.specs.inner.Words.{SetsEdit, SetsEdits, SetsUnless, is_named}
 
 -- ---- rows as they are told
 

@@ -1,16 +1,12 @@
 -- Rows that no key of a commit names stay.
-use Rattle.std.proofs.Common.{◌≡◌, ◌∙◌, ℕ, List, [], ◌∷◌, ◌++◌, Option, Some, None, Bool, true, false, filter, IfSome, string_bytes, sym, ap, subst, inl, inr, eqb, eqb-true, not, ◌==◌}
-use Rattle.std.proofs.lemmas.Bool.{cases_Bool, eqb-false}
-use Rattle.{std.specs.List.AllByRecursion, sqlite_trees.specs.Tree.Trees, sqlite_value.specs.Order.Row as Raw}
-use Rattle.{review_table.specs.declared.table.RowEdit.RowEdit, review_sql_tables.specs.Desk.is_tree}
-use Rattle.review_sql_tables.specs.{Fronts.SetsParts, Search.Search, Search.SetsRow, Search.SetsRows, inner.Words.Then}
-use Rattle.review_machine_rows.specs.Rows.{kept_row}
-use Rattle.review_machine_rows.specs.declared.rows.{ChangeEdit.ChangeEdit, Delta.Delta, Kept.Kept, Put.Put}
-use Rattle.review_sql_records.specs.Forms.{accounts, members, projects, bases, answers, desk, epochs, is_of_lower, request_key}
+use Rattle.std.proofs.lemmas.Bool.{not-false}
+use Rattle.review_sql_tables.proofs.Common.{◌≡◌, ◌∙◌, ℕ, List, [], ◌∷◌, ◌++◌, Option, Some, None, Bool, true, false, filter, IfSome, string_bytes, sym, ap, subst, inl, inr, eqb, eqb-true, not, ◌==◌, cases_Bool, eqb-false, AllByRecursion, Trees, Raw, RowEdit, is_tree, SetsParts, Search, SetsRow, SetsRows, Then}
+use Rattle.review_sql_records.proofs.Common.{kept_row, ChangeEdit, Delta, Kept, Put, projects, answers, is_of_lower, request_key}
+use Rattle.review_sql_records.specs.Forms.{accounts, members, bases, desk, epochs}
 use Rattle.review_sql_change_records.specs.Forms.{headers, patches, votes, roles, comments, attention_entries}
-use Rattle.review_sql_writes.proofs.Unkeyed.{not_not, pass_still}
-use Rattle.review_sql_writes.specs.Named.{Test, Spares, SparesAll, SparesParts, SparesEdit, SparesNamed, KeepsRest}
-use Rattle.review_sql_writes.specs.inner.Changes.{GivesUp, SetsDelta, SetsEdit, SetsEdits, SetsUnless, SetsKept, SetsPut, SetsDesk, is_named}
+use Rattle.review_sql_writes.proofs.Unkeyed.{pass_still}
+use Rattle.review_sql_writes.specs.Commits.{Test, Spares, SparesAll, SparesParts, SparesEdit, SparesNamed, KeepsRest}
+use Rattle.review_sql_writes.specs.inner.Words.{GivesUp, SetsDelta, SetsEdit, SetsEdits, SetsUnless, SetsKept, SetsPut, SetsDesk, is_named}
 
 module _ (tree : ℕ) (test : Test) (is : is_tree tree ≡ true) where
   abbrev Same : Trees → Trees → Type 0
@@ -68,7 +64,7 @@ module _ (tree : ℕ) (test : Test) (is : is_tree tree ≡ true) where
         let same : tree ≡ 28 = eqb-true tree 28 here in
         subst (λ n. filter test (gives.0 n) ≡ filter test (old n)) (sym same)
         (ap (filter test) gives.1.rows ∙ pass_still test (λ r. not (is_of_lower least r)) (old 28)
-        (λ r gone. closed same r (not_not (is_of_lower least r) gone)))
+        (λ r gone. closed same r (not-false (is_of_lower least r) gone)))
     | inr other ↦ ap (filter test) (gives.1.others tree is (eqb-false tree 28 other))
   ]
 

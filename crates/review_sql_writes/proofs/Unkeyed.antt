@@ -1,18 +1,11 @@
 -- What is written leaves the rows that have no key of their table.
-use Rattle.std.proofs.Common.{pos, negsuc, ◌≡◌, ◌∙◌, ◌==◌, ◌++◌, ◌||◌, ◌+◌, ℕ, List, [], ◌∷◌, Bool, cond, true, false, not, Option, Some, None, filter, refl, sym, ap, subst, inl, inr, eqb-true}
-use Rattle.std.proofs.lemmas.Bool.{and_from, and_parts, cases_Bool, eqb-false}
-use Rattle.{std.specs.List.AllByRecursion, std.specs.List.list_any, sqlite_trees.specs.Tree.Trees}
-use Rattle.sqlite_value.specs.{Order.Row as Raw, Order.column, declared.value.Value.Value}
-use Rattle.sqlite_value.specs.declared.value.Value.TheVariants.{Null, Int, Real, Text, Blob}
-use Rattle.review_table.specs.declared.table.RowEdit.{RowEdit}
-use Rattle.review_sql_tables.specs.{Content.RemovesWhere, Content.is_number_below, Content.is_natural, Desk.is_tree}
-use Rattle.review_sql_tables.specs.{Fronts.SetsParts, Search.Search, Search.SetsRow, Search.SetsRows, inner.Words.Then}
-use Rattle.review_machine_rows.specs.declared.rows.{ChangeEdit.ChangeEdit, Delta.Delta, Kept.Kept, Put.Put}
-use Rattle.review_sql_records.specs.Forms.{accounts, members, projects, bases, answers, desk, epochs, is_of_lower}
+use Rattle.std.proofs.lemmas.Bool.{not-false}
+use Rattle.review_sql_tables.proofs.Common.{pos, negsuc, ◌≡◌, ◌∙◌, ◌==◌, ◌++◌, ◌||◌, ◌+◌, ℕ, List, [], ◌∷◌, Bool, cond, true, false, not, Option, Some, None, filter, refl, sym, ap, subst, inl, inr, eqb-true, and_from, and_parts, cases_Bool, eqb-false, AllByRecursion, list_any, Trees, Raw, column, Value, Null, Int, Real, Text, Blob, RowEdit, RemovesWhere, is_number_below, is_natural, is_tree, SetsParts, Search, SetsRow, SetsRows, Then}
+use Rattle.review_sql_records.proofs.Common.{ChangeEdit, Delta, Kept, Put, projects, answers, is_of_lower}
+use Rattle.review_sql_records.specs.Forms.{accounts, members, bases, desk, epochs}
 use Rattle.review_sql_change_records.specs.Forms.{headers, patches, votes, roles, comments, attention_entries}
 use Rattle.review_sql_lookups.specs.Tables.{has_unkeyed, keyed_tables}
-use Rattle.review_sql_writes.specs.inner.Changes.{GivesUp, SetsDelta, SetsDesk, SetsEdit, SetsEdits, SetsKept, SetsPut, SetsUnless, is_named}
-use Rattle.review_sql_writes.specs.inner.Words.{SetsFirst}
+use Rattle.review_sql_writes.specs.inner.Words.{GivesUp, SetsDelta, SetsDesk, SetsEdit, SetsEdits, SetsKept, SetsPut, SetsUnless, is_named, SetsFirst}
 
 -- which rows of a tree have a key
 abbrev keyed_of : ℕ → Raw → Bool
@@ -39,10 +32,6 @@ pass_still p q (r ∷ rows) goes = elim (cases_Bool (q r)) [
 ]
 
 -- what is so of no value is so of none that isn't
-pub not_not : (b : Bool) → not b ≡ false → b ≡ true
-not_not true e = refl
-not_not false e = absurd (cc)
-
 -- a stored request of a lower epoch has a key
 lower_keyed : (least : ℕ) (r : Raw) → is_of_lower least r ≡ true → answers.keyed r ≡ true
 lower_keyed least r is =
@@ -62,7 +51,7 @@ keeps_removed : (least : ℕ) (old new : Trees) → RemovesWhere 28 (is_of_lower
 keeps_removed least old new h = record {
   rows = λ t is. elim (cases_Bool (t == 28)) [
     | inl here ↦ subst (λ n. filter (λ r. not (keyed_of n r)) (new n) ≡ filter (λ r. not (keyed_of n r)) (old n)) (sym (eqb-true t 28 here))
-        (ap (filter (λ r. not (answers.keyed r))) h.rows ∙ pass_still (λ r. not (answers.keyed r)) (λ r. not (is_of_lower least r)) (old 28) (λ r gone. ap not (lower_keyed least r (not_not (is_of_lower least r) gone))))
+        (ap (filter (λ r. not (answers.keyed r))) h.rows ∙ pass_still (λ r. not (answers.keyed r)) (λ r. not (is_of_lower least r)) (old 28) (λ r gone. ap not (lower_keyed least r (not-false (is_of_lower least r) gone))))
     | inr other ↦ ap (filter (λ r. not (keyed_of t r))) (h.others t is (eqb-false t 28 other))
   ];
 }

@@ -1,3 +1,2 @@
 -- Words that only proofs and private clauses use.
-pub mod Changes
 pub mod Words

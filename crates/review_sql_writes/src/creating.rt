@@ -2,7 +2,7 @@
 ghost use Rattle.std.specs.Prelude.{◌≡◌, false};
 ghost use Rattle.sqlite.specs.Held.{state};
 ghost use Rattle.review_sql_tables.specs.Ran.{Inside, Within, Opens, Transacts};
-ghost use Rattle.review_sql_writes.specs.{First.MakesDesk, inner.Words.SetsFirst};
+ghost use Rattle.review_sql_writes.specs.{Commits.MakesDesk, inner.Words.SetsFirst};
 
 use review_machine_rows::MemberKey;
 use review_sql_records::accounts::Accounts;

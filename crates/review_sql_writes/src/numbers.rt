@@ -11,7 +11,7 @@ pub struct Numbers {
 
 impl Numbers {
     ghost use Rattle.std.specs.Prelude.{◌≡◌, ◌+◌, ◌<◌, ◌≤◌, ◌^◌, IfSome, IfNone};
-    ghost use Rattle.review_sql_writes.specs.Numbers.{with_request};
+    ghost use Rattle.review_sql_writes.specs.Commits.{with_request};
 
     /// What a desk without requests says.
     pub fn first() -> Numbers

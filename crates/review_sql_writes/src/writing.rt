@@ -3,7 +3,7 @@ ghost use Rattle.std.specs.Prelude.{◌≡◌, Some, [], ◌+◌, ◌<◌, ◌^�
 ghost use Rattle.sqlite.specs.Held.{state};
 ghost use Rattle.review_sql_tables.specs.Ran.{Inside, Within, Opens, Transacts};
 ghost use Rattle.review_sql_writes.specs.Commits.{Commits};
-ghost use Rattle.review_sql_writes.specs.inner.Changes.{GivesUp, SetsDelta, SetsEdit, SetsEdits, SetsPut, SetsUnless, SetsUnowned, is_named};
+ghost use Rattle.review_sql_writes.specs.inner.Words.{GivesUp, SetsDelta, SetsEdit, SetsEdits, SetsPut, SetsUnless, SetsUnowned, is_named};
 
 use crate::numbers::Numbers;
 use review_machine_rows::{ChangeEdit, Delta, Kept, Put};

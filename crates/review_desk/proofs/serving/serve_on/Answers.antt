@@ -1,7 +1,7 @@
 use Rattle.std.proofs.Common.{◌∙◌, ◌∷◌, ◌+◌, ◌≤◌, ◌==◌, ◌<◌, [], true, false, if◌then◌else◌, refl, sym, ap, arith}
 use Rattle.{sqlite.specs.Files.over_files, sqlite_wal.specs.Files.image_at}
 use Rattle.review_desk_work.proofs.Turning.{fewer_left, ended, given_up, is_error, shut, too_many}
-use Rattle.review_desk_work.specs.{OnFile.ClosedAs, OnFile.OpenedFrom, Turns.Turn, Turns.row_behind, Worked.known}
+use Rattle.review_desk_work.specs.{Faults.ClosedAs, Faults.OpenedFrom, Worked.Turn, Worked.row_behind, Worked.known}
 use Rattle.review_desk.proofs.serving.serve_on.Goals as goal
 
 pub loop-rest-init : goal.loop-rest-init

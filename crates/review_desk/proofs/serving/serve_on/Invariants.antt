@@ -1,7 +1,7 @@
 use Rattle.std.proofs.Common.{◌≡◌, ◌≤◌, List, Bool, true, false}
 use Rattle.{sqlite.specs.Files.over_files, sqlite_wal.specs.Files.image_at}
-use Rattle.review_desk_work.specs.OnFile.{ClosedAs, OpenedFrom}
-use Rattle.review_desk_work.specs.{Turns.Turn, Turns.AreTurns, Turns.BeginsBehind, Turns.row_behind, Worked.known}
+use Rattle.review_desk_work.specs.Faults.{ClosedAs, OpenedFrom}
+use Rattle.review_desk_work.specs.Worked.{Turn, AreTurns, BeginsBehind, row_behind, known}
 use Rattle.review_desk.proofs.serving.serve_on.Given as goal
 
 -- turns were made, and another one can begin

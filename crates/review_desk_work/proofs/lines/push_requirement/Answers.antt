@@ -1,4 +1,4 @@
-use Rattle.review_desk_work.specs.Pages.{requirement_line}
+use Rattle.review_desk_work.specs.Told.{requirement_line}
 use Rattle.review_desk_work.proofs.lines.push_requirement.Goals as goal
 
 pub returns : goal.returns

@@ -1,5 +1,5 @@
 use Rattle.std.proofs.Common.{◌≡◌, ◌+◌, ◌++◌, drop, string_bytes}
-use Rattle.review_desk_work.specs.Pages.{joined_from}
+use Rattle.review_desk_work.specs.Told.{joined_from}
 use Rattle.review_desk_work.proofs.pages.joined_text.Given as goal
 
 abbrev pub invariant-loop-index : goal.invariant-loop-index

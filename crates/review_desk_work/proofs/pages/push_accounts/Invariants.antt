@@ -1,5 +1,5 @@
 use Rattle.std.proofs.Common.{◌≡◌, ◌++◌, drop, flat_map, string_bytes}
-use Rattle.review_desk_work.specs.Pages.{role_line}
+use Rattle.review_desk_work.specs.Told.{role_line}
 use Rattle.review_desk_work.proofs.pages.push_accounts.Given as goal
 
 abbrev pub invariant-loop-account : goal.invariant-loop-account

@@ -1,5 +1,5 @@
 use Rattle.std.proofs.Common.{◌≡◌, ◌++◌, drop, flat_map, string_bytes}
-use Rattle.review_desk_work.specs.Pages.{attention_line}
+use Rattle.review_desk_work.specs.Told.{attention_line}
 use Rattle.review_desk_work.proofs.pages.push_attention_lines.Given as goal
 
 abbrev pub invariant-loop-call : goal.invariant-loop-call

@@ -1,5 +1,5 @@
 use Rattle.std.proofs.Common.{◌≡◌, ◌++◌, drop, flat_map, string_bytes}
-use Rattle.review_desk_work.specs.Pages.{requirement_line}
+use Rattle.review_desk_work.specs.Told.{requirement_line}
 use Rattle.review_desk_work.proofs.pages.push_requirements.Given as goal
 
 abbrev pub invariant-loop-requirement : goal.invariant-loop-requirement

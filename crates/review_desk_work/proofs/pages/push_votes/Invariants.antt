@@ -1,5 +1,5 @@
 use Rattle.std.proofs.Common.{◌≡◌, ◌++◌, drop, flat_map, string_bytes}
-use Rattle.review_desk_work.specs.Pages.{vote_line}
+use Rattle.review_desk_work.specs.Told.{vote_line}
 use Rattle.review_desk_work.proofs.pages.push_votes.Given as goal
 
 abbrev pub invariant-loop-vote : goal.invariant-loop-vote

@@ -1,6 +1,6 @@
 use Rattle.std.proofs.Common.{◌∙◌, ap, subst}
 use Rattle.review_desk_work.proofs.Usage.{found_job, no_job}
-use Rattle.review_desk_work.specs.{Jobs.Gives, Jobs.spelled, WordsFaults.fault_of_kind}
+use Rattle.review_desk_work.specs.Jobs.{Gives, spelled, fault_of_kind}
 use Rattle.review_desk_work.proofs.reading.job_taken.Goals as goal
 
 pub returns-in-Err : goal.returns-in-Err

@@ -1,5 +1,5 @@
 use Rattle.std.proofs.Common.{◌≡◌, Ok, subst, sym}
-use Rattle.{sqlite.specs.Held.state, review_sql_tables.proofs.Found.look_on, review_sql.proofs.Finding.is_group}
+use Rattle.{review_sql_tables.proofs.Found.look_on, review_sql.proofs.Finding.is_group}
 use Rattle.review_sql.specs.Loading.{LearnsBounded, LearnsSeen}
 use Rattle.review_machine_rows.specs.declared.rows.Want.TheVariants as want
 use Rattle.review_sql.proofs.loading.find.Goals as goal
@@ -11,11 +11,11 @@ returns-in_ok-found-in-Some-clause-looks g c =
     let old = c.args.rows.now in
     let new = c.learn_group.new.rows in
     let is : w ≡ want.Group group = is_group w group c.in-Some.ensures in
-    look_on _ (LearnsBounded w old new c.args.counts.now c.args.counts.now) (state g.S.Store c.args.tx.now.conn.now) (state g.S.Store c.find_group.new.tx.conn.now) c.in_ok-found-in-Some.found (Ok c.learn_group.result) c.in_ok-found-in-Some.ensures.looks
+    look_on _ (LearnsBounded w old new c.args.counts.now c.args.counts.now) _ _ c.in_ok-found-in-Some.found (Ok c.learn_group.result) c.in_ok-found-in-Some.ensures.looks
     (λ db h bounded. (subst (λ w. LearnsSeen w old new db c.learn_group.result) (sym is) (c.learn_group.ensures.told db h), bounded))
 
 pub returns-in_ok-sight-in-None-clause-looks : goal.returns-in_ok-sight-in-None-clause-looks
 returns-in_ok-sight-in-None-clause-looks g c =
     let w = c.args.want.now in
-    look_on _ (LearnsBounded w c.args.rows.now c.learn.new.rows c.args.counts.now c.see.new.counts) (state g.S.Store c.args.tx.now.conn.now) (state g.S.Store c.see.new.tx.conn.now) c.in_ok-sight-in-None.sight (Ok c.learn.result) c.in_ok-sight-in-None.ensures.looks
+    look_on _ (LearnsBounded w c.args.rows.now c.learn.new.rows c.args.counts.now c.see.new.counts) _ _ c.in_ok-sight-in-None.sight (Ok c.learn.result) c.in_ok-sight-in-None.ensures.looks
     (λ db h bounded. (c.learn.ensures.told db (h bounded).0, (h bounded).1))

@@ -1,6 +1,6 @@
 use Rattle.std.proofs.Common.{◌≡◌, ◌∙◌, Ok, Err, subst, sym, rules, arith}
 use Rattle.{std.proofs.lemmas.List.take_all, review_machine_rows.specs.Known.AreAsked}
-use Rattle.review_sql.proofs.Finding.{Have, all_seen, have_more, learnt_asked, one_failed, one_more, seen_unlearnt}
+use Rattle.review_sql.proofs.Finding.{Have, all_seen, have_more, learnt_asked, one_failed, one_more, ended_unlearnt}
 use Rattle.review_sql.specs.Loading.{LearnsBounded, LooksIf, LooksOnce, WereSeen}
 use Rattle.review_sql.specs.declared.loading.Ended.TheVariants as ended
 use Rattle.review_sql.proofs.loading.find_in_turn.Goals as goal
@@ -45,35 +45,15 @@ returns-in_err-end-clause-looks g c =
 
 pub returns-in-NoMemory-clause-looks : goal.returns-in-NoMemory-clause-looks
 returns-in-NoMemory-clause-looks g c =
-    let want = c.want-item.result in
-    let old = c.loop-want.rows in
-    let new = c.find_next.new.rows in
-    let before = c.args.counts.now in
-    let mid = c.loop-want.counts in
-    let more = c.find_next.new.counts in
-    let first = c.args.tx.now.conn.now in
-    let last = c.loop-want.tx.conn.now in
-    let next = c.find_next.new.tx.conn.now in
     let met : c.in_ok-end.end ≡ ended.NoMemory = search rules in
-    one_more g.S.Store (Have old before mid) (LearnsBounded want old new mid more) (WereSeen new before more) first last next c.loop-want.is_asked c.find_next.new.is_asked ended.NoMemory ended.NoMemory
-    (λ db have sees. seen_unlearnt want old new before mid more db have ended.NoMemory (λ e. cc) sees) c.loop-want.invariant.looks
-    (subst (λ s. LooksOnce g.S.Store c.loop-want.is_asked c.find_next.new.is_asked (LearnsBounded want old new mid more) last next (Ok s)) met c.in_ok-end.ensures.looks)
+    ended_unlearnt g.S.Store c.want-item.result c.loop-want.rows c.find_next.new.rows c.args.counts.now c.loop-want.counts c.find_next.new.counts c.args.tx.now.conn.now c.loop-want.tx.conn.now
+    c.find_next.new.tx.conn.now c.loop-want.is_asked c.find_next.new.is_asked c.in_ok-end.end ended.NoMemory met (λ e. cc) c.loop-want.invariant.looks c.in_ok-end.ensures.looks
 
 pub returns-in-Damaged-clause-looks : goal.returns-in-Damaged-clause-looks
 returns-in-Damaged-clause-looks g c =
-    let want = c.want-item.result in
-    let old = c.loop-want.rows in
-    let new = c.find_next.new.rows in
-    let before = c.args.counts.now in
-    let mid = c.loop-want.counts in
-    let more = c.find_next.new.counts in
-    let first = c.args.tx.now.conn.now in
-    let last = c.loop-want.tx.conn.now in
-    let next = c.find_next.new.tx.conn.now in
     let met : c.in_ok-end.end ≡ ended.Damaged = search rules in
-    one_more g.S.Store (Have old before mid) (LearnsBounded want old new mid more) (WereSeen new before more) first last next c.loop-want.is_asked c.find_next.new.is_asked ended.Damaged ended.Damaged
-    (λ db have sees. seen_unlearnt want old new before mid more db have ended.Damaged (λ e. cc) sees) c.loop-want.invariant.looks
-    (subst (λ s. LooksOnce g.S.Store c.loop-want.is_asked c.find_next.new.is_asked (LearnsBounded want old new mid more) last next (Ok s)) met c.in_ok-end.ensures.looks)
+    ended_unlearnt g.S.Store c.want-item.result c.loop-want.rows c.find_next.new.rows c.args.counts.now c.loop-want.counts c.find_next.new.counts c.args.tx.now.conn.now c.loop-want.tx.conn.now
+    c.find_next.new.tx.conn.now c.loop-want.is_asked c.find_next.new.is_asked c.in_ok-end.end ended.Damaged met (λ e. cc) c.loop-want.invariant.looks c.in_ok-end.ensures.looks
 
 pub returns-clause-looks : goal.returns-clause-looks
 returns-clause-looks g c = all_seen g.S.Store c.loop-want.is_asked c.loop-want.rows c.args.counts.now c.loop-want.counts c.args.tx.now.conn.now c.loop-want.tx.conn.now c.loop-want.invariant.looks

@@ -1,9 +1,6 @@
-use Rattle.{sqlite.specs.Held.state, review_sql_tables.proofs.Sequences.next}
+use Rattle.review_sql_tables.proofs.Sequences.{next}
 use Rattle.review_sql.proofs.migrating.put_version.Goals as goal
 
 pub returns-clause-ran : goal.returns-clause-ran
 returns-clause-ran g c =
-    let s0 = state g.S.Store c.args.tx.now.conn.now in
-    let s1 = state g.S.Store c.rewrite.new.tx.conn.now in
-    let s2 = state g.S.Store c.rewrite-2.new.tx.conn.now in
-    next _ _ s0 s1 s2 _ c.rewrite-2.result c.in_ok-rewrite.ensures.ran c.rewrite-2.ensures.ran
+    next _ _ _ _ _ _ c.rewrite-2.result c.in_ok-rewrite.ensures.ran c.rewrite-2.ensures.ran

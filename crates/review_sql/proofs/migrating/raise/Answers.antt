@@ -1,7 +1,5 @@
-use Rattle.std.proofs.Common.{rules, refl, ◌≡◌, ◌∙◌, sym, ap, not, subst, false, true, IsTrue, Ok, Err, arith}
-use Rattle.sqlite.{proofs.StateLemmas.clean_if_open, specs.Held.Held, specs.Held.state, specs.State.HasCleanDisk}
-use Rattle.review_sql_tables.proofs.Sequences.{begun, failed, ended}
-use Rattle.review_sql_tables.specs.Ran.{Transacts, Within}
+use Rattle.review_sql_tables.proofs.Common.{rules, refl, ◌≡◌, ◌∙◌, sym, ap, not, subst, false, true, IsTrue, Ok, Err, arith, clean_if_open, Held, state, HasCleanDisk, Transacts, Within}
+use Rattle.review_sql_records.proofs.Common.{begun, failed, ended}
 use Rattle.review_sql.specs.Migrated.{Upgrades, if_whole}
 use Rattle.review_sql.proofs.migrating.raise.Goals as goal
 

@@ -1,9 +1,8 @@
-use Rattle.std.proofs.Common.{rules, ◌≡◌, ◌∙◌, ap, true, false, subst, Ok, IsTrue}
-use Rattle.sqlite.specs.{Held.state, declared.error.Error.TheVariants.InvalidQuery}
-use Rattle.review_sql_tables.specs.{Ran.Transacts, Versions.schema_at}
+use Rattle.sqlite.specs.declared.error.Error.TheVariants.{InvalidQuery}
+use Rattle.review_sql_tables.proofs.Common.{rules, ◌≡◌, ◌∙◌, ap, true, false, subst, Ok, IsTrue, state, Transacts, schema_at}
 use Rattle.review_sql.proofs.Raised.{not_migrated_if, stays_acts, taken_back}
 use Rattle.review_sql.specs.Migrated.{Upgrades, if_whole}
-use Rattle.review_sql.specs.{Said.IsThere, declared.faults.DeskFault.TheVariants.NotOurs}
+use Rattle.review_sql.specs.{Opened.IsThere, declared.faults.DeskFault.TheVariants.NotOurs}
 use Rattle.review_sql.proofs.migrating.upgrade.Goals as goal
 
 pub returns-in-Ok-true-clause-raised : goal.returns-in-Ok-true-clause-raised

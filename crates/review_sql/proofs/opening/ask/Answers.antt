@@ -1,7 +1,5 @@
-use Rattle.std.proofs.Common.{rules, ◌≡◌, false, inl, subst}
-use Rattle.sqlite.{proofs.StateLemmas.clean_if_open, specs.Effect.Database, specs.Held.state}
-use Rattle.review_sql_tables.specs.declared.versions.TablesVersion.TheVariants.{Third}
-use Rattle.review_sql.{proofs.Peeking.lacking, specs.Said.ShowsDesk}
+use Rattle.review_sql_tables.proofs.Common.{rules, ◌≡◌, false, inl, subst, clean_if_open, Database, state, Third}
+use Rattle.review_sql.{proofs.Peeking.lacking, specs.Opened.ShowsDesk}
 use Rattle.review_sql.proofs.opening.ask.Goals as goal
 
 pub returns-in-Ok-false-clause-lacking : goal.returns-in-Ok-false-clause-lacking

@@ -1,5 +1,4 @@
-use Rattle.std.proofs.Common.{rules, ◌≡◌, Some, None}
-use Rattle.sqlite.specs.Held.{state}
+use Rattle.review_sql_tables.proofs.Common.{rules, ◌≡◌, Some, None, state}
 use Rattle.review_sql.proofs.Peeking.{lacking, part_missing, tables_there}
 use Rattle.review_sql.proofs.opening.find_tables.Goals as goal
 

@@ -1,5 +1,4 @@
-use Rattle.std.proofs.Common.{rules, ◌≡◌, inl, true, false}
-use Rattle.sqlite.{proofs.StateLemmas.clean_if_open, specs.Held.state}
+use Rattle.review_sql_tables.proofs.Common.{rules, ◌≡◌, inl, true, false, clean_if_open, state}
 use Rattle.review_sql.proofs.Peeking.{part_after, whole_after}
 use Rattle.review_sql.proofs.opening.least_of_whole.Goals as goal
 
@@ -20,6 +19,5 @@ returns-clause-whole g c is_open =
 
 pub returns-clause-part : goal.returns-clause-part
 returns-clause-part g c is_open =
-    let back = c.least_said.ensures.stays.kept is_open in
-    let first = c.are_all_there.ensures.stays.kept back.0 in
+    let first = c.are_all_there.ensures.stays.kept (c.least_said.ensures.stays.kept is_open).0 in
     part_after c.args.version (state g.S.Store c.args.conn.now) (state g.S.Store c.are_all_there.new.conn) c.least_said.result first.1 (c.least_said.ensures.none is_open)

@@ -1,7 +1,6 @@
-use Rattle.std.proofs.Common.{rules, sym, subst, IfSome}
-use Rattle.sqlite.{proofs.StateLemmas.clean_if_open, specs.Held.state}
+use Rattle.review_sql_tables.proofs.Common.{rules, sym, subst, IfSome, clean_if_open, state}
 use Rattle.review_sql.proofs.Peeking.{lacks_if, says_if}
-use Rattle.review_sql.specs.Said.{LacksLeast, SaysLeast, ShowsEpochs}
+use Rattle.review_sql.specs.Opened.{LacksLeast, SaysLeast, ShowsEpochs}
 use Rattle.review_sql.proofs.opening.least_said.Goals as goal
 
 pub returns-in_ok-rows-in-Third-clause-is : goal.returns-in_ok-rows-in-Third-clause-is

@@ -1,6 +1,4 @@
-use Rattle.std.proofs.Common.{rules, Bool, ◌≡◌, ◌∙◌, ap, not, subst, IsTrue}
-use Rattle.{std.specs.Bool.Decides, sqlite.proofs.StateLemmas.clean_if_open}
-use Rattle.{sqlite.specs.Held.Held, sqlite.specs.Held.state, sqlite_trees.specs.Tree.Trees}
+use Rattle.review_sql_tables.proofs.Common.{rules, Bool, ◌≡◌, ◌∙◌, ap, not, subst, IsTrue, Decides, clean_if_open, Held, state, Trees}
 use Rattle.review_sql.{proofs.Peeking.peeked, specs.Opened.AreAllApart, specs.Opened.Peeks}
 use Rattle.review_sql.proofs.opening.peek.Goals as goal
 

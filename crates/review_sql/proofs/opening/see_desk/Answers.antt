@@ -1,6 +1,5 @@
-use Rattle.std.proofs.Common.{rules, ◌≡◌, ◌∙◌, true, ap, subst}
-use Rattle.{std.specs.Bool.Decides, sqlite.proofs.StateLemmas.clean_if_open, sqlite.specs.Effect.Database}
-use Rattle.{sqlite.specs.Held.state, review_sql.proofs.Peeking.seen_ours, review_sql.specs.Opened.AreAllApart}
+use Rattle.review_sql_tables.proofs.Common.{rules, ◌≡◌, ◌∙◌, true, ap, subst, Decides, clean_if_open, Database, state}
+use Rattle.review_sql.{proofs.Peeking.seen_ours, specs.Opened.AreAllApart}
 use Rattle.review_sql.proofs.opening.see_desk.Goals as goal
 
 pub returns-in-Ok-clause-seen : goal.returns-in-Ok-clause-seen

@@ -1,7 +1,6 @@
-use Rattle.std.proofs.Common.{rules, ◌≡◌, ◌∙◌, sym, ap, not, subst, IsTrue, Err}
-use Rattle.sqlite.{proofs.StateLemmas.clean_if_open, specs.Held.Held, specs.Held.state}
-use Rattle.review_sql_tables.{proofs.Sequences.look_failed, proofs.Sequences.look_ended, specs.Ran.Serves}
-use Rattle.review_sql.specs.LookedUp.{IsLookedUp}
+use Rattle.review_sql_tables.proofs.Common.{rules, ◌≡◌, ◌∙◌, sym, ap, not, subst, IsTrue, Err, clean_if_open, Held, state, Serves}
+use Rattle.review_sql_records.proofs.Common.{look_failed, look_ended}
+use Rattle.review_sql.specs.Shelf.{IsLookedUp}
 use Rattle.review_sql.proofs.serving.find_stored.Goals as goal
 
 pub returns-in_err-looked-clause-serves : goal.returns-in_err-looked-clause-serves

@@ -1,5 +1,4 @@
-use Rattle.std.proofs.Common.{rules, ◌≡◌, ℕ, List, true, false, inl, inr, sym, subst, get_or, arith}
-use Rattle.{std.proofs.lemmas.Bool.cases_lt, sqlite.specs.Effect.Database, sqlite.specs.Held.state}
+use Rattle.review_sql_tables.proofs.Common.{rules, ◌≡◌, ℕ, List, true, false, inl, inr, sym, subst, get_or, arith, cases_lt, Database, state}
 use Rattle.review_sql.proofs.Staying.{stays_still, stays_then}
 use Rattle.review_sql.specs.Shelf.{IsUnderstood, rows_read}
 use Rattle.review_sql.proofs.there.are_all_there.Goals as goal
@@ -12,10 +11,9 @@ loop-at-preserved g c =
     let s0 = state g.S.Store c.args.conn.now in
     let s1 = state g.S.Store c.loop-at.conn in
     let s2 = state g.S.Store c.is_understood.new.conn in
-    let below = c.loop-at-test.true in
     let yes : c.in_ok-is_understood.field-0 ≡ true = search rules in
     record {
-      within = omega (arith, below);
+      within = omega (arith, c.loop-at-test.true);
       mode = c.is_understood.ensures.mode;
       stays = stays_then s0 s1 s2 c.loop-at.invariant.stays c.is_understood.ensures.stays;
       opened = c.in_ok-is_understood.ensures.opens;

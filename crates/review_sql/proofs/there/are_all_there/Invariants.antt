@@ -1,5 +1,4 @@
-use Rattle.std.proofs.Common.{◌≡◌, ◌≤◌, ◌<◌, ℕ, List, get_or, IsTrue, false}
-use Rattle.sqlite.specs.{Held.state, State.HasCleanDisk}
+use Rattle.review_sql_tables.proofs.Common.{◌≡◌, ◌≤◌, ◌<◌, ℕ, List, get_or, IsTrue, false, state, HasCleanDisk}
 use Rattle.review_sql.specs.Shelf.{IsUnderstood, Stays, rows_read}
 use Rattle.review_sql.proofs.there.are_all_there.Given as goal
 

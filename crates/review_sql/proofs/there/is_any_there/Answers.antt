@@ -1,6 +1,4 @@
-use Rattle.std.proofs.Common.{rules, ◌≡◌, ◌<◌, ℕ, List, length, refl, true, false, inl, inr, sym, subst, get_or, map, arith}
-use Rattle.{std.proofs.lemmas.Bool.cases_lt, sqlite.specs.Effect.Database, sqlite.specs.Held.state}
-use Rattle.review_sql_tables.specs.declared.texts.TheConstants.{ANY_ROW}
+use Rattle.review_sql_tables.proofs.Common.{rules, ◌≡◌, ◌<◌, ℕ, List, length, refl, true, false, inl, inr, sym, subst, get_or, map, arith, cases_lt, Database, state, ANY_ROW}
 use Rattle.review_sql.{proofs.Staying.stays_still, proofs.Staying.stays_then, specs.Shelf.IsUnderstood}
 use Rattle.review_sql.proofs.there.is_any_there.Goals as goal
 

@@ -1,5 +1,4 @@
-use Rattle.std.proofs.Common.{◌∙◌, [], ap, not, subst, IsTrue}
-use Rattle.sqlite.{proofs.StateLemmas.clean_if_open, specs.Held.state, specs.State.IsNotRun}
+use Rattle.review_sql_tables.proofs.Common.{◌∙◌, [], ap, not, subst, IsTrue, clean_if_open, state, IsNotRun}
 use Rattle.review_sql.proofs.Staying.{not_understood, stays_prepared}
 use Rattle.review_sql.proofs.there.is_understood.Goals as goal
 

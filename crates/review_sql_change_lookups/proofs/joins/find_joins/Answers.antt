@@ -49,10 +49,8 @@ returns-clause-looks g c =
 pub returns-in_default-clause-looks : goal.returns-in_default-clause-looks
 returns-in_default-clause-looks g c =
     let key = c.args.branch.now in
-    let s0 = state g.S.Store c.args.tx.now.conn.now in
-    let s1 = state g.S.Store c.find_greatest.new.tx.conn.now in
     let none : c.last_place.result ≡ None = search rules in
-    look_on (KnowsLast key) (KnowsAll key) s0 s1 c.in_ok-found.found (Ok None) c.in_ok-found.ensures.looks (λ db h. subst (IfTold db (IsLastPlace key db)) none (c.last_place.ensures key db h))
+    look_on (KnowsLast key) (KnowsAll key) _ _ c.in_ok-found.found (Ok None) c.in_ok-found.ensures.looks (λ db h. subst (IfTold db (IsLastPlace key db)) none (c.last_place.ensures key db h))
 
 pub returns-in_default-known-clause-looks : goal.returns-in_default-known-clause-looks
 returns-in_default-known-clause-looks g c =

@@ -1,5 +1,5 @@
 use Rattle.std.proofs.Common.{◌≡◌, Some, None, subst, sym, rules}
-use Rattle.{review_sql_tables.specs.Greatest.HasGreatest, review_sql_change_records.specs.Forms.change_places}
+use Rattle.{review_sql_tables.specs.Search.HasGreatest, review_sql_change_records.specs.Forms.change_places}
 use Rattle.review_sql_change_lookups.proofs.Placed.{last_joined_damaged, last_place_is, no_last_place}
 use Rattle.review_sql_change_lookups.specs.Joins.{IsLastPlace}
 use Rattle.review_sql_change_lookups.proofs.joins.last_place.Goals as goal

@@ -1,6 +1,5 @@
-use Rattle.std.proofs.Common.{◌≡◌, ◌∙◌, Some, None, ap, subst, true, false, rules}
-use Rattle.{std.specs.Option.option_map, std.specs.Ordering.nat_cmp, review_table.specs.Rows.rows_of}
-use Rattle.{review_sql_tables.specs.Fronts.AreParts, review_core_rules.specs.Seen.vote_cmp}
+use Rattle.review_sql_tables.proofs.Common.{◌≡◌, ◌∙◌, Some, None, ap, subst, true, false, rules, option_map, nat_cmp, rows_of, AreParts}
+use Rattle.review_core_rules.specs.Seen.{vote_cmp}
 use Rattle.review_machine_change_rows.specs.declared.tables.ChangeTables.{ChangeTables}
 use Rattle.review_sql_change_records.specs.Forms.{patches, votes, roles, comments, attention_entries, change_patches, change_votes, change_roles, change_comments, change_attention}
 use Rattle.review_sql_lookups.proofs.Odd.{patches_damaged, votes_damaged, roles_damaged, comments_damaged, attention_damaged}

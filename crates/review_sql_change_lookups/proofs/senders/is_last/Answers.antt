@@ -1,5 +1,5 @@
 use Rattle.std.proofs.Common.{◌≡◌, Some, None, subst, rules}
-use Rattle.{review_sql_tables.specs.Greatest.HasGreatest, review_sql_change_records.specs.Forms.patch_numbers}
+use Rattle.{review_sql_tables.specs.Search.HasGreatest, review_sql_change_records.specs.Forms.patch_numbers}
 use Rattle.review_sql_change_lookups.proofs.{Current.alone_told, Current.last_told, Placed.last_set_damaged}
 use Rattle.review_sql_change_lookups.proofs.senders.is_last.Goals as goal
 

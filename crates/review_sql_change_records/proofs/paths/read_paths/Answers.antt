@@ -1,7 +1,7 @@
 use Rattle.std.proofs.Common.{◌≡◌, ◌∙◌, ◌==◌, length, true, false, sym, rules, arith, IfOk, subst}
 use Rattle.review_names.specs.Forms.{is_path}
 use Rattle.review_sql_change_records.proofs.Lines.{all_read, last_refused, nonempty, one_more, refused}
-use Rattle.review_sql_change_records.specs.Paths.{set_in}
+use Rattle.review_sql_change_records.specs.Forms.{set_in}
 use Rattle.review_sql_change_records.proofs.paths.read_paths.Goals as goal
 
 pub returns-then-not-branch : goal.returns-then-not-branch

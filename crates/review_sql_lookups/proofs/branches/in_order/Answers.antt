@@ -11,24 +11,19 @@ loop-place-init c = ap (λ xs. numbered 0 xs ++ c.into_iter-place-iterator.resul
 pub returns-then-get-len : goal.returns-then-get-len
 returns-then-get-len c =
     let s = c.in-Some.ensures.steps.0 in
-    let low = c.get.ensures.least in
     let value = c.get.ensures.value in
     let size : c.len.result ≡ length c.loop-place.bases.items = c.len.ensures ∙ c.loop-place.bases.ok.0 in
     let other = c.if-get-len.true in
     unordered (rows_of c.args.places) (gap (rows_of c.args.places) c.loop-place.bases.items c.in-Some.place c.in-Some.commit c.next.new.self.rest.items c.once.ensures.sorted
-    (ap (λ xs. numbered 0 c.loop-place.bases.items ++ xs) (sym s) ∙ c.loop-place.invariant) low (λ e. other (omega (arith, e, value, size))))
+    (ap (λ xs. numbered 0 c.loop-place.bases.items ++ xs) (sym s) ∙ c.loop-place.invariant) c.get.ensures.least (λ e. other (omega (arith, e, value, size))))
 
 pub loop-place-preserved : goal.loop-place-preserved
 loop-place-preserved c =
-    let s = c.in-Some.ensures.steps.0 in
-    let value = c.get.ensures.value in
-    let low = c.get.ensures.least in
     let size : c.len.result ≡ length c.loop-place.bases.items = c.len.ensures ∙ c.loop-place.bases.ok.0 in
-    let same = c.if-get-len.false in
-    let is : c.in-Some.place ≡ 0 + length c.loop-place.bases.items + 1 = omega (arith, value, size, same, low) in
+    let is : c.in-Some.place ≡ 0 + length c.loop-place.bases.items + 1 = omega (arith, c.get.ensures.value, size, c.if-get-len.false, c.get.ensures.least) in
     ap (λ xs. numbered 0 xs ++ c.next.new.self.rest.items) c.in_ok-push.ensures.items
     ∙ numbered_more 0 c.loop-place.bases.items c.in-Some.place c.in-Some.commit c.next.new.self.rest.items is
-    ∙ ap (λ xs. numbered 0 c.loop-place.bases.items ++ xs) (sym s) ∙ c.loop-place.invariant
+    ∙ ap (λ xs. numbered 0 c.loop-place.bases.items ++ xs) (sym c.in-Some.ensures.steps.0) ∙ c.loop-place.invariant
 
 pub returns : goal.returns
 returns c =

@@ -1,6 +1,5 @@
-use Rattle.std.proofs.Common.{◌≡◌, Some, None, option_map, refl, rules, subst}
-use Rattle.{std.specs.Ordering.nat_cmp, review_table.specs.Rows.rows_of, review_sql_tables.specs.Fronts.AreParts}
-use Rattle.review_sql_records.specs.Forms.{branch_bases, base_parts}
+use Rattle.review_sql_tables.proofs.Common.{◌≡◌, Some, None, option_map, refl, rules, subst, nat_cmp, rows_of, AreParts}
+use Rattle.review_sql_records.proofs.Common.{branch_bases, base_parts}
 use Rattle.review_sql_lookups.proofs.{Odd.bases_odd, Telling.bases_told, Telling.bases_damaged}
 use Rattle.review_sql_lookups.specs.Loads.{IsOrdered}
 use Rattle.review_sql_lookups.proofs.branches.tell_bases.Goals as goal

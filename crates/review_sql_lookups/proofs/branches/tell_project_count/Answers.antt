@@ -1,6 +1,5 @@
-use Rattle.std.proofs.Common.{◌≡◌, ◌∙◌, refl, sym, arith}
-use Rattle.{std.proofs.lemmas.Option.same_Some, review_sql_tables.specs.Greatest.as_counted}
-use Rattle.review_machine_rows.specs.{Limits.most_projects, Rows.Projects}
+use Rattle.review_sql_tables.proofs.Common.{◌≡◌, ◌∙◌, refl, sym, arith, same_Some, as_counted}
+use Rattle.{review_machine_rows.specs.Limits.most_projects, review_sql_records.proofs.Common.Projects}
 use Rattle.review_sql_lookups.{proofs.Bounded.counted_below, specs.Tables.tables_at}
 use Rattle.review_sql_lookups.proofs.branches.tell_project_count.Goals as goal
 

@@ -1,9 +1,7 @@
-use Rattle.std.proofs.Common.{◌∙◌, cond, List, Some, None, sym, ap, subst}
-use Rattle.std.{proofs.lemmas.Option.same_Some, specs.BTreeMap.is_at, specs.Cmp.Lexicographic.slice_cmp}
-use Rattle.{std.specs.Ordering.nat_cmp, review_table.specs.Rows.row_in, review_table.specs.Rows.rows_of}
-use Rattle.review_machine_rows.specs.{Limits.most_bases, Rows.BasesOf}
+use Rattle.review_sql_tables.proofs.Common.{◌∙◌, cond, List, Some, None, sym, ap, subst, same_Some, is_at, slice_cmp, nat_cmp, row_in, rows_of}
+use Rattle.review_sql_records.proofs.Common.{most_bases, BasesOf}
 use Rattle.review_sql_lookups.proofs.Bounded.{renewed, unknown}
-use Rattle.review_sql_lookups.specs.{Counts.Bounds, declared.counts.Bound.Bound}
+use Rattle.review_sql_lookups.specs.{Loads.Bounds, declared.counts.Bound.Bound}
 use Rattle.review_sql_lookups.proofs.counts.note_one.Goals as goal
 
 pub returns-in_default : goal.returns-in_default

@@ -1,8 +1,5 @@
-use Rattle.std.proofs.Common.{Option, List, ℕ, option_map, Ok, Some, None}
-use Rattle.{std.specs.Ordering.nat_cmp, sqlite.specs.Held.state, sqlite_trees.specs.Tree.Trees}
-use Rattle.{review_table.specs.Rows.rows_of, review_sql_tables.proofs.Found.look_on}
-use Rattle.{review_sql_tables.specs.Fronts.AreParts, review_machine_rows.specs.Known.HasMembers}
-use Rattle.review_sql_records.specs.Forms.{group_members, member_parts}
+use Rattle.review_sql_tables.proofs.Common.{Option, List, ℕ, option_map, Ok, Some, None, nat_cmp, Trees, rows_of, AreParts}
+use Rattle.review_sql_records.proofs.Common.{look_on, HasMembers, group_members, member_parts}
 use Rattle.review_sql_lookups.proofs.{Odd.members_damaged, Telling.group_told}
 use Rattle.review_sql_lookups.specs.{Loads.IfTold, Tables.tables_at}
 use Rattle.review_sql_lookups.proofs.people.find_group.Goals as goal
@@ -10,11 +7,8 @@ use Rattle.review_sql_lookups.proofs.people.find_group.Goals as goal
 pub returns-clause-looks : goal.returns-clause-looks
 returns-clause-looks g c =
     let group = c.args.group.now in
-    let a = state g.S.Store c.args.tx.now.conn.now in
-    let m = state g.S.Store c.find_parts.new.tx.conn.now in
     let found = c.in_ok-found.found in
-    let F : Trees → Option (List (ℕ × Option (Unit {0}))) → Type 0 = λ db found. AreParts nat_cmp group_members member_parts group db (option_map (λ t. rows_of t) found) in
-    look_on F _ a m found (Ok found) c.in_ok-found.ensures.looks (λ db h. told db group found h)
+    look_on _ _ _ _ found (Ok found) c.in_ok-found.ensures.looks (λ db h. told db group found h)
   where
     told : (db : Trees) (group : List ℕ) (found : Option (List (ℕ × Option (Unit {0})))) → AreParts nat_cmp group_members member_parts group db (option_map (λ t. rows_of t) found) → IfTold db (λ t. HasMembers (tables_at db).row group (rows_of t)) found
     told db group None h = members_damaged db group h

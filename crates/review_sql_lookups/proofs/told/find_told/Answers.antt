@@ -1,9 +1,7 @@
-use Rattle.{std.proofs.Common.◌≡◌, std.proofs.Common.Ok, sqlite.specs.Held.state}
+use Rattle.std.proofs.Common.{◌≡◌, Ok}
 use Rattle.review_sql_tables.{proofs.Found.look_on, specs.Search.row_at}
 use Rattle.review_sql_lookups.proofs.told.find_told.Goals as goal
 
 pub returns-clause-looks : goal.returns-clause-looks
 returns-clause-looks g c =
-    let a = state g.S.Store c.args.tx.now.conn.now in
-    let m = state g.S.Store c.find.new.tx.conn.now in
-    look_on (λ db found. found ≡ row_at g.L.Lookup.search db c.args.key.now) _ a m c.in_ok-found.found (Ok c.tell.result) c.in_ok-found.ensures.looks (λ db h. c.tell.ensures c.args.key.now db h)
+    look_on (λ db found. found ≡ row_at g.L.Lookup.search db c.args.key.now) _ _ _ c.in_ok-found.found (Ok c.tell.result) c.in_ok-found.ensures.looks (λ db h. c.tell.ensures c.args.key.now db h)

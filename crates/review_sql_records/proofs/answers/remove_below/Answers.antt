@@ -1,7 +1,6 @@
-use Rattle.std.proofs.Common.{rules, ◌≡◌, ◌∙◌, [], ◌∷◌, pos}
-use Rattle.{sqlite.specs.Held.state, sqlite.specs.Values.bound, sqlite_value.specs.declared.value.Value.TheVariants.Int}
+use Rattle.review_sql_tables.proofs.Common.{rules, ◌≡◌, ◌∙◌, [], ◌∷◌, pos, state, bound, Int}
 use Rattle.review_sql_tables.proofs.{Effects.deleted_below, Sequences.one_inside, Sequences.opened}
-use Rattle.{review_sql_tables.proofs.TextsOfChanges.delete_answers_below, review_sql_records.specs.Forms.answers}
+use Rattle.{review_sql_tables.proofs.TextsOfChanges.delete_answers_below, review_sql_records.proofs.Common.answers}
 use Rattle.review_sql_records.proofs.answers.remove_below.Goals as goal
 
 pub returns-clause-ran : goal.returns-clause-ran
@@ -13,6 +12,4 @@ returns-clause-ran g c =
 
 pub returns-clause-open : goal.returns-clause-open
 returns-clause-open g c clean on =
-    let old = state g.S.Store c.args.tx.now.conn.now in
-    let new = state g.S.Store c.execute.new.self.conn.now in
-    opened _ _ old new c.execute.result (c.execute.ensures.runs clean on)
+    opened _ _ (state g.S.Store c.args.tx.now.conn.now) (state g.S.Store c.execute.new.self.conn.now) c.execute.result (c.execute.ensures.runs clean on)

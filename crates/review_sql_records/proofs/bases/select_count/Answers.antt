@@ -1,7 +1,6 @@
-use Rattle.std.proofs.Common.{◌≡◌, [], ◌∷◌, refl}
-use Rattle.sqlite.specs.{Held.state, Values.bound}
-use Rattle.{sqlite_value.specs.declared.value.Value.TheVariants.Text, review_sql_tables.proofs.Counting.asked_count}
-use Rattle.review_sql_tables.{proofs.Sequences.look, proofs.TextsOfLookups.count_bases, specs.Desk.bases}
+use Rattle.review_sql_tables.proofs.Common.{◌≡◌, [], ◌∷◌, refl, state, bound, Text, bases}
+use Rattle.review_sql_tables.proofs.TextsOfLookups.{count_bases}
+use Rattle.review_sql_records.proofs.Common.{asked_count, look}
 use Rattle.review_sql_records.proofs.bases.select_count.Goals as goal
 
 pub returns-clause-looks : goal.returns-clause-looks

@@ -1,13 +1,8 @@
-use Rattle.std.proofs.Common.{Vec, Global, ◌∙◌, [], length, ap, Ok, Some}
-use Rattle.{sqlite.specs.Held.state, sqlite.specs.declared.rows.Row.Row, sqlite_trees.specs.Tree.Trees}
-use Rattle.review_sql_tables.proofs.{Found.look_on, Meaning.all_pass}
-use Rattle.review_sql_tables.specs.{Desk.projects_2, Greatest.as_counted, Search.rows_at, inner.Words.ShowsCount}
+use Rattle.review_sql_tables.proofs.Common.{◌∙◌, length, ap, Ok, Some, projects_2, as_counted}
+use Rattle.review_sql_records.proofs.Common.{look_on, all_pass}
 use Rattle.review_sql_records.proofs.projects.count.Goals as goal
 
 pub returns-clause-looks : goal.returns-clause-looks
 returns-clause-looks g c =
-    let F : Trees → Vec Row Global → Type 0 = λ db rows. ShowsCount (rows_at [] (db projects_2.tree)) rows.items in
-    let a = state g.S.Store c.args.tx.now.conn.now in
-    let m = state g.S.Store c.select_count.new.tx.conn.now in
-    look_on F _ a m c.in_ok-rows.rows (Ok c.read_count.result) c.in_ok-rows.ensures.looks
+    look_on _ _ _ _ c.in_ok-rows.rows (Ok c.read_count.result) c.in_ok-rows.ensures.looks
     (λ db h. c.read_count.ensures _ (c.deref.ensures.value ∙ h) ∙ ap (λ l. Some (as_counted (length l))) (all_pass (db projects_2.tree)))

@@ -1,6 +1,5 @@
-use Rattle.std.proofs.Common.{rules, ◌≡◌, Option, None, Ok, sym, subst}
-use Rattle.sqlite.specs.Held.{state}
-use Rattle.review_sql_tables.{proofs.Keys.row_gone, proofs.Sequences.told, specs.Ran.Inside, specs.Search.SetsRow}
+use Rattle.review_sql_tables.proofs.Common.{rules, ◌≡◌, Option, None, Ok, sym, subst, state, Inside, SetsRow}
+use Rattle.review_sql_tables.proofs.{Keys.row_gone, Sequences.told}
 use Rattle.review_sql_tables.proofs.changes.change.Goals as goal
 
 pub returns-in_ok-remove-in-None-clause-ran : goal.returns-in_ok-remove-in-None-clause-ran

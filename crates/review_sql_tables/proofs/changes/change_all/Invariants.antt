@@ -1,5 +1,4 @@
-use Rattle.std.proofs.Common.{◌≡◌, ◌≤◌, length, drop, Ok}
-use Rattle.{sqlite.specs.Held.state, review_sql_tables.specs.Ran.Inside, review_sql_tables.specs.Search.SetsRows}
+use Rattle.review_sql_tables.proofs.Common.{◌≡◌, ◌≤◌, length, drop, Ok, state, Inside, SetsRows}
 use Rattle.review_sql_tables.proofs.changes.change_all.Given as goal
 
 abbrev pub invariant-loop-left : goal.invariant-loop-left

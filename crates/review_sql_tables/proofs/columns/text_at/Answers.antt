@@ -1,7 +1,5 @@
-use Rattle.std.proofs.Common.{rules, ◌≡◌, ◌∙◌, IsUtf8, ℕ, List, Some, None, ap, sym, refl, inl, inr}
-use Rattle.std.proofs.lemmas.{Bool.cases_Bool, Str.is_utf8-from_IsUtf8, Str.IsUtf8-from_is_utf8}
-use Rattle.{std.specs.Str.is_utf8, sqlite_value.specs.Order.column, sqlite_value.specs.declared.value.Value.Value}
-use Rattle.{sqlite_value.specs.declared.value.Value.TheVariants.Text, review_sql_tables.specs.Columns.text_in}
+use Rattle.std.proofs.{Common.IsUtf8, lemmas.Str.IsUtf8-from_is_utf8}
+use Rattle.review_sql_tables.proofs.Common.{rules, ◌≡◌, ◌∙◌, ℕ, List, Some, None, ap, sym, refl, inl, inr, cases_Bool, is_utf8-from_IsUtf8, is_utf8, column, Value, Text, text_in}
 use Rattle.review_sql_tables.proofs.columns.text_at.Goals as goal
 
 reads : (v : Value) (t : List ℕ) → v ≡ Text t → IsUtf8 t → text_in v ≡ Some t
@@ -19,5 +17,4 @@ returns-in-Ok c =
 pub returns-in-Err : goal.returns-in-Err
 returns-in-Err c =
     let is : column c.args.row.now c.args.at ≡ Text c.in-Ok-Text.bytes.now = search rules in
-    let h = c.in-Err.ensures.cases in
-    sym (is_odd _ c.in-Ok-Text.bytes.now is h.0)
+    sym (is_odd _ c.in-Ok-Text.bytes.now is c.in-Err.ensures.cases.0)

@@ -1,7 +1,5 @@
-use Rattle.std.proofs.Common.{rules, refl, ◌≡◌, ◌∙◌, sym, ap, not, subst, IsTrue, Err}
-use Rattle.sqlite.{proofs.StateLemmas.clean_if_open, specs.Held.Held, specs.Held.state}
+use Rattle.review_sql_tables.proofs.Common.{rules, refl, ◌≡◌, ◌∙◌, sym, ap, not, subst, IsTrue, Err, clean_if_open, Held, state, schema_0, Grows, Transacts, schema_at}
 use Rattle.review_sql_tables.proofs.Sequences.{failed, ended}
-use Rattle.review_sql_tables.specs.{Desk.schema_0, Made.Grows, Ran.Transacts, Versions.schema_at}
 use Rattle.review_sql_tables.proofs.creating.create_all.Goals as goal
 
 pub returns-in_err-create_tables-clause-acts : goal.returns-in_err-create_tables-clause-acts

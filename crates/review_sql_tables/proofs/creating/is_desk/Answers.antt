@@ -1,5 +1,4 @@
-use Rattle.std.proofs.Common.{◌∙◌}
-use Rattle.review_sql_tables.{proofs.Made.made_in_memory, proofs.Made.decides_desk, specs.Versions.schema_at}
+use Rattle.review_sql_tables.proofs.{Common.◌∙◌, Common.schema_at, Made.made_in_memory, Made.decides_desk}
 use Rattle.review_sql_tables.proofs.creating.is_desk.Goals as goal
 
 pub returns : goal.returns

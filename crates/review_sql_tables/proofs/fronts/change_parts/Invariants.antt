@@ -1,5 +1,4 @@
-use Rattle.std.proofs.Common.{◌≡◌, ◌≤◌, length, drop, Ok}
-use Rattle.{sqlite.specs.Held.state, review_sql_tables.specs.Fronts.SetsParts, review_sql_tables.specs.Ran.Inside}
+use Rattle.review_sql_tables.proofs.Common.{◌≡◌, ◌≤◌, length, drop, Ok, state, SetsParts, Inside}
 use Rattle.review_sql_tables.proofs.fronts.change_parts.Given as goal
 
 abbrev pub invariant-loop-left : goal.invariant-loop-left

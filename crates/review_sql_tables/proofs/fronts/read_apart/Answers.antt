@@ -1,5 +1,4 @@
-use Rattle.std.proofs.Common.{rules, ◌≡◌, Some, None, inr, is_some, true}
-use Rattle.review_table.specs.Rows.{rows_of, row_in}
+use Rattle.review_sql_tables.proofs.Common.{rules, ◌≡◌, Some, None, inr, is_some, true, rows_of, row_in}
 use Rattle.review_sql_tables.proofs.Owned.{step_apart, twins_found}
 use Rattle.review_sql_tables.proofs.fronts.read_apart.Goals as goal
 

@@ -1,6 +1,5 @@
-use Rattle.std.proofs.Common.{◌≡◌, ◌≤◌, take, Ok}
-use Rattle.sqlite.specs.Held.{state}
-use Rattle.review_sql_tables.specs.{Desk.tables_1, Desk.schema_0, Desk.schema_of, Made.Grows, Ran.Within, Ran.Opens}
+use Rattle.review_sql_tables.proofs.Common.{◌≡◌, ◌≤◌, take, Ok, state, tables_1, schema_0, schema_of, Grows, Within}
+use Rattle.review_sql_tables.specs.Ran.{Opens}
 use Rattle.review_sql_tables.proofs.making.make_first_tables.Given as goal
 
 abbrev pub invariant-loop-at : goal.invariant-loop-at

@@ -1,15 +1,11 @@
-use Rattle.std.proofs.Common.{Vec, Global, rules, ◌≡◌, ◌∙◌, ap, Ok}
-use Rattle.{sqlite.specs.Held.state, sqlite.specs.declared.rows.Row.Row, sqlite_trees.specs.Tree.Trees}
-use Rattle.review_sql_tables.{proofs.Found.look_on, proofs.Found.one_found, specs.Search.only, specs.Search.Finds}
+use Rattle.std.proofs.Common.{rules, ◌≡◌, ◌∙◌, ap, Ok}
+use Rattle.review_sql_tables.{proofs.Found.look_on, proofs.Found.one_found, specs.Search.only}
 use Rattle.review_sql_tables.proofs.reads.find.Goals as goal
 
 pub returns-clause-looks : goal.returns-clause-looks
 returns-clause-looks g c =
     let s = g.L.Lookup.search in
     let key = c.args.key.now in
-    let F : Trees → Vec Row Global → Type 0 = λ db rows. Finds s key db rows.items in
-    let a = state g.S.Store c.args.tx.now.conn.now in
-    let m = state g.S.Store c.select.new.tx.conn.now in
     let rows = c.in_ok-rows.rows in
     let same : c.deref.result.now ≡ rows.items = search rules in
-    look_on F _ a m rows (Ok c.in_ok-read_one.field-0) c.in_ok-rows.ensures.looks (λ db h. c.in_ok-read_one.ensures ∙ (ap (only s.read) same ∙ one_found s db key rows.items h))
+    look_on _ _ _ _ rows (Ok c.in_ok-read_one.field-0) c.in_ok-rows.ensures.looks (λ db h. c.in_ok-read_one.ensures ∙ (ap (only s.read) same ∙ one_found s db key rows.items h))

@@ -1,6 +1,5 @@
-use Rattle.std.proofs.Common.{◌≡◌, ◌≤◌, take, Ok}
-use Rattle.{std.specs.Bool.Decides, sqlite.specs.Held.state}
-use Rattle.review_sql_tables.{proofs.Ids.Apart, specs.Desk.desk_tables, specs.Ran.Looks}
+use Rattle.review_sql_tables.proofs.Common.{◌≡◌, ◌≤◌, take, Ok, Decides, state, desk_tables, Looks}
+use Rattle.review_sql_tables.proofs.Ids.{Apart}
 use Rattle.review_sql_tables.proofs.rowids.are_all_apart.Given as goal
 
 abbrev pub invariant-loop-at : goal.invariant-loop-at

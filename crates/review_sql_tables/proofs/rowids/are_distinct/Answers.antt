@@ -1,5 +1,4 @@
-use Rattle.std.proofs.Common.{rules, ◌≡◌, nat_eq, length, subst₂, sym}
-use Rattle.std.specs.{Bool.Decides, List.IsDistinct, Ordering.int_eq}
+use Rattle.review_sql_tables.proofs.Common.{rules, ◌≡◌, nat_eq, length, subst₂, sym, Decides, IsDistinct, int_eq}
 use Rattle.review_sql_tables.proofs.Ids.{differ}
 use Rattle.review_sql_tables.proofs.rowids.are_distinct.Goals as goal
 

@@ -1,5 +1,5 @@
 use Rattle.std.proofs.Common.{rules, Some, None}
-use Rattle.review_sql_tables.{proofs.Ids.decides_own, proofs.Ids.not_own, specs.inner.Rowids.AreIds}
+use Rattle.review_sql_tables.{proofs.Ids.decides_own, proofs.Ids.not_own, specs.inner.Words.AreIds}
 use Rattle.review_sql_tables.proofs.rowids.are_own.Goals as goal
 
 pub returns-in-Some : goal.returns-in-Some

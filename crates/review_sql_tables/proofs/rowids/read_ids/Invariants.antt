@@ -1,5 +1,4 @@
-use Rattle.std.proofs.Common.{◌≡◌, take, map}
-use Rattle.{sqlite_value.specs.declared.value.Value.TheVariants.Int, review_sql_tables.specs.inner.Rowids.firsts}
+use Rattle.review_sql_tables.proofs.Common.{◌≡◌, take, map, Int, firsts}
 use Rattle.review_sql_tables.proofs.rowids.read_ids.Given as goal
 
 abbrev pub invariant-loop-row : goal.invariant-loop-row

@@ -1,6 +1,5 @@
-use Rattle.std.proofs.Common.{[], sym, subst}
-use Rattle.{std.specs.List.AllByRecursion, sqlite.specs.Held.state, review_sql_tables.proofs.Meaning.asked_ids}
-use Rattle.review_sql_tables.{proofs.Sequences.look, proofs.TextsOfTables.ids_at, specs.inner.Words.FindsIds}
+use Rattle.review_sql_tables.proofs.Common.{[], sym, subst, AllByRecursion, state, FindsIds}
+use Rattle.review_sql_tables.proofs.{Meaning.asked_ids, Sequences.look, TextsOfTables.ids_at}
 use Rattle.review_sql_tables.proofs.rowids.select_ids.Goals as goal
 
 pub returns-clause-looks : goal.returns-clause-looks

@@ -15,12 +15,8 @@ returns-clause-ran g c =
 
 pub returns-clause-open : goal.returns-clause-open
 returns-clause-open g c clean on =
-    let old = state g.S.Store c.args.tx.now.conn.now in
-    let new = state g.S.Store c.execute.new.self.conn.now in
-    opened _ _ old new c.execute.result (c.execute.ensures.runs clean on)
+    opened _ _ (state g.S.Store c.args.tx.now.conn.now) (state g.S.Store c.execute.new.self.conn.now) c.execute.result (c.execute.ensures.runs clean on)
 
 pub returns-clause-refused : goal.returns-clause-refused
 returns-clause-refused g c clean on =
-    let old = state g.S.Store c.args.tx.now.conn.now in
-    let new = state g.S.Store c.execute.new.self.conn.now in
-    refused _ _ old new c.execute.result on (c.execute.ensures.runs clean on)
+    refused _ _ (state g.S.Store c.args.tx.now.conn.now) (state g.S.Store c.execute.new.self.conn.now) c.execute.result on (c.execute.ensures.runs clean on)

@@ -1,6 +1,5 @@
-use Rattle.std.proofs.Common.{◌≡◌, ◌∙◌}
-use Rattle.{sqlite.specs.Held.state, sqlite.specs.Values.bound, review_sql_tables.proofs.Effects.deleted}
-use Rattle.review_sql_tables.{proofs.Sequences.one_inside, proofs.Sequences.opened, specs.Texts.values_of}
+use Rattle.review_sql_tables.proofs.Common.{◌≡◌, ◌∙◌, state, bound, values_of}
+use Rattle.review_sql_tables.proofs.{Effects.deleted, Sequences.one_inside, Sequences.opened}
 use Rattle.review_sql_tables.proofs.table.remove.Goals as goal
 
 pub returns-clause-ran : goal.returns-clause-ran
@@ -14,6 +13,4 @@ returns-clause-ran g c =
 
 pub returns-clause-open : goal.returns-clause-open
 returns-clause-open g c clean on =
-    let old = state g.S.Store c.args.tx.now.conn.now in
-    let new = state g.S.Store c.execute.new.self.conn.now in
-    opened _ _ old new c.execute.result (c.execute.ensures.runs clean on)
+    opened _ _ (state g.S.Store c.args.tx.now.conn.now) (state g.S.Store c.execute.new.self.conn.now) c.execute.result (c.execute.ensures.runs clean on)

@@ -1,5 +1,5 @@
 use Rattle.{std.proofs.Common.rules, std.proofs.Common.refl, std.proofs.Common.None, sqlite.specs.Held.state}
-use Rattle.{review_sql_tables.proofs.Sequences.still, review_sql_writes.specs.inner.Changes.GivesUp}
+use Rattle.{review_sql_tables.proofs.Sequences.still, review_sql_writes.specs.inner.Words.GivesUp}
 use Rattle.review_sql_writes.proofs.writing.give_up.Goals as goal
 
 pub returns-in-None-clause-ran : goal.returns-in-None-clause-ran

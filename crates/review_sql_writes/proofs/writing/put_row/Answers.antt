@@ -1,5 +1,5 @@
 use Rattle.{std.proofs.Common.rules, std.proofs.Common.refl, std.proofs.Common.None, sqlite.specs.Held.state}
-use Rattle.{review_sql_tables.proofs.Sequences.still, review_sql_writes.specs.inner.Changes.SetsPut}
+use Rattle.{review_sql_tables.proofs.Sequences.still, review_sql_writes.specs.inner.Words.SetsPut}
 use Rattle.review_sql_writes.proofs.writing.put_row.Goals as goal
 
 pub returns-in-None-clause-ran : goal.returns-in-None-clause-ran

@@ -1,6 +1,5 @@
-use Rattle.std.proofs.Common.{rules, refl, ◌≡◌, ◌∙◌, sym, ap, not, subst, IsTrue, Err}
-use Rattle.sqlite.{proofs.StateLemmas.clean_if_open, specs.Held.Held, specs.Held.state}
-use Rattle.review_sql_tables.{proofs.Sequences.failed, proofs.Sequences.ended, specs.Ran.Transacts}
+use Rattle.review_sql_tables.proofs.Common.{rules, refl, ◌≡◌, ◌∙◌, sym, ap, not, subst, IsTrue, Err, clean_if_open, Held, state, Transacts}
+use Rattle.review_sql_records.proofs.Common.{failed, ended}
 use Rattle.review_sql_writes.specs.Commits.{Commits}
 use Rattle.review_sql_writes.proofs.writing.transact.Goals as goal
 

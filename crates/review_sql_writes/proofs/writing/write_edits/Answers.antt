@@ -1,7 +1,6 @@
-use Rattle.std.proofs.Common.{rules, ◌≡◌, ◌∙◌, ◌-◌, ◌+◌, ◌++◌, suc, drop, take, get_or, ◌∷◌, [], Ok, subst, sym, ap, arith}
-use Rattle.{std.proofs.Math.Seq.drop-cons, std.proofs.lemmas.List.take_more, sqlite.specs.Held.state}
-use Rattle.review_sql_tables.{proofs.Sequences.next, specs.Ran.Inside, specs.inner.Words.Then}
-use Rattle.review_sql_writes.specs.inner.Changes.{SetsEdits, SetsUnless, is_named}
+use Rattle.review_sql_tables.proofs.Common.{rules, ◌≡◌, ◌∙◌, ◌-◌, ◌+◌, ◌++◌, suc, drop, take, get_or, ◌∷◌, [], Ok, subst, sym, ap, arith, drop-cons, take_more, state, Inside, Then}
+use Rattle.review_sql_records.proofs.Common.{next}
+use Rattle.review_sql_writes.specs.inner.Words.{SetsEdits, SetsUnless, is_named}
 use Rattle.review_sql_writes.proofs.writing.write_edits.Goals as goal
 
 pub loop-left-preserved : goal.loop-left-preserved

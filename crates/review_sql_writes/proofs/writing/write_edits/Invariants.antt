@@ -1,6 +1,5 @@
-use Rattle.std.proofs.Common.{◌≡◌, ◌≤◌, length, drop, take, Ok}
-use Rattle.{sqlite.specs.Held.state, review_sql_tables.specs.Ran.Inside}
-use Rattle.review_sql_writes.specs.inner.Changes.{SetsEdits}
+use Rattle.review_sql_tables.proofs.Common.{◌≡◌, ◌≤◌, length, drop, take, Ok, state, Inside}
+use Rattle.review_sql_writes.specs.inner.Words.{SetsEdits}
 use Rattle.review_sql_writes.proofs.writing.write_edits.Given as goal
 
 abbrev pub invariant-loop-left : goal.invariant-loop-left

@@ -1,6 +1,6 @@
 use Rattle.std.proofs.Common.{◌≡◌, Ok, refl, subst, sym, true, false, rules}
 use Rattle.{sqlite.specs.Held.state, review_sql_tables.proofs.Sequences.still, review_sql_tables.specs.Ran.Inside}
-use Rattle.review_sql_writes.specs.inner.Changes.{SetsUnless, is_named}
+use Rattle.review_sql_writes.specs.inner.Words.{SetsUnless, is_named}
 use Rattle.review_sql_writes.proofs.writing.write_unless.Goals as goal
 
 pub returns-then-is_named-clause-ran : goal.returns-then-is_named-clause-ran

@@ -1,7 +1,7 @@
 use Rattle.std.proofs.Common.{rules, ◌≡◌, ◌∙◌, true, ap, not, IsTrue, sym, subst}
 use Rattle.{sqlite.proofs.StateLemmas.clean_if_open, sqlite.specs.Held.state, review_sql_lookups.specs.Tables.tables_at}
 use Rattle.review_sql.proofs.Made.{holds_made, is_created, unmade}
-use Rattle.review_sql.specs.{Created.IsCreated, Shelf.Holds}
+use Rattle.review_sql.specs.Shelf.{IsCreated, Holds}
 use Rattle.review_sql.proofs.shelf.SqlShelf.create.Goals as goal
 
 pub returns-in-Ok-true-clause-not_empty : goal.returns-in-Ok-true-clause-not_empty

@@ -1,8 +1,6 @@
-use Rattle.std.proofs.Common.{rules, ◌≡◌, ◌⊎◌, ap, not, subst, IsTrue, Ok, Err, ◌∙◌}
-use Rattle.sqlite.{proofs.StateLemmas.clean_if_open, specs.Held.Held, specs.Held.state, specs.State.HasCleanDisk}
-use Rattle.review_machine_rows.specs.Rows.{Tables, kept_row}
-use Rattle.review_machine_rows.specs.Shelf.{Shows, IsCommitted, LeavesBy, cause_of}
-use Rattle.review_sql_writes.specs.{Commits.AreSingle, Numbers.with_request}
+use Rattle.review_sql_tables.proofs.Common.{rules, ◌≡◌, ◌⊎◌, ap, not, subst, IsTrue, Ok, Err, ◌∙◌, clean_if_open, Held, state, HasCleanDisk}
+use Rattle.review_sql_records.proofs.Common.{Tables, kept_row, Shows, IsCommitted, LeavesBy, cause_of}
+use Rattle.review_sql_writes.specs.Commits.{AreSingle, with_request}
 use Rattle.review_sql.proofs.Shown.{alone, holds_committed, holds_still, holds_undone, knows_committed, knows_still, knows_undone, stops_committed, committed_shown, clean_still, stops_still, leaves}
 use Rattle.review_sql.proofs.Singles.{are_single}
 use Rattle.review_sql.specs.Shelf.{ShelfView, Holds, tables_of, stops_of}

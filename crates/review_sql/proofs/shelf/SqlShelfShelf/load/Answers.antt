@@ -1,9 +1,5 @@
-use Rattle.std.proofs.Common.{rules, ◌≡◌, ◌∙◌, Ok, Result, IfOk, ap, not, subst, sym, IsTrue}
-use Rattle.sqlite.{proofs.StateLemmas.clean_if_open, specs.Held.Held, specs.Held.state, specs.State.HasCleanDisk}
-use Rattle.review_sql_tables.specs.Ran.{Serves}
-use Rattle.review_machine_rows.specs.{Known.AreAsked, Known.Agrees, Rows.Tables}
-use Rattle.review_machine_rows.specs.Shelf.{BlamesTables, KeepsTables, LeavesBy, Shows, cause_of}
-use Rattle.review_machine_rows.specs.declared.{rows.Rows.Rows, shelf.ShelfFault.ShelfFault}
+use Rattle.review_sql_tables.proofs.Common.{rules, ◌≡◌, ◌∙◌, Ok, Result, IfOk, ap, not, subst, sym, IsTrue, clean_if_open, Held, state, HasCleanDisk, Serves}
+use Rattle.review_sql_records.proofs.Common.{AreAsked, Agrees, Tables, BlamesTables, KeepsTables, LeavesBy, Shows, cause_of, Rows, ShelfFault}
 use Rattle.review_sql_lookups.specs.Tables.{tables_at}
 use Rattle.review_sql.proofs.Loaded.{blames_loaded, keeps_loaded, knows_loaded, load_served, shows_loaded, tables_kept, was_asked}
 use Rattle.review_sql.proofs.Shown.{desk_if_open, holds_read, holds_still, leaves, stops_read, clean_still, stops_still}

@@ -1,7 +1,5 @@
-use Rattle.std.proofs.Common.{rules, ◌≡◌, ◌∙◌, ap, not, subst, IsTrue, IfOk}
-use Rattle.sqlite.{proofs.StateLemmas.clean_if_open, specs.Held.Held, specs.Held.state, specs.State.HasCleanDisk}
-use Rattle.{review_words.specs.History.Identity, review_machine_rows.specs.Rows.Tables}
-use Rattle.review_machine_rows.specs.Shelf.{BlamesTables, IsRecalled, KeepsTables, Shows, LeavesBy, cause_of}
+use Rattle.review_sql_tables.proofs.Common.{rules, ◌≡◌, ◌∙◌, ap, not, subst, IsTrue, IfOk, clean_if_open, Held, state, HasCleanDisk}
+use Rattle.review_sql_records.proofs.Common.{Identity, Tables, BlamesTables, IsRecalled, KeepsTables, Shows, LeavesBy, cause_of}
 use Rattle.review_sql.proofs.Recalled.{blames_recalled, keeps_recalled, shows_recalled}
 use Rattle.review_sql.proofs.Shown.{holds_read, holds_still, knows_read, knows_still, stops_read, desk_if_open, same_shown, clean_still, stops_still, leaves}
 use Rattle.review_sql.specs.Shelf.{ShelfView, tables_of, stops_of}

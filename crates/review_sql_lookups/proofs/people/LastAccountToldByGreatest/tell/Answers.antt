@@ -1,5 +1,5 @@
 use Rattle.std.proofs.Common.{refl, rules, Some, None, ◌≡◌}
-use Rattle.review_sql_records.specs.{Forms.where_is, Keyed.is_small, Laws.passed}
+use Rattle.review_sql_records.specs.{Forms.where_is, Forms.is_small, Laws.passed}
 use Rattle.review_sql_lookups.{proofs.Odd.last_account_damaged, proofs.Telling.last_account, specs.Loads.last_of}
 use Rattle.review_sql_lookups.proofs.people.LastAccountToldByGreatest.tell.Goals as goal
 

@@ -1,5 +1,4 @@
-use Rattle.std.proofs.Common.{◌≡◌, true, subst}
-use Rattle.std.{proofs.lemmas.Bool.and_from, specs.Str.is_utf8}
+use Rattle.review_sql_tables.proofs.Common.{◌≡◌, true, subst, and_from, is_utf8}
 use Rattle.review_sql_records.proofs.projects.ProjectsRecord.bind_row.Goals as goal
 
 pub returns-clause-good : goal.returns-clause-good

@@ -1,8 +1,6 @@
-use Rattle.std.proofs.Common.{◌≡◌, ◌∙◌, ◌+◌, ◌<◌, ◌≤◌, ◌++◌, ◌∷◌, [], List, ℕ, take, length, sym, ap, arith, slice_set}
-use Rattle.std.proofs.Math.ListN.{length-set}
-use Rattle.std.proofs.lemmas.List.{length-map, length-take-le, map-append, take_more_set}
-use Rattle.sqlite.specs.Values.{bound}
-use Rattle.sqlite_value.specs.{Order.Row, declared.value.ValueRef.ValueRef}
+use Rattle.std.proofs.{Common.slice_set, Math.ListN.length-set, lemmas.List.length-take-le, lemmas.List.take_more_set}
+use Rattle.sqlite_value.specs.declared.value.ValueRef.{ValueRef}
+use Rattle.review_sql_tables.proofs.Common.{◌≡◌, ◌∙◌, ◌+◌, ◌<◌, ◌≤◌, ◌++◌, ◌∷◌, [], List, ℕ, take, length, sym, ap, arith, length-map, map-append, bound, Row}
 use Rattle.review_sql_tables.proofs.bound.Bound.with.Goals as goal
 
 counted : (vs : List ValueRef) (n : ℕ) (row : Row) → n ≤ length vs → bound (take n vs) ≡ row → length row ≡ n

@@ -1,9 +1,0 @@
-use Rattle.{std.proofs.Common.[], sqlite.specs.Held.state}
-use Rattle.review_sql_tables.{proofs.Made.makes_by, proofs.Sequences.one, specs.Made.MakesBy}
-use Rattle.review_sql_tables.proofs.making.make.Goals as goal
-
-pub returns-clause-ran : goal.returns-clause-ran
-returns-clause-ran g c =
-    let old = state g.S.Store c.args.tx.now.conn.now in
-    let new = state g.S.Store c.execute.new.self.conn.now in
-    one c.args.sql.now [] old new c.execute.result (MakesBy c.args.sql.now) (makes_by c.args.sql.now old new) (λ clean on. c.execute.ensures.runs clean on) c.execute.ensures.survives
