@@ -10,9 +10,8 @@ use Rattle.review_expr_terms.specs.declared.terms.{Comparison.Comparison, Count.
 use Rattle.review_expr_terms.specs.declared.terms.{VoteValue.VoteValue, Voters.Voters}
 use Rattle.review_expr_spelling.proofs.{Accounts.account_back, Cutting.behind_front}
 use Rattle.review_expr_spelling.proofs.Fronts.{both, label_goes, passed_over, taken_front}
-use Rattle.review_expr_spelling.specs.Cuts.{behind, cut_at}
 use Rattle.review_expr_spelling.specs.Labels.{accounts_in, count_in, user_in, group_in, voters_in, one_part, two_parts, parts_by, parts_in, comparison_part, behind_comma, longest_label, label_in}
-use Rattle.review_expr_spelling.specs.Values.{digits_in, by_front, negative, number_in, vote_in, equal_to, comparison_in}
+use Rattle.review_expr_spelling.specs.Values.{behind, cut_at, digits_in, by_front, negative, number_in, vote_in, equal_to, comparison_in}
 use Rattle.review_expr_printing.proofs.Words.{lacks, bare, bare_quote, bare_comma, cut_lacking, whole_lacking, bare_both, lacks_both, in_numeral, bare_numeral, behind_in, differs, digits_back, front_gives, test_gives, map_gives, none_gives, IsSmallComparison, small_comparison, comparison_again, bare_comparison}
 use Rattle.review_expr_printing.specs.Written.{voters_text, count_text, comparison_text, label_text}
 use Rattle.review_expr_terms.specs.declared.terms.Voters.TheVariants as voters

@@ -6,12 +6,11 @@ use Rattle.review_names.specs.{Forms.is_label, Forms.goes_on, Numerals.◌>>=◌
 use Rattle.review_expr_terms.specs.declared.terms.{Comparison.Comparison, Count.Count, LabelTerm.LabelTerm}
 use Rattle.review_expr_terms.specs.declared.terms.Voters.{Voters}
 use Rattle.review_expr_spelling.proofs.Fronts.{both, taken_front}
-use Rattle.review_expr_spelling.specs.Cuts.{cut_at, with_first}
 use Rattle.review_expr_spelling.specs.Labels.{longest_label, count_in, voters_in, one_part, two_parts, parts_by, parts_in, comparison_part, behind_comma, label_in}
-use Rattle.review_expr_spelling.specs.Values.{comparison_in}
+use Rattle.review_expr_spelling.specs.Values.{cut_at, with_first, comparison_in}
 use Rattle.review_expr_printing.proofs.LabelParts.{bind_gives, comparison_bare, count_bare, voters_bare, no_count, tail, cut_tail}
 use Rattle.review_expr_printing.proofs.Words.{bare_comma, cut_lacking, whole_lacking}
-use Rattle.review_expr_printing.specs.LabelValues.{IsLongestName, AreParts, IsLabelValue, LabelValuesAreSo}
+use Rattle.review_expr_printing.specs.LabelWords.{IsLongestName, AreParts, IsLabelValue, LabelValuesAreSo}
 use Rattle.review_expr_terms.specs.declared.terms.Voters.TheVariants as voters
 
 -- ==== the longest front of a text that is a label's name

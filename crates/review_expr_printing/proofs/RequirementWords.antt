@@ -3,12 +3,9 @@ use Rattle.std.proofs.Common.{◌≡◌, List, ◌∷◌, ◌++◌, ℕ, Option,
 use Rattle.review_names.specs.{Forms.is_slashed_name, Forms.is_path, Names.is_word}
 use Rattle.review_expr_terms.specs.{Patterns.is_pattern, Words.NoTerm, Words.Reading, Words.Good, Words.Bad}
 use Rattle.review_expr_terms.specs.declared.terms.{LabelTerm.LabelTerm, RequirementTerm.RequirementTerm}
-use Rattle.review_expr_spelling.proofs.Cutting.{behind_front}
-use Rattle.review_expr_spelling.specs.Cuts.{behind, cut_at, key_and_value, unquoted, with_first}
-use Rattle.review_expr_spelling.specs.Labels.{label_in}
-use Rattle.review_expr_spelling.specs.Readings.{◌>>=◌, in_term, in_value, unless_zero}
-use Rattle.review_expr_spelling.specs.Values.{is_met_by_zero}
-use Rattle.review_expr_spelling.specs.Words.{formed, is_component, keyed, pattern_or, requirement_key, requirement_value, requirement_reading, truth_in}
+use Rattle.review_expr_spelling.{proofs.Cutting.behind_front, specs.Labels.label_in}
+use Rattle.review_expr_spelling.specs.Values.{behind, cut_at, key_and_value, unquoted, with_first, is_met_by_zero}
+use Rattle.review_expr_spelling.specs.Words.{◌>>=◌, in_term, in_value, unless_zero, formed, is_component, keyed, pattern_or, requirement_key, requirement_value, requirement_reading, truth_in}
 use Rattle.review_expr_spelling.specs.declared.keys.RequirementKey.{RequirementKey}
 use Rattle.review_expr_printing.proofs.CopyWords.{value_good, formed_good}
 use Rattle.review_expr_printing.proofs.LabelParts.{label_again, label_of_form, label_lacks}

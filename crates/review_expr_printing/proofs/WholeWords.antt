@@ -4,11 +4,9 @@ use Rattle.std.proofs.lemmas.{Bool.Decides.nat_tests, List.Folds.list_all-append
 use Rattle.review_names.specs.{Forms.is_slashed_name, Forms.is_path, Names.is_word}
 use Rattle.review_expr_terms.specs.{Patterns.is_pattern, Words.Reading, Words.Good}
 use Rattle.review_expr_terms.specs.declared.terms.{LabelTerm.LabelTerm, RequirementTerm.RequirementTerm}
-use Rattle.review_expr_spelling.specs.Cuts.{behind, cut_at, closed, key_and_value, unquoted, unquoted_by}
 use Rattle.review_expr_spelling.specs.Labels.{label_in}
-use Rattle.review_expr_spelling.specs.Readings.{◌>>=◌, in_term, in_value, unless_zero}
-use Rattle.review_expr_spelling.specs.Values.{is_met_by_zero}
-use Rattle.review_expr_spelling.specs.Words.{formed, is_component, keyed, pattern_or, requirement_key, requirement_value, requirement_reading, truth_in}
+use Rattle.review_expr_spelling.specs.Values.{behind, cut_at, closed, key_and_value, unquoted, unquoted_by, is_met_by_zero}
+use Rattle.review_expr_spelling.specs.Words.{◌>>=◌, in_term, in_value, unless_zero, formed, is_component, keyed, pattern_or, requirement_key, requirement_value, requirement_reading, truth_in}
 use Rattle.review_expr_spelling.specs.declared.keys.RequirementKey.{RequirementKey}
 use Rattle.review_expr_printing.proofs.LabelValues.{IsCut, cut_is, label_values}
 use Rattle.review_expr_printing.proofs.Words.{lacks, cut_lacking, whole_lacking, value_lacks, keep, keep_both}

@@ -9,8 +9,7 @@ use Rattle.review_expr_terms.specs.Lexemes.{is_end, runs}
 use Rattle.review_expr_terms.specs.declared.terms.{Comparison.Comparison, VoteValue.VoteValue}
 use Rattle.review_expr_spelling.proofs.Cutting.{same, behind_back}
 use Rattle.review_expr_spelling.proofs.{Digits.digits_small, Digits.up_to_99, Digits.up_some, Fronts.both}
-use Rattle.review_expr_spelling.specs.Cuts.{cut_at, with_first, closed, unquoted_by, unquoted, key_and_value, behind}
-use Rattle.review_expr_spelling.specs.Values.{by_front, digits_in, negative, number_in, vote_in, equal_to, comparison_in}
+use Rattle.review_expr_spelling.specs.Values.{cut_at, with_first, closed, unquoted_by, unquoted, key_and_value, behind, by_front, digits_in, negative, number_in, vote_in, equal_to, comparison_in}
 use Rattle.review_expr_printing.specs.Written.{quoted, word_of, number_text, vote_text, comparison_text}
 use Rattle.std.specs.Int.Digits as Digits
 use Rattle.review_expr_terms.specs.declared.terms.VoteValue.TheVariants as value

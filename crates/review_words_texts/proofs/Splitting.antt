@@ -7,7 +7,7 @@ use Rattle.std.specs.List.{AllByRecursion}
 use Rattle.review_names.specs.Numerals.{shown_digits, numeral}
 use Rattle.review_words.specs.Texts.{field, text_of}
 use Rattle.review_words_texts.proofs.Cutting.{field_shape, field_not_empty}
-use Rattle.review_words_texts.specs.{Cutting.AreShort, inner.Words.taken, inner.Words.split_after}
+use Rattle.review_words_texts.specs.{Reading.AreShort, inner.Words.taken, inner.Words.split_after}
 
 shown_split : (ds : List ℕ) → AllByRecursion (λ d. d < 10) ds → (m : ℕ) (t : List ℕ) → number_from_digits_after 10 m ds < 1000000000
     → split_after m (map (λ x. 48 + x) ds ++ 58 ∷ t) ≡ taken (number_from_digits_after 10 m ds) t
