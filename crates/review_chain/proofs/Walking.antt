@@ -203,9 +203,10 @@ onto-push [] d rest = refl
 onto-push (x ∷ more) d rest = onto-push more d (x ∷ rest)
 
 AreBefore-push : (b : Branch) (more : List ℕ) (d : ℕ) (rest : List ℕ) → AreBefore b more rest → Follows b d (first_of (onto more rest)) → AreBefore b (more ++ d ∷ []) rest
+AreBefore-push b [] d [] h f = h
 AreBefore-push b [] d (x ∷ rest) h f = (f, tt)
+AreBefore-push b (y ∷ more) d [] h f = h
 AreBefore-push b (y ∷ more) d (x ∷ rest) h f = (h.0, AreBefore-push b more d (y ∷ x ∷ rest) h.1 f)
-AreBefore-push b _ d [] h f = h
 
 -- a walk is what stands before its change
 walk_before : (b : Branch) (xs : List ℕ) (c : ℕ) → IsWalk b xs c → (more : List ℕ) × (xs ≡ onto more (c ∷ [])) × AreBefore b more (c ∷ [])

@@ -40,7 +40,8 @@ kept_step : {X : Type 0} (b d : Bool) (v : X) (rest more : Option X) (f : X → 
     cond b (cond d (Some v) rest) rest ≡ option_filter f (cond d (Some v) more)
 kept_step true true v rest more f ih here = sym (ap (λ b. cond b (Some v) None) (here refl).0)
 kept_step false true v rest more f ih here = ih ∙ (ap (option_filter f) (here refl).1 ∙ sym (ap (λ b. cond b (Some v) None) (here refl).0))
-kept_step _ false v rest more f ih here = ih
+kept_step true false v rest more f ih here = ih
+kept_step false false v rest more f ih here = ih
 
 -- the row of a key among those that are kept
 pub row_kept : {K X : Type 0} {R : K → K → Ordering} → Tells R → (p : K × X → Bool) (rows : List (K × X)) → IsStrictlySortedBy R (keys_of rows) → (q : K) →

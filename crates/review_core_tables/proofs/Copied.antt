@@ -93,8 +93,9 @@ any_where test false k ks = refl
 
 kept_step : (b here passes kept rest : Bool) → (here ≡ true → passes ≡ b) → kept ≡ (passes && rest) → (if b then here || kept else kept) ≡ (passes && (here || rest))
 kept_step true true passes kept rest same ih = ap (λ x. x && true) (sym (same refl))
+kept_step true false passes kept rest same ih = ih
 kept_step false true passes kept rest same ih = ih ∙ (ap (λ x. x && rest) (same refl) ∙ ap (λ x. x && true) (sym (same refl)))
-kept_step _ false passes kept rest same ih = ih
+kept_step false false passes kept rest same ih = ih
 
 -- a key is among those that pass a test where it passes and is among all
 pub any_kept : {K : Type 0} {R : K → K → Ordering} → Tells R → (p : K → Bool) (q : K) (ks : List K) → list_any (is_at (R q)) (filter p ks) ≡ (p q && list_any (is_at (R q)) ks)

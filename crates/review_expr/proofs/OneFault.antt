@@ -49,9 +49,10 @@ some_first (Good ts) r flaw s e = cc
 some_first (Bad f) r flaw s e = cc
 
 some_rest : {A : Type 0} → (x : Reading (List (Tok A))) (r : Option (List (Tok A))) → IsSome (joined x r) → IsSome r
+some_rest (Good ts) (Some us) s = refl
 some_rest (Good ts) None s = s
+some_rest (Bad f) (Some us) s = refl
 some_rest (Bad f) None s = s
-some_rest _ (Some us) s = refl
 
 abbrev IsFirst : {A : Type 0} → (List ℕ → Reading A) → List Lexeme → List Lexeme → Lexeme → List Lexeme → Flaw → Type 0
 IsFirst reading ls before l after flaw = (before ++ l ∷ after ≡ ls) × IsSome (tokens_before reading before (l ∷ after)) × (lexeme_tokens reading l after ≡ Bad flaw)

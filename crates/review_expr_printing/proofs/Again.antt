@@ -177,9 +177,8 @@ together P (t ∷ ts) ys h g = (h.0, together P ts ys h.1 g)
 
 listed_terms : {A : Type 0} → (P : A → Type 0) (or : Bool) (ts : List (Tree A)) → EachTerms P (trees ts) → AllTerms P (listed or ts)
 listed_terms P or (t ∷ []) h = h.0
-listed_terms P true (t ∷ u ∷ ts) h = h
-listed_terms P false (t ∷ u ∷ ts) h = h
-listed_terms P _ [] h = h
+listed_terms P true _ h = h
+listed_terms P false _ h = h
 
 mutual
   unary_terms : {A : Type 0} → (P : A → Type 0) (u : Unary A) → AllWords P (spelled u) → AllTerms P (tree_of u)

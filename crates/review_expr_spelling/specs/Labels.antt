@@ -1,7 +1,7 @@
 -- The value of a `label:` word.
 use Rattle.std.specs.Prelude.{ℕ, zero, suc, List, ◌&&◌, nat_le, if◌then◌else◌, codes, length, take, drop, Option, Some, None, option_map}
 use Rattle.std.specs.Str.{bytes_eq}
-use Rattle.review_names.specs.{Forms.is_label, Names.is_word, Numerals.account_of}
+use Rattle.review_names.specs.{Forms.is_label, Names.is_word, Numerals.◌>>=◌, Numerals.account_of}
 use Rattle.review_expr_terms.specs.declared.terms.{Count.Count, LabelTerm.LabelTerm, Voters.Voters}
 use Rattle.review_expr_spelling.specs.Values.{behind, cut_at, by_front, comparison_in, digits_in}
 use Rattle.review_expr_terms.specs.declared.terms.Voters.TheVariants as voters

@@ -1,7 +1,7 @@
 -- Parts of a word, and values that stand in words: numbers, votes, kinds of change.
 use Rattle.std.specs.Ordering.{int_eq}
 use Rattle.std.specs.Prelude.{[], ℕ, List, ◌∷◌, ◌==◌, Option, Some, None, if◌then◌else◌, option_map, ℤ, pos, neg_ℤ, nat_le, Bool, false, int_lt, int_le, codes}
-use Rattle.{std.specs.Str.bytes_eq, review_names.specs.Numerals.number_of}
+use Rattle.{std.specs.Str.bytes_eq, review_names.specs.Numerals.◌>>=◌, review_names.specs.Numerals.number_of}
 use Rattle.review_expr_terms.specs.declared.terms.{Comparison.Comparison, VoteValue.VoteValue}
 use Rattle.review_expr_terms.specs.declared.terms.VoteValue.TheVariants as value
 use Rattle.review_expr_terms.specs.declared.terms.Comparison.TheVariants as comparison

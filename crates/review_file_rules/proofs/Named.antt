@@ -45,8 +45,9 @@ cond_twice false false x y f e = refl
 
 cond_swap : {A : Type 0} (b c : Bool) (x y f : A) → (b ≡ true → c ≡ true → ⊥) → cond c y (cond b x f) ≡ cond b x (cond c y f)
 cond_swap true true x y f apart = absurd (apart refl refl)
+cond_swap true false x y f apart = refl
 cond_swap false true x y f apart = refl
-cond_swap _ false x y f apart = refl
+cond_swap false false x y f apart = refl
 
 module _ {X : Type 0} (name : X → List ℕ) where
   -- the thing of a name

@@ -45,9 +45,10 @@ split : (rest front more : List ℕ) → Splits rest front more → components r
 split rest front more h = components_split rest h.2 ∙ ap₂ (λ a b. a ∷ components b) (sym h.0) (sym h.1)
 
 drop_suc : (k : ℕ) (xs : List (List ℕ)) (x : List ℕ) (ys : List (List ℕ)) → drop k xs ≡ x ∷ ys → drop (suc k) xs ≡ ys
+drop_suc zero [] x ys h = cc
 drop_suc zero (y ∷ xs) x ys h = cc
+drop_suc (suc k) [] x ys h = cc
 drop_suc (suc k) (y ∷ xs) x ys h = drop_suc k xs x ys h
-drop_suc _ [] x ys h = cc
 
 pub next : (index : ℕ) (path rest front more : List ℕ) → IsLeft index path rest → Splits rest front more → IsLeft (index + 1) path more
 next index path rest front more left h =
@@ -55,9 +56,10 @@ next index path rest front more left h =
     subst P (sym (add-one index)) (drop_suc index (components path) front (components more) (left ∙ split rest front more h))
 
 at_front : (k : ℕ) (xs : List (List ℕ)) (x : List ℕ) (ys : List (List ℕ)) → drop k xs ≡ x ∷ ys → slice_index_or xs k [] ≡ x
+at_front zero [] x ys h = cc
 at_front zero (y ∷ xs) x ys h = cc
+at_front (suc k) [] x ys h = cc
 at_front (suc k) (y ∷ xs) x ys h = at_front k xs x ys h
-at_front _ [] x ys h = cc
 
 pub found : (index : ℕ) (path rest front more : List ℕ) → IsLeft index path rest → Splits rest front more → front ≡ segment index path
 found index path rest front more left h = sym (at_front index (components path) front (components more) (left ∙ split rest front more h))
@@ -66,10 +68,12 @@ pub last : (index : ℕ) (path rest : List ℕ) → IsLeft index path rest → p
 last index path rest left h = sym (at_front index (components path) rest [] (left ∙ components_whole rest h))
 
 past : (k j : ℕ) (xs : List (List ℕ)) (x : List ℕ) → drop k xs ≡ x ∷ [] → k < j → slice_index_or xs j [] ≡ []
+past zero zero xs x h lt = absurd (omega arith)
+past zero (suc j) [] x h lt = refl
 past zero (suc j) (y ∷ xs) x h lt = let e : xs ≡ [] = cc in rw e refl
+past (suc k) zero xs x h lt = absurd (omega arith)
+past (suc k) (suc j) [] x h lt = refl
 past (suc k) (suc j) (y ∷ xs) x h lt = past k j xs x h (omega arith)
-past _ zero xs x h lt = absurd (omega arith)
-past _ (suc j) [] x h lt = refl
 
 -- a path with fewer slashes has no such segment
 pub none : (k index : ℕ) (path rest : List ℕ) → IsLeft k path rest → position_or_len is_slash rest ≡ length rest → k < index → [] ≡ segment index path

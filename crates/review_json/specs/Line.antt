@@ -2,7 +2,7 @@
 use Rattle.std.specs.Prelude.{ℕ, List, if◌then◌else◌, Option, Some, None, option_map, option_and_then, codes}
 use Rattle.std.specs.Str.{bytes_eq}
 use Rattle.serde_json.specs.{Data.Data, Data.object, Data.no_members, Find.get}
-use Rattle.review_names.specs.{Forms.is_slashed_name, Names.is_word}
+use Rattle.review_names.specs.{Forms.is_slashed_name, Names.is_word, Numerals.◌>>=◌}
 use Rattle.review_words.specs.declared.command.ChangeQuery.{ChangeQuery}
 use Rattle.review_words.specs.declared.command.ChangeQuery.TheVariants.{Change, Requirements, Threads, Attention}
 use Rattle.review_words.specs.declared.command.{Command.Command, Delivery.Delivery}

@@ -2,7 +2,7 @@
 use Rattle.std.specs.Prelude.{ℕ, List, Option, Some, None, option_and_then, codes, Bool, false, option_map, unwrap_or, if◌then◌else◌, not, ◌&&◌, is_some, is_none}
 use Rattle.serde_json.specs.{Data.Data, Data.object, Data.no_members, Find.get, Find.as_str}
 use Rattle.review_names.specs.Forms.{is_slashed_name, is_line, is_commit}
-use Rattle.review_names.specs.{Names.is_word, Numerals.account_of as account_shown}
+use Rattle.review_names.specs.{Names.is_word, Numerals.◌>>=◌, Numerals.account_of as account_shown}
 use Rattle.review_words.specs.{Texts.role_named, declared.changes.NewChange.NewChange}
 use Rattle.review_words.specs.declared.changes.{NewPatch.NewPatch, Role.Role, Role.TheVariants.Reviewer}
 use Rattle.review_words.specs.declared.command.{ChangeCommand.ChangeCommand, Command.Command, Query.Query}

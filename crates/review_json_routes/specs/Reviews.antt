@@ -5,6 +5,7 @@ use Rattle.std.specs.Str.{bytes_eq}
 use Rattle.serde_json.specs.Data.{Data, Members, no_members, member, Items, no_items, item}
 use Rattle.serde_json.specs.Find.{get, as_i64, as_number, as_object, as_u64, as_array, as_str}
 use Rattle.review_names.specs.Forms.{is_label, is_message, is_place, most_comments, most_patches}
+use Rattle.review_names.specs.Numerals.{◌>>=◌}
 use Rattle.review_words.specs.Reviews.{label_set, all_written}
 use Rattle.review_words.specs.declared.changes.{Given.Given, NewComment.NewComment, Review.Review}
 use Rattle.review_json_routes.specs.Parts.{formed, or_absent, optional, name_at, number_of, flag_at}

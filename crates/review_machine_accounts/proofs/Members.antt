@@ -94,10 +94,11 @@ one_more : (v : Option (Unit {0})) (p t x q : Bool) (c : Option (Option (Unit {0
     cond p (cond t (Some v) c) c ≡ where_so v ((t || x) && q)
 one_more v true true x true c e same = refl
 one_more v true true x false c e same = let bad : true ≡ false = same refl in absurd (cc)
+one_more v true false x q c e same = e
 one_more v false true x true c e same = let bad : false ≡ true = same refl in absurd (cc)
 one_more v false true true false c e same = e
 one_more v false true false false c e same = e
-one_more v _ false x q c e same = e
+one_more v false false x q c e same = e
 
 shared : (g a b : Bool) → ((g && a) || (g && b)) ≡ (g && (a || b))
 shared true a b = refl
@@ -154,11 +155,14 @@ row_after : (g x y held : Bool) → (g ≡ true → held ≡ y) →
     cond (cond g x y) (Some MemberRow) None
     ≡ after_row_edit (member_change (or_else (where_so (Some tt) ((g && x) && not held)) (where_so None ((g && held) && not x)))) (cond y (Some MemberRow) None)
 row_after false x y held same = refl
+row_after true true true true same = refl
+row_after true true true false same = let bad = same refl in absurd (cc)
+row_after true true false true same = let bad = same refl in absurd (cc)
 row_after true true false false same = refl
+row_after true false true true same = refl
+row_after true false true false same = let bad = same refl in absurd (cc)
+row_after true false false true same = let bad = same refl in absurd (cc)
 row_after true false false false same = refl
-row_after true _ true true same = refl
-row_after true _ true false same = let bad = same refl in absurd (cc)
-row_after true _ false true same = let bad = same refl in absurd (cc)
 
 -- the changes of a group make its members these, and leave the others
 pub members_after : (group members before : List ℕ) (held : List (ℕ × Unit {0})) (g : List ℕ) (a : ℕ) →

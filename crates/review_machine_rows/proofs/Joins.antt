@@ -35,10 +35,9 @@ placed_last (y ∷ xs) x = placed_last xs x
 
 placed_other : {X : Type 0} (xs : List X) (x : X) (n : ℕ) → (n ≡ suc (length xs) → ⊥) → at_place (xs ++ x ∷ []) n ≡ at_place xs n
 placed_other [] x (suc zero) ne = absurd (ne refl)
-placed_other [] x (suc (suc n)) ne = refl
-placed_other (y ∷ xs) x (suc zero) ne = refl
 placed_other (y ∷ xs) x (suc (suc n)) ne = placed_other xs x (suc n) (λ e. ne (ap suc e))
-placed_other _ x zero ne = refl
+placed_other [] x _ ne = refl
+placed_other (y ∷ xs) x _ ne = refl
 
 -- one more stands at the place after the last
 pub placed_more : {X : Type 0} (xs : List X) (x : X) (n : ℕ) → at_place (xs ++ x ∷ []) n ≡ cond (length xs + 1 == n) (Some x) (at_place xs n)

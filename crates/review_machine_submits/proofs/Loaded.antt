@@ -107,6 +107,7 @@ lacks_file : (caller n : ℕ) (query : ChangeQuery) (effective : Option File) (r
 lacks_file caller n Requirements None rows c found lacks reading h history l =
     some_texts h c.project (has_project reading h n c history l.reads (sym (change_told reading h caller n Requirements None rows l) ∙ found))
     (no_text (texts_of h c.project) (has_file reading h caller n None rows c found l))
+lacks_file caller n Requirements (Some f) rows c found lacks reading h history l = lacks
 lacks_file caller n _ (Some f) rows c found lacks reading h history l = lacks
 lacks_file caller n _ None rows c found lacks reading h history l = lacks
 

@@ -39,9 +39,10 @@ pub at_account : (a b : ℕ) → is_at (nat_cmp a) b ≡ (a == b)
 at_account a b = sym (unsigned_ties a b)
 
 and_other : (a b c : Bool) → (a && (b && c)) ≡ (b && (a && c))
+and_other true true c = refl
 and_other true false c = refl
+and_other false true c = refl
 and_other false false c = refl
-and_other _ true c = refl
 
 pub at_answer : (a b : AnswerKey) → is_at (answer_cmp a) b ≡ ((a.caller == b.caller) && ((a.epoch == b.epoch) && bytes_eq a.id b.id))
 at_answer a b =
@@ -115,9 +116,10 @@ among_more keys i k q below is =
 
 -- one row more is dropped
 pub drop_more : {X : Type 0} (a b : Bool) (old mid new : Option X) → mid ≡ cond a None old → new ≡ cond b None mid → new ≡ cond (a || b) None old
+drop_more true true old mid new m n = n
 drop_more true false old mid new m n = n ∙ m
+drop_more false true old mid new m n = n
 drop_more false false old mid new m n = n ∙ m
-drop_more _ true old mid new m n = n
 
 answer_itself : (k : AnswerKey) → is_at (answer_cmp k) k ≡ true
 answer_itself k = ap is_eq (tied_itself answer_total k)

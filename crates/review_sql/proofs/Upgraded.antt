@@ -33,6 +33,10 @@ use Rattle.review_sql_tables.specs.declared.versions.EarlierVersion.TheVariants 
 -- what tells no odd row reads as what is told
 pub told_file : (found : Option (Option StoredFile)) (file : Option StoredFile) → told FileRow found ≡ option_map FileRow file → found ≡ option_map Some file
 told_file None None is = refl
+told_file None (Some f) is = absurd (cc)
+told_file (Some None) None is = absurd (cc)
+told_file (Some None) (Some f) is = absurd (cc)
+told_file (Some (Some g)) None is = absurd (cc)
 told_file (Some (Some g)) (Some f) is = ap (option_map Some) (same_file (Some (FileRow g)) (Some (FileRow f)) is)
   where
     file_in : Option Row → Option StoredFile
@@ -41,7 +45,6 @@ told_file (Some (Some g)) (Some f) is = ap (option_map Some) (same_file (Some (F
 
     same_file : (a b : Option Row) → a ≡ b → file_in a ≡ file_in b
     same_file a b same = ap file_in same
-told_file _ _ is = absurd (cc)
 
 -- where no odd row is told, there is none
 no_odd : (odd : Bool) → cond odd (Some OddRow) None ≡ None → odd ≡ false

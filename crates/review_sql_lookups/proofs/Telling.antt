@@ -233,10 +233,10 @@ last_place db key (Some (Some m)) n great is =
 -- ---- places in order
 
 at_number : {X : Type 0} (xs : List X) (n : ℕ) → at_place xs n ≡ of_number xs n
+at_number [] zero = refl
 at_number [] (suc n) = refl
-at_number (x ∷ xs) (suc zero) = refl
 at_number (x ∷ xs) (suc (suc n)) = at_number xs (suc n)
-at_number _ zero = refl
+at_number (x ∷ xs) _ = refl
 
 pub ordered : (places : List (ℕ × List ℕ)) (commits : List (List ℕ)) → AreInOrder places commits → IsOrdered places (Some commits)
 ordered places commits order n = order n ∙ sym (at_number commits n)

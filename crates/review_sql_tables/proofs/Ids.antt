@@ -148,9 +148,10 @@ all_parted P [] ys all = (tt, all)
 all_parted P (x ∷ xs) ys all = let it = all_parted P xs ys all.1 in ((all.0, it.0), it.1)
 
 one_more : (at : ℕ) (tables : List Table) → take (suc at) tables ≡ take at tables ++ take 1 (drop at tables)
+one_more zero [] = refl
 one_more zero (t ∷ tables) = refl
+one_more (suc at) [] = refl
 one_more (suc at) (t ∷ tables) = ap (λ l. t ∷ l) (one_more at tables)
-one_more _ [] = refl
 
 -- one more table of the list
 pub decides_more : (at : ℕ) (db : Trees) (a b : Bool) → Decides a (Apart db (take at desk_tables)) → Decides b (Apart db (table_at at)) → Decides (a && b) (Apart db (take (suc at) desk_tables))

@@ -70,9 +70,10 @@ named_whole cmp cs i q some = named_front cmp cs i q ∙ or_true (is_named cmp (
 -- ---- one edit more was reserved, or released
 
 pub reserve_more : {X : Type 0} (n b : Bool) (start was : Option (Option X)) → was ≡ cond n (Some (flat start)) start → cond b (Some (flat was)) was ≡ cond (n || b) (Some (flat start)) start
+reserve_more true true start was is = ap (λ (o : Option (Option _)). Some (flat o)) is
 reserve_more true false start was is = is
+reserve_more false true start was is = ap (λ (o : Option (Option _)). Some (flat o)) is
 reserve_more false false start was is = is
-reserve_more _ true start was is = ap (λ (o : Option (Option _)). Some (flat o)) is
 
 flat_some : {X : Type 0} (o : Option X) → flat (option_map Some o) ≡ o
 flat_some None = refl
@@ -81,8 +82,9 @@ flat_some (Some v) = refl
 pub release_more : {X : Type 0} (n b : Bool) (start was : Option (Option X)) → was ≡ cond n (option_map Some (flat start)) start →
     cond b (option_map Some (flat was)) was ≡ cond (n || b) (option_map Some (flat start)) start
 release_more true true start was is = ap (λ (o : Option (Option _)). option_map Some (flat o)) is ∙ ap (option_map Some) (flat_some (flat start))
+release_more true false start was is = is
 release_more false true start was is = ap (λ (o : Option (Option _)). option_map Some (flat o)) is
-release_more _ false start was is = is
+release_more false false start was is = is
 
 -- ---- edits that are made at places
 

@@ -3,7 +3,7 @@ use Rattle.std.specs.List.{AllByRecursion}
 use Rattle.std.specs.Prelude.{[], ℕ, List, length, ◌<◌, slice_index_or, Option, Some, option_map, ◌==◌, if◌then◌else◌, None, ◌∷◌, nat_le, codes, drop}
 use Rattle.std.specs.Str.{bytes_eq}
 use Rattle.review_names.specs.Forms.{is_within, is_label, most_changes, most_patches, most_comments}
-use Rattle.review_names.specs.Numerals.{number_of, account_of}
+use Rattle.review_names.specs.Numerals.{◌>>=◌, number_of, account_of}
 use Rattle.review_words.specs.Faults.{code_of_number, file_fault_of_number}
 use Rattle.review_words.specs.{Refusals.refusal_of_number, Texts.most_joined}
 use Rattle.review_words.specs.declared.{faults.ExprFault.ExprFault, faults.FileFault.FileFault, reply.Answer.Answer}
