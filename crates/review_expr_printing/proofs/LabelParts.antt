@@ -43,17 +43,24 @@ accounts_again k h =
     let t : (nat_le 1 k && nat_le k 20) ≡ true = grind (arith, nat_tests, h.0, h.1) in
     rw (digits_back k (omega (arith, h.1)), t) refl
 
-range_of : (b : Bool) (n : ℕ) → (nat_le 1 n && nat_le n 20) ≡ b → (k : ℕ) → cond b (Some n) None ≡ Some k → (1 ≤ k) × (k ≤ 20)
-range_of true n t k e = let same : n ≡ k = cc in subst (λ m. (1 ≤ m) × (m ≤ 20)) same (grind (arith, nat_tests, t), grind (arith, nat_tests, t))
-range_of false n t k e = absurd (cc)
+-- what a reading and a second one of what it gave tell
+pub bind_gives : {A B : Type 0} (P : B → Type 0) (o : Option A) (f : A → Option B) → ((a : A) → o ≡ Some a → (b : B) → f a ≡ Some b → P b) → (b : B) → o >>= f ≡ Some b → P b
+bind_gives P None f h b e = absurd (cc)
+bind_gives P (Some a) f h b e = h a refl b e
 
-accounts_by : (o : Option ℕ) (k : ℕ) → o >>= (λ n. cond (nat_le 1 n && nat_le n 20) (Some n) None) ≡ Some k → (1 ≤ k) × (k ≤ 20)
-accounts_by None k e = absurd (cc)
-accounts_by (Some n) k e = range_of (nat_le 1 n && nat_le n 20) n refl k e
+-- what was read passes its test
+tested : {A : Type 0} (test : A → Bool) (b : Bool) (n : A) → test n ≡ b → (m : A) → cond b (Some n) None ≡ Some m → test m ≡ true
+tested test true n is m e = let same : n ≡ m = cc in subst (λ k. test k ≡ true) same is
+tested test false n is m e = absurd (cc)
+
+kept : {A : Type 0} (test : A → Bool) (o : Option A) (m : A) → o >>= (λ n. cond (test n) (Some n) None) ≡ Some m → test m ≡ true
+kept test o = bind_gives (λ m. test m ≡ true) o (λ n. cond (test n) (Some n) None) (λ n read. tested test (test n) n refl)
 
 asked_accounts : (x : List ℕ) (k : ℕ) → accounts_in x ≡ Some k → (1 ≤ k) × (k ≤ 20)
 unfolding accounts_in
-asked_accounts x k e = accounts_by (digits_in x) k e
+asked_accounts x k e =
+    let t : (nat_le 1 k && nat_le k 20) ≡ true = kept (λ n. nat_le 1 n && nat_le n 20) (digits_in x) k e in
+    (grind (arith, nat_tests, t), grind (arith, nat_tests, t))
 
 pub asked_count : (x : List ℕ) (c : Count) → count_in x ≡ Some c → IsAsked c
 unfolding count_in
@@ -84,21 +91,9 @@ count_again (count.Exactly k) h = ap (option_map count.Exactly) (accounts_again 
 count_again (count.AtLeast k) h = ap (option_map count.AtLeast) (accounts_again k h)
 count_again (count.Above k) h = rw (behind_in 48 61 [] (numeral k) refl (in_numeral k)) (ap (option_map count.Above) (accounts_again k h))
 
-account_by : (b : Bool) (n : ℕ) → is_account_number n ≡ b → (m : ℕ) → cond b (Some n) None ≡ Some m → is_account_number m ≡ true
-account_by true n t m e = let same : n ≡ m = cc in subst (λ k. is_account_number k ≡ true) same t
-account_by false n t m e = absurd (cc)
-
-account_of_number : (o : Option ℕ) (m : ℕ) → o >>= (λ n. cond (is_account_number n) (Some n) None) ≡ Some m → is_account_number m ≡ true
-account_of_number None m e = absurd (cc)
-account_of_number (Some n) m e = account_by (is_account_number n) n refl m e
-
 named_account : (x : List ℕ) (m : ℕ) → account_of x ≡ Some m → is_account_number m ≡ true
 unfolding account_of
-named_account x m e = account_of_number (number_of x) m e
-
-group_by : (b : Bool) (x : List ℕ) → is_word x ≡ b → (g : List ℕ) → cond b (Some x) None ≡ Some g → is_word g ≡ true
-group_by true x t g e = let same : x ≡ g = cc in subst (λ y. is_word y ≡ true) same t
-group_by false x t g e = absurd (cc)
+named_account x = kept is_account_number (number_of x)
 
 named_as : (v w : Voters) → IsNamed v → ◌≡◌ {A = Option Voters} (Some v) (Some w) → IsNamed w
 named_as v w h e = let same : v ≡ w = cc in subst IsNamed same h
@@ -114,7 +109,7 @@ pub named_voters : (x : List ℕ) (v : Voters) → voters_in x ≡ Some v → Is
 unfolding voters_in
 named_voters x =
     front_gives IsNamed _ _ _ named_user
-    (front_gives IsNamed _ _ _ (λ r. map_gives IsNamed voters.Group (group_in r) (group_by (is_word r) r refl))
+    (front_gives IsNamed _ _ _ (λ r. map_gives IsNamed voters.Group (group_in r) (tested is_word (is_word r) r refl))
     (none_gives IsNamed))
 
 bare_plain : (s : List ℕ) → list_all is_plain s ≡ true → bare s ≡ true
@@ -220,11 +215,6 @@ cut_tail s (Some parts) bare =
     (ap (λ x. comparison_part x (s ++ 44 ∷ parts)) cut, ap behind_comma cut)
 
 -- ==== what is read of a text tells that the text has no comma; and a part that says whose votes count is no count
-
--- what a reading and a second one of what it gave tell
-pub bind_gives : {A B : Type 0} (P : B → Type 0) (o : Option A) (f : A → Option B) → ((a : A) → o ≡ Some a → (b : B) → f a ≡ Some b → P b) → (b : B) → o >>= f ≡ Some b → P b
-bind_gives P None f h b e = absurd (cc)
-bind_gives P (Some a) f h b e = h a refl b e
 
 -- what is read behind a front, or otherwise, tells it of the text
 front_by : {A : Type 0} (Q : List ℕ → Type 0) (f x : List ℕ) (read : List ℕ → Option A) (otherwise : Option A) (o : Option (List ℕ)) → behind f x ≡ o
