@@ -43,7 +43,7 @@ record Spelled (t : RequirementTerm) : Type 0 where
   bare : lacks 34 text ≡ true
   gives : requirement_value key text ≡ Good t
 
-abbrev with_key : List ℕ × List ℕ → Reading (RequirementKey × List ℕ)
+abbrev pub with_key : List ℕ × List ℕ → Reading (RequirementKey × List ℕ)
 with_key halves = in_term (requirement_key halves.0) >>= (λ key. Good (key, halves.1))
 
 keyed_word : (key : RequirementKey) (text : List ℕ) → lacks 34 text ≡ true → keyed (word_of (name key) text) ≡ Good (key, text)
@@ -52,7 +52,7 @@ keyed_word key text bare =
     ap (λ o. in_term o >>= with_key) (word_back (name key) text (name_lacks key) bare)
     ∙ ap (λ o. in_term o >>= (λ k. Good (k, text))) (name_back key)
 
-abbrev valued : RequirementKey × List ℕ → Reading RequirementTerm
+abbrev pub valued : RequirementKey × List ℕ → Reading RequirementTerm
 valued halves = requirement_value halves.0 halves.1
 
 read_spelled : (t : RequirementTerm) → Spelled t → requirement_reading (requirement_word t) ≡ Good t

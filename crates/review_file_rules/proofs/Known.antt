@@ -1,6 +1,6 @@
 -- What an inherited file keeps and names.
 use Rattle.std.proofs.Common.{◌≡◌, ℕ, ℤ, Bool, true, false, cond, Less, nat_cmp, is_eq, List, [], ◌∷◌, ◌++◌, map, Option, Some, None, refl, ap, sym, subst, ◌∙◌, int_eq, ◌&&◌, ◌||◌, bytes_eq, filter, not, is_some}
-use Rattle.std.proofs.lemmas.Bool.Decides.{Decides-int_eq}
+use Rattle.std.proofs.{Math.Bool.or-true, lemmas.Bool.Decides.Decides-int_eq}
 use Rattle.std.proofs.lemmas.List.Elements.{All-from_recursion, recursion_from_All}
 use Rattle.std.{proofs.lemmas.Map.Text.is_eq-slice_cmp, specs.Cmp.Lexicographic.slice_cmp}
 use Rattle.std.specs.List.{AllByRecursion, list_any, Sorted.IsStrictlySortedBy}
@@ -35,12 +35,8 @@ has_value vs v = list_any (λ w. int_eq w.0 v) vs
 value_itself : (v : ℤ) → int_eq v v ≡ true
 value_itself v = (Decides-int_eq v v).1 refl
 
-or_true : (a : Bool) → (a || true) ≡ true
-or_true true = refl
-or_true false = refl
-
 value_later : (w : ℤ × List ℕ) (vs : Values) (v : ℤ) → has_value vs v ≡ true → has_value (w ∷ vs) v ≡ true
-value_later w vs v h = ap (λ b. int_eq w.0 v || b) h ∙ or_true (int_eq w.0 v)
+value_later w vs v h = ap (λ b. int_eq w.0 v || b) h ∙ or-true (int_eq w.0 v)
 
 each_later : (w : ℤ × List ℕ) (vs us : Values) → AllByRecursion (λ u. has_value vs u.0 ≡ true) us → AllByRecursion (λ u. has_value (w ∷ vs) u.0 ≡ true) us
 each_later w vs [] all = tt

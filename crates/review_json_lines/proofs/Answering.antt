@@ -1,6 +1,6 @@
 -- The answers to lines, one by one.
-use Rattle.std.proofs.Common.{◌≡◌, ◌<◌, ◌++◌, ◌==◌, ℕ, List, [], ◌∷◌, length, refl, false, Option, Some, None, arith, sym, ap, ◌∙◌, append_assoc, append-nil, inl, inr, subst, suc, ◌&&◌, Bool, true, length-append, Result, Ok, Err, IfOk, OnOk, take, drop, take-append-drop, IfErr, IsErrAnd, ◌+◌, ◌≤◌, length-take-le}
-use Rattle.std.proofs.{KnownBytes.Appends-nil, KnownBytes.Appends-trans, Math.Seq.take-append-add}
+use Rattle.std.proofs.Common.{◌≡◌, ◌<◌, ◌++◌, ◌==◌, ℕ, List, [], ◌∷◌, length, refl, false, Option, Some, None, arith, sym, ap, ◌∙◌, append_assoc, append-nil, inl, inr, subst, suc, ◌&&◌, Bool, true, length-append, Result, Ok, Err, IfOk, OnOk, take, drop, take-append-drop, IfErr, IsErrAnd, ◌+◌, ◌≤◌}
+use Rattle.std.proofs.{KnownBytes.Appends-nil, KnownBytes.Appends-trans, Math.Seq.take-add}
 use Rattle.std.{proofs.lemmas.Bool.Decides.nat_tests, specs.Io.KnownBytes.IsAtEnd, specs.Io.KnownBytes.Appends}
 use Rattle.{std.specs.declared.alloc.AllocError.AllocError, review_words.specs.declared.command.Delivery.Delivery}
 use Rattle.{review_words.specs.declared.reply.Reply.Reply, review_machine_rows.specs.Shelf.Shown}
@@ -318,13 +318,5 @@ any_left (Err f) lines rs text whole = all_left f lines rs text whole
 
 -- ==== bytes that were written in two steps
 
-take_two : (a n : ℕ) (bs : List ℕ) → a ≤ length bs → take (a + n) bs ≡ take a bs ++ take n (drop a bs)
-take_two a n bs within =
-    let len : length (take a bs) ≡ a = length-take-le a bs within in
-    let e : take (length (take a bs) + n) (take a bs ++ drop a bs) ≡ take a bs ++ take n (drop a bs) = take-append-add (take a bs) (drop a bs) n in
-    let P : ℕ → Type 0 = λ m. take (m + n) (take a bs ++ drop a bs) ≡ take a bs ++ take n (drop a bs) in
-    let Q : List ℕ → Type 0 = λ l. take (a + n) l ≡ take a bs ++ take n (drop a bs) in
-    subst Q (take-append-drop a bs) (subst P len e)
-
 pub wrote_more : (x y z : Option (List ℕ)) (a n : ℕ) (bs : List ℕ) → a ≤ length bs → Appends x y (take a bs) → Appends y z (take n (drop a bs)) → Appends x z (take (a + n) bs)
-wrote_more x y z a n bs within before more = subst (λ (l : List ℕ). Appends x z l) (sym (take_two a n bs within)) (Appends-trans x y z _ _ before more)
+wrote_more x y z a n bs within before more = subst (λ (l : List ℕ). Appends x z l) (sym (take-add a n bs)) (Appends-trans x y z _ _ before more)
