@@ -1,7 +1,7 @@
 -- The range that is granted to an account on a label ends in values of the label.
 use Rattle.std.proofs.Common.{◌≡◌, ℕ, ℤ, pos, Bool, true, false, List, [], ◌∷◌, map, Option, Some, None, cond, IfSome, filter, find, fold, int_lt}
-use Rattle.std.{proofs.lemmas.Bool.and_parts, specs.Int.int_min, specs.Int.int_max, specs.List.list_all}
-use Rattle.{std.specs.Option.option_map_or, review_expr.specs.declared.expr.Expr.Expr}
+use Rattle.std.{proofs.lemmas.Bool.cond_both, proofs.lemmas.Bool.and_parts, specs.Int.int_min, specs.Int.int_max}
+use Rattle.{std.specs.List.list_all, std.specs.Option.option_map_or, review_expr.specs.declared.expr.Expr.Expr}
 use Rattle.review_file_rules.specs.Rights.{least_of, greatest_of}
 use Rattle.review_file_rules.specs.Sound.{is_value, is_run, is_range, is_sound_label}
 use Rattle.review_file_rules.specs.{View.LabelView, declared.parts.Grant.Grant}
@@ -40,11 +40,9 @@ module _ (values : List (ℤ × List ℕ)) where
 -- a label that is found is sound where all are
 found : (is_it : LabelView Expr → Bool) (ls : List (LabelView Expr)) → list_all is_sound_label ls ≡ true → IfSome (find is_it ls) (λ l. is_sound_label l ≡ true)
 found is_it [] h = tt
-found is_it (l ∷ ls) h = found_by (is_it l) (and_parts _ _ h).0 (found is_it ls (and_parts (is_sound_label l) _ h).1)
-  where
-    found_by : (b : Bool) → is_sound_label l ≡ true → IfSome (find is_it ls) (λ k. is_sound_label k ≡ true) → IfSome (cond b (Some l) (find is_it ls)) (λ k. is_sound_label k ≡ true)
-    found_by true here there = here
-    found_by false here there = there
+found is_it (l ∷ ls) h =
+    let each = and_parts (is_sound_label l) (list_all is_sound_label ls) h in
+    cond_both (is_it l) (Some l) (find is_it ls) (λ o. IfSome o (λ k. is_sound_label k ≡ true)) (λ t. each.0) (λ f. found is_it ls each.1)
 
 ends : (o : Option (LabelView Expr)) (keep : Grant → Bool) → IfSome o (λ l. is_sound_label l ≡ true) →
     IfSome o (λ l. (is_value l.values (least_of (filter keep (option_map_or (λ k. k.grants) o []))) ≡ true) × (is_value l.values (greatest_of (filter keep (option_map_or (λ k. k.grants) o []))) ≡ true))
