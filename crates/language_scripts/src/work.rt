@@ -1,9 +1,10 @@
 //! Expressions at work, to be timed from outside.
 
+use crate::facts::first_change;
 use review_expr::{Expr, Facts, Terms, compile, eval, parse_requirement};
-use review_expr_judging::{ChangeFacts, ValueRange};
+use review_expr_judging::ValueRange;
 use review_expr_terms::Pattern;
-use review_words::{AccountNo, BranchName, Groups, LabelName, Path, Paths};
+use review_words::{AccountNo, LabelName, Path, Paths};
 use std::alloc::Global;
 use std::collections::BTreeMap;
 use std::env::Args;
@@ -28,49 +29,19 @@ fn paths(alloc: Global, count: u64) -> Option<Paths> {
     Paths::from_vec(alloc, paths).ok()
 }
 
-/// 20 votes on Code-Review.
-fn votes_on_label(alloc: Global) -> Option<BTreeMap<LabelName, BTreeMap<AccountNo, i8>>> {
-    let label = LabelName::read(alloc, "Code-Review").ok()?;
-    let given = votes(alloc)?;
-    let mut labels = BTreeMap::new(alloc);
-    labels.insert(label, given).ok()?;
-    Some(labels)
-}
-
-/// The values of Code-Review.
-fn ranges(alloc: Global) -> Option<BTreeMap<LabelName, ValueRange>> {
+/// A change with 20 votes on Code-Review, and so many paths.
+fn change(alloc: Global, count: u64) -> Option<Facts> {
     let label = LabelName::read(alloc, "Code-Review").ok()?;
     let range = ValueRange {
         least: -2,
         greatest: 2,
     };
-    let mut ranges = BTreeMap::new(alloc);
-    ranges.insert(label, range).ok()?;
-    Some(ranges)
-}
-
-/// So many paths, and the branch main.
-fn paths_and_branch(alloc: Global, count: u64) -> Option<(Paths, BranchName)> {
-    let branch = BranchName::read(alloc, "main").ok()?;
-    let paths = paths(alloc, count)?;
-    Some((paths, branch))
-}
-
-/// A change with 20 votes on Code-Review, and so many paths.
-fn change(alloc: Global, count: u64) -> Option<Facts> {
-    let (paths, branch) = paths_and_branch(alloc, count)?;
-    let ranges = ranges(alloc)?;
-    let votes = votes_on_label(alloc)?;
-    Some(Facts::Change(ChangeFacts {
-        votes,
-        ranges,
-        paths,
-        owner: AccountNo::first(),
-        uploader: AccountNo::first(),
-        branch,
-        unresolved: false,
-        groups: Groups(BTreeMap::new(alloc)),
-    }))
+    let votes = votes(alloc)?;
+    let mut change = first_change(alloc).ok()?;
+    change.paths = paths(alloc, count)?;
+    change.votes.insert(label.copy(alloc).ok()?, votes).ok()?;
+    change.ranges.insert(label, range).ok()?;
+    Some(Facts::Change(change))
 }
 
 fn parsed(alloc: Global, text: &str, count: u64) -> u64 {

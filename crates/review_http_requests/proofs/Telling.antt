@@ -6,10 +6,9 @@ use Rattle.std.proofs.lemmas.Str.{IsUtf8-from_ascii, Ascii.IsAscii-from_all}
 use Rattle.httparse.proofs.GrammarLemmas.{print_request-append, request_unique}
 use Rattle.httparse.specs.Grammar.{RequestHead, ReadsRequest, HasNoRequest, NeverHasRequest, print_request, MayBecomeRequest, IsRequestHead, crlf, IsField, is_token_byte, is_uri_byte, print_blank, print_version, print_end, print_section, EndsInTarget}
 use Rattle.httparse.specs.Spans.{RequestExceeds, RequestOverflows}
-use Rattle.review_words.specs.declared.command.Delivery.{Delivery}
-use Rattle.review_http_requests.{proofs.Given.gave_more, specs.Bytes.Gave, specs.Bytes.IsBrought}
-use Rattle.review_http_requests.specs.{Counts.greatest, Counts.one_more, Heads.envelope, Judged.Judges, Judged.WaitsFor}
-use Rattle.review_http_requests.specs.{RequestLaws.IsHeadFault, Told.WasTold, Told.IsToldOfInput}
+use Rattle.{review_words.specs.declared.command.Delivery.Delivery, review_http_requests.proofs.Given.gave_more}
+use Rattle.review_http_requests.specs.{Bytes.Gave, Bytes.IsBrought, Counts.greatest, Counts.one_more, Heads.envelope}
+use Rattle.review_http_requests.specs.RequestLaws.{IsHeadFault, WasTold, IsToldOfInput}
 use Rattle.review_http_requests.specs.Wire.{front, HasHead, body_of, Follows, CallsFor, IsBadHead, IsHeadTooLarge, delivery_of, IsNotWhole, HasManyFields}
 use Rattle.review_http_requests.specs.declared.envelope.Envelope.{Envelope}
 use Rattle.review_http_requests.specs.declared.fault.{Refused.Refused, RequestFault.RequestFault}
@@ -17,7 +16,7 @@ use Rattle.review_http_requests.specs.declared.fault.RequestFault.TheVariants.{E
 use Rattle.review_http_requests.specs.declared.http_fault.HttpFault.{HttpFault}
 use Rattle.review_http_requests.specs.declared.http_fault.HttpFault.TheVariants.{BadHead, HeadTooLarge}
 use Rattle.review_http_requests.specs.declared.judge.Look.{Look, TheVariants.Wants, TheVariants.Whole}
-use Rattle.review_http_requests.specs.inner.Words.{Stands, IsFaultOf, Finishes, HeadIs, request_fault}
+use Rattle.review_http_requests.specs.inner.Words.{Judges, WaitsFor, Stands, IsFaultOf, Finishes, HeadIs, request_fault}
 use Rattle.review_http_requests.specs.declared.fault.RequestFault.TheVariants as request
 use Rattle.review_http_requests.specs.declared.fault.Refused.TheVariants as refused
 

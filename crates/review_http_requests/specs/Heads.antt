@@ -3,8 +3,8 @@ use Rattle.std.specs.List.{before_first}
 use Rattle.std.specs.Prelude.{ℕ, List, map, Bool, ◌==◌, nat_le, if◌then◌else◌, Option, Some, None, option_and_then, codes, Result, Ok, Err}
 use Rattle.httparse.specs.{Grammar.RequestHead, Spans.name_and_value}
 use Rattle.review_names.specs.{Names.is_word, Numerals.account_of, Numerals.number_of}
-use Rattle.review_json_routes.specs.{Parts.epoch_from, Questions.is_question, Questions.needs_body, Texts.name_of_bytes}
-use Rattle.review_json_routes.specs.declared.route.Route.{Route}
+use Rattle.review_json_routes.specs.Commands.{is_question, needs_body}
+use Rattle.review_json_routes.specs.{Parts.epoch_from, Parts.name_of_bytes, declared.route.Route.Route}
 use Rattle.review_http_requests.specs.Faults.{or_fault, ◌>>=◌}
 use Rattle.review_http_requests.specs.Fields.{Fields, Occurs, absent, once, again, occurs, one_value, number_shown}
 use Rattle.review_http_requests.specs.{Methods.route_of, Resources.resource_of}

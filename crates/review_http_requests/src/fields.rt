@@ -2,7 +2,7 @@
 ghost use Rattle.std.specs.Prelude.{◌≡◌, ◌≤◌, length, map, min, option_map, All};
 ghost use Rattle.httparse.specs.Spans.{header_bytes, IsHeaderWithin};
 ghost use Rattle.review_http_requests.specs.Fields.{is_named, and_again, with_field, occurs, one_value, number_shown, most};
-ghost use Rattle.review_http_requests.specs.Seen.{seen};
+ghost use Rattle.review_http_requests.specs.inner.Words.{seen};
 
 use httparse::spans::HeaderSpan;
 

@@ -2,5 +2,4 @@ pub mod Numerals
 mod Searches
 pub mod Accounts
 pub mod Components
-mod Bounds
 mod LabelForms
