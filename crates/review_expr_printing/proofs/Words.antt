@@ -101,7 +101,7 @@ pub value_lacks : (word key x : List ℕ) → key_and_value word ≡ Some (key, 
 unfolding key_and_value
 value_lacks word key x e = halves_of (cut_at 58 word) key x e
 
--- or_parts a quote nor a comma
+-- neither a quote nor a comma
 abbrev pub bare : List ℕ → Bool
 bare = list_all (λ c. not (c == 34) && not (c == 44))
 

@@ -3,3 +3,4 @@ mod Searches
 pub mod Accounts
 pub mod Components
 mod LabelForms
+mod Spans

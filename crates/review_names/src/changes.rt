@@ -5,12 +5,15 @@ ghost use Rattle.review_names.specs.Forms.{is_within, most_changes, most_comment
 use crate::numbers::{Number, NumberKind};
 
 /// The kind of the numbers of changes, from 1 to 1,000,000,000.
+#[derive(Clone, Copy)]
 pub struct OfChange;
 
 /// The kind of the numbers of a change's patch sets, from 1 to 1,000.
+#[derive(Clone, Copy)]
 pub struct OfPatch;
 
 /// The kind of the numbers of the comments on a change, from 1 to 10,000.
+#[derive(Clone, Copy)]
 pub struct OfComment;
 
 /// The number of a change, from 1 to 1,000,000,000.

@@ -46,7 +46,7 @@ impl<T: Drop> From<AllocFailed<T>> for BadName {
 }
 
 /// The form of an account's name, 1 to 64 of `A-Z a-z 0-9 . _ -`, and the kind of its number.
-#[derive(Drop)]
+#[derive(Clone, Copy)]
 pub struct OfAccount;
 
 /// The form of a group's name, which is that of an account's.

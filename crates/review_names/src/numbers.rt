@@ -6,7 +6,7 @@ use crate::names::BadName;
 use std::marker::{Model, PhantomData};
 
 /// A kind of numbers: those from 1 to a greatest one.
-pub trait NumberKind {
+pub trait NumberKind: Copy {
     ghost MOST: { ℕ };
 
     /// The greatest number of the kind.
@@ -22,9 +22,9 @@ pub trait NumberKind {
 /// A number of a kind. Contracts see the number.
 #[derive_where(Clone, Copy, Debug, PartialEq, Eq, PartialOrd, Ord)]
 pub struct Number<K: NumberKind> {
-    number: u32,
+    pub(crate) number: u32,
     #[derive_where(skip)]
-    kind: PhantomData<K>,
+    pub(crate) kind: PhantomData<K>,
 }
 
 impl<K: NumberKind> Model for Number<K> {
