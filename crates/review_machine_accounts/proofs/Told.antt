@@ -8,7 +8,7 @@ use Rattle.review_words.specs.declared.command.Query.{Query}
 use Rattle.review_machine_rows.proofs.Asked.{found_of, all_asked}
 use Rattle.review_machine_rows.proofs.Common.{Answer, Base, Command, Done, File, OfQuery, Refusal, Refused, Rows, StoredFile, UnknownCaller, bytes_eq-Decides, first_refusal, nat_tests, row_in, some_mapped, some_or}
 use Rattle.review_machine_rows.proofs.Joins.{past_end, some_at, nothing_at_zero}
-use Rattle.review_machine_rows.proofs.{Lined.there_is, Puts.based_from}
+use Rattle.review_machine_rows.proofs.{Lined.there_is, Looked.based_from}
 use Rattle.review_machine_rows.specs.Changes.{Reading, own_of, is_known, is_sent}
 use Rattle.review_machine_rows.specs.Known.{IsFoundByName, IsLast, known, Agrees, IsKnown, is_so, is_there, number_of, holder_of, members_of, commits_of, at_place, IsBaseOrNot, count_of, most}
 use Rattle.review_machine_rows.specs.Questions.{IsQueryAnswerBy, IsToldTo, query_checks, query_refused_by}
@@ -253,7 +253,7 @@ place_told reading h rows key agree there =
 
 base_or_not : (reading : Reading) (h : List Entry) (base : Base) (is : Bool) → IsBaseOrNot (fact reading h) base is → is ≡ is_base h base.project base.branch base.commit
 base_or_not reading h base true there =
-    sym (listed_at (bases h base.project base.branch) base.commit there.0 (based_from (at_place (bases h base.project base.branch) there.0) base.commit there.1))
+    sym (listed_at (bases h base.project base.branch) base.commit there.0 (based_from (at_place (bases h base.project base.branch) there.0) (Some base.commit) there.1))
 base_or_not reading h base false none = ⊎_elim
     (λ (t : is_base h base.project base.branch base.commit ≡ true).
     let r = placed_at (bases h base.project base.branch) base.commit t in absurd (none (suc r.0) (ap (option_map BaseRow) r.1)))

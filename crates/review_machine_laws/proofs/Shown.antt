@@ -10,7 +10,7 @@ use Rattle.review_core_rules.specs.Change.{Change, commit, current_patch, of_num
 use Rattle.review_core_rules.specs.Parts.{TheHeader, PatchOf, APatch, header_of}
 use Rattle.review_machine_rows.proofs.Asked.{commit_known, found_of}
 use Rattle.review_machine_rows.proofs.Common.{APart, Base, BaseRow, Header, IsHistory, Link, Merged, PartKey, PatchRow, Rows, Standing, bytes_eq-Decides, fact, list_any, look_up, option_map_or, or-true, same_Some, view, wanted}
-use Rattle.review_machine_rows.proofs.{Joins.unsent_from, Puts.based_from}
+use Rattle.review_machine_rows.proofs.{Joins.unsent_from, Looked.based_from}
 use Rattle.review_machine_rows.specs.Changes.{Reading, Reads, change, change_count, is_for, some_change, is_known, is_sent}
 use Rattle.review_machine_rows.specs.Known.{IsCurrent, IsInBranch, IsMergedWith, IsSender, IsSentBy, StandsAs, at_place, part_of, Agrees, Found, IsKnown, change_in, known, standing_of as standing_in}
 use Rattle.review_machine_rows.specs.Links.{link_for, link_of, links_in}
@@ -127,7 +127,7 @@ merged_with reading h project branch x n m =
 -- what rows show in a branch is in it
 pub in_branch_is : (reading : Reading) (h : List Entry) (project branch x : List ℕ) → IsInBranch (fact reading h) (base_of project branch x) → is_in_branch reading h project branch x ≡ true
 in_branch_is reading h project branch x (inl based) =
-    ap (λ b. b || some_change reading h (is_merged_commit project branch x) (change_count h)) (listed_at (bases h project branch) x based.0 (based_from (at_place (bases h project branch) based.0) x based.1))
+    ap (λ b. b || some_change reading h (is_merged_commit project branch x) (change_count h)) (listed_at (bases h project branch) x based.0 (based_from (at_place (bases h project branch) based.0) (Some x) based.1))
 in_branch_is reading h project branch x (inr merged) =
     let m = merged_with reading h project branch x merged.0 merged.1 in
     ap (λ b. is_base h project branch x || b) (some_passes reading h (is_merged_commit project branch x) merged.0 m.0 m.1 m.2) ∙ or-true (is_base h project branch x)

@@ -1,5 +1,5 @@
 -- What a file or a base that is put leaves, and what a delta without one does.
-use Rattle.std.proofs.Common.{Some, option_map, ◌≡◌, ◌∙◌, ◌&&◌, ◌==◌, ℕ, List, Option, None, true, refl, ap, is_eq, nat_cmp, bytes_eq}
+use Rattle.std.proofs.Common.{◌≡◌, ◌∙◌, ◌&&◌, ◌==◌, ℕ, List, Option, None, true, refl, ap, is_eq, nat_cmp, bytes_eq}
 use Rattle.std.proofs.lemmas.Map.Lookups.{CmpEqualImpliesEq, exact_unsigned, exact_bytes}
 use Rattle.review_table.proofs.Places.{both_equal}
 use Rattle.review_machine_rows.proofs.Common.{Delta, IsTotalOrder, Less, Ordering, PlaceKey, is_at, is_eq-slice_cmp, nat_cmp_total, nat_list_cmp_total, on_total, ordering_then, slice_cmp, then_total, unsigned_tied}
@@ -46,8 +46,3 @@ module _ (delta : Delta) where
 
   pub no_base_more : delta.base ≡ None → (row : Key → Option Row) (project : List ℕ) (n : ℕ) → count_after delta row (BasesOf project) n ≡ n
   no_base_more none row project n = ap (λ o. count_put (λ (k : PlaceKey). bytes_eq k.project project) o (λ (k : PlaceKey). row (BaseKey k.project k.branch k.place)) n) none
-
--- what the row of a base says
-pub based_from : (o : Option (List ℕ)) (commit : List ℕ) → option_map BaseRow o ≡ Some (BaseRow commit) → o ≡ Some commit
-based_from None commit e = absurd (cc)
-based_from (Some x) commit e = let same : x ≡ commit = cc in ap Some same

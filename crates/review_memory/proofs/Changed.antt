@@ -1,7 +1,7 @@
 -- Rows of changes on a desk.
 use Rattle.std.proofs.Common.{◌≡◌, inl, inr, ⊎_elim, ℕ, false, List, Option, Some, None, get_or, refl, ◌∙◌}
 use Rattle.review_machine_rows.proofs.Common.{Base, IsDamaged, JoinedChange, Key, Nowhere, Part, PartKey, PatchOf, PatchRow, PatchSet, Row, TheHeader, change}
-use Rattle.review_machine_rows.proofs.{Puts.based_from, Readings.reading_of}
+use Rattle.review_machine_rows.proofs.{Looked.based_from, Readings.reading_of}
 use Rattle.review_machine_rows.specs.Known.{IsAtPlace, IsCurrent, IsInBranch, IsLastJoined, IsMergedWith, IsSender, IsSentBy, StandsAs, HaveJoined, IsJoinedAt}
 use Rattle.review_machine_rows.specs.declared.rows.BranchKey.{BranchKey as Branch}
 use Rattle.review_machine_change_rows.specs.{Tables.fault_of, declared.loading.ChangeFault.ChangeFault}
@@ -65,7 +65,7 @@ merged_as f g base n same s = record {
 -- a commit that is no base and of no merged change is not in the branch
 pub outside_here : (d : Desk) (base : Base) → IsCommitThere d.branches.bases base false → ((n : ℕ) → IsMergedWith (kept_row d.changes) base n → ⊥) → IsInBranch (row_of d) base → ⊥
 outside_here d base no_base none is =
-    ⊎_elim (λ b. no_base b.0 (based_from (base_at d.branches.bases base.project base.branch b.0) base.commit b.1)) (λ m. none m.0 (merged_as (row_of d) (kept_row d.changes) base m.0 (λ k part. refl) m.1)) is
+    ⊎_elim (λ b. no_base b.0 (based_from (base_at d.branches.bases base.project base.branch b.0) (Some base.commit) b.1)) (λ m. none m.0 (merged_as (row_of d) (kept_row d.changes) base m.0 (λ k part. refl) m.1)) is
 
 number_as : (f g : Key → Option Row) (base : Base) (n k : ℕ) → ((m : ℕ) (part : Part) → g (PartKey m part) ≡ f (PartKey m part)) → (sent : IsSender f base n) × (sent.number ≡ k) → (sent : IsSender g base n) × (sent.number ≡ k)
 unfolding sender_as

@@ -8,14 +8,14 @@ use Rattle.review_machine_rows.proofs.Common.{BranchKey, IsDamaged, IsHistory, I
 use Rattle.review_machine_rows.proofs.{Looked.based_from, Readings.history_length, Readings.reading_of}
 use Rattle.review_machine_rows.specs.Rows.{Key, AccountKey, MemberKey, BaseKey, AccountRow, MemberRow, Count, Projects, BasesOf, ClosedEpochs, Stored, member_cmp, member_row, Tables}
 use Rattle.review_machine_rows.specs.declared.rows.MemberKey.{MemberKey as Member}
+use Rattle.review_machine_change_rows.specs.{Tables.fault_of, declared.loading.ChangeFault.ChangeFault}
 use Rattle.review_memory_rows.proofs.Dropped.{at_account}
 use Rattle.review_memory_rows.specs.Bases.{IsUnlisted, AreBases, base_at}
-use Rattle.review_memory_rows.specs.{Loads.fault_of, declared.bases.BasesFault.BasesFault}
 use Rattle.review_memory.proofs.Applied.{name_total, exact_name, exact_member, at_member}
 use Rattle.review_memory.specs.Desk.{name_cmp, AddsNames, IsIndexed, KeepsNames, Desk, tables_of, row_of, count_of, AreInUse, IsNumber, IsNumbered}
 use Rattle.review_memory.specs.First.{first_name, first_member, HasAccount, HasName, HasMember}
 use Rattle.review_memory.specs.{Loads.IsUnread, declared.keys.NameKey.NameKey}
-use Rattle.review_memory_rows.specs.declared.bases.BasesFault.TheVariants as bases
+use Rattle.review_machine_change_rows.specs.declared.loading.ChangeFault.TheVariants as bases
 
 -- ==== the index of accounts by name
 
@@ -130,7 +130,7 @@ unlisted_damaged d key none h hist v =
     (λ n. based_from (base_at d.branches.bases key.project key.branch n) (at_place (bases_in h key.project key.branch) n) ((v read.0 read.1).row_is (BaseKey key.project key.branch n)))
 
 -- bases that are not given are those of no history
-pub bases_unread : (d : Desk) (key : BranchKey) (f : BasesFault) → IsUnlisted d.branches.bases key f → IsUnread (tables_of d) (fault_of f)
+pub bases_unread : (d : Desk) (key : BranchKey) (f : ChangeFault) → IsUnlisted d.branches.bases key f → IsUnread (tables_of d) (fault_of f)
 bases_unread d key bases.Memory none = tt
 bases_unread d key bases.Gap none = unlisted_damaged d key none
 

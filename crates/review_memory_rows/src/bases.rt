@@ -7,7 +7,8 @@ ghost use Rattle.review_memory_rows.specs.Bases.{commit_cmp, base_at, total_in, 
 ghost use Rattle.review_memory_rows.specs.declared.keys.CommitKey.{CommitKey};
 
 use crate::keys::CommitKey;
-use review_machine_rows::{Base, BranchKey, PlaceKey, Put, ShelfFault};
+use review_machine_change_rows::ChangeFault;
+use review_machine_rows::{Base, BranchKey, PlaceKey, Put};
 use review_table::{Key, RowEdit, Table};
 use review_words::{Bases, CommitName, ProjectName};
 use std::alloc::{AllocError, Global};
@@ -21,40 +22,6 @@ pub struct Branches {
     commits: Table<CommitKey, ()>,
     lasts: Table<BranchKey, u64>,
     totals: Table<ProjectName, u64>,
-}
-
-/// Why the bases of a branch are not given.
-#[derive(Clone, Copy, PartialEq, Eq, Drop)]
-pub enum BasesFault {
-    /// There was no memory for them.
-    Memory,
-    /// A place has none, or place 0 has one.
-    Gap,
-}
-
-impl From<AllocError> for BasesFault {
-    ghost use Rattle.std.specs.Prelude.{◌≡◌};
-    ghost use Rattle.review_memory_rows.specs.declared.bases.BasesFault.TheVariants.{Memory};
-
-    ghost from_gives = { λ _ f. f ≡ Memory };
-
-    fn from(_error: AllocError) -> BasesFault {
-        BasesFault::Memory
-    }
-}
-
-impl From<BasesFault> for ShelfFault {
-    ghost use Rattle.std.specs.Prelude.{◌≡◌};
-    ghost use Rattle.review_memory_rows.specs.Loads.{fault_of};
-
-    ghost from_gives = { λ f e. e ≡ fault_of f };
-
-    fn from(fault: BasesFault) -> ShelfFault {
-        match fault {
-            BasesFault::Memory => ShelfFault::Memory,
-            BasesFault::Gap => ShelfFault::Damaged,
-        }
-    }
 }
 
 impl Model for Branches {
@@ -92,7 +59,7 @@ impl Branches {
     }
 
     /// The bases of a branch in the order of their places, none where it has none, or that these have a gap.
-    pub fn bases_of(&self, alloc: Global, branch: &BranchKey) -> Result<Bases, BasesFault>
+    pub fn bases_of(&self, alloc: Global, branch: &BranchKey) -> Result<Bases, ChangeFault>
         ensures bases { IfOk result (AreBases self.now.bases branch.now) }
         ensures gap { IfErr result (IsUnlisted self.now.bases branch.now) }
     {
@@ -102,13 +69,13 @@ impl Branches {
             place: 0,
         };
         if self.bases.get(&key).is_some() {
-            return Err(BasesFault::Gap);
+            return Err(ChangeFault::Gap);
         }
         let mut bases = Bases::new(alloc);
         for before in 0..self.last_place(branch) {
             key.place = before + 1;
             let Some(commit) = self.bases.get(&key) else {
-                return Err(BasesFault::Gap);
+                return Err(ChangeFault::Gap);
             };
             bases.push(commit.copy(alloc)?)?;
         }
