@@ -26,7 +26,6 @@ pub use Rattle.sqlite.specs.{Values.bound, declared.error.Error.Error}
 pub use Rattle.sqlite_catalog.proofs.AlterLemmas.{keys_are_unique}
 pub use Rattle.sqlite_catalog.specs.{Change.KeepsRows, Change.next_tree, Change.without_table, Listing.IsSound}
 pub use Rattle.sqlite_keyed.proofs.ListLemmas.{IsPermutation-filter, all_map, all_unmap, all_weaker, filter-filter, filter-map, filter_same, map-map}
-pub use Rattle.sqlite_keyed.proofs.ListLemmas.{none_counted}
 pub use Rattle.sqlite_resolve.specs.{Compile.table_defined_by, Lowering.Checked, declared.compiled.Compiled.Compiled}
 pub use Rattle.sqlite_rules.{proofs.TableLemmas.int_is, specs.Cast.cast, specs.Cast.cast_row}
 pub use Rattle.sqlite_rules.specs.Edit.{are_fresh, edit_of, have_rowids, id_in, is_taken, numbered, put_all, without_all}
@@ -48,29 +47,25 @@ pub use Rattle.sqlite_value.specs.declared.{keys.Collation.TheVariants.Binary, v
 pub use Rattle.sqlite_value.specs.declared.value.Value.TheVariants.{Blob, Int, Null, Real, Text}
 pub use Rattle.review_table.specs.Rows.{after_row_edit, row_edit_of, row_in, rows_of}
 pub use Rattle.review_table.specs.declared.table.RowEdit.{RowEdit}
-pub use Rattle.review_sql_tables.specs.Search.{number_in, text_in}
 pub use Rattle.review_sql_tables.specs.Content.{Adds, AreApart, IsAdded, Remakes, Removes, RemovesWhere, SparesOthers, has_key, is_natural}
 pub use Rattle.review_sql_tables.specs.Content.{is_number_below, is_text, is_value}
 pub use Rattle.review_sql_tables.specs.Desk.{accounts, answers_3, attention, bases, changes, comments, desk, desk_schema, desk_tables, epochs}
 pub use Rattle.review_sql_tables.specs.Desk.{is_tree, members, patches, projects_2, reviewers, schema_0, schema_1, schema_2, schema_of, simple}
 pub use Rattle.review_sql_tables.specs.Desk.{tables_1, tables_2, votes}
-pub use Rattle.review_sql_tables.specs.Search.{AreParts, HaveRows, IsExact, SetsParts}
-pub use Rattle.review_sql_tables.specs.Search.{HasGreatest, HasOne, as_counted}
-pub use Rattle.review_sql_tables.specs.Versions.{Grows, IsBlank, IsMade, MakesBy, MakesText}
-pub use Rattle.review_sql_tables.specs.Versions.{Migrates, Moves}
-pub use Rattle.review_sql_tables.specs.Versions.{AreMoved, Move, answers_move, columns_of, projects_move, with_first_epoch, without_parent}
 pub use Rattle.review_sql_tables.specs.Ran.{Inside, IsDeskIfOpen, IsReady, Looks, OnDesk, Serves, Transacts, Within}
-pub use Rattle.review_sql_tables.specs.Search.{AreFound, At, Finds, Search, SetsRow, SetsRows, only, reads, row_at, rows_at, shown}
+pub use Rattle.review_sql_tables.specs.Search.{number_in, text_in, AreParts, HaveRows, IsExact, SetsParts, HasGreatest, HasOne, as_counted, AreFound}
+pub use Rattle.review_sql_tables.specs.Search.{At, Finds, Search, SetsRow, SetsRows, only, reads, row_at, rows_at, shown}
 pub use Rattle.review_sql_tables.specs.Texts.{Asks, Deletes, Inserts, Updates, last_where, over_table, rows_where, tests_from, values_of}
-pub use Rattle.review_sql_tables.specs.Versions.{is_new, schema_at, version_number, version_of}
+pub use Rattle.review_sql_tables.specs.Versions.{Grows, IsBlank, IsMade, MakesBy, MakesText, Migrates, Moves, AreMoved, Move, answers_move}
+pub use Rattle.review_sql_tables.specs.Versions.{columns_of, projects_move, with_first_epoch, without_parent, is_new, schema_at, version_number}
+pub use Rattle.review_sql_tables.specs.Versions.{version_of}
 pub use Rattle.review_sql_tables.specs.declared.texts.TheConstants.{ANY_ROW, DROP_ANSWERS, DROP_PROJECTS, FIND_ANSWER, FIND_DESK, FIND_EPOCHS}
 pub use Rattle.review_sql_tables.specs.declared.texts.TheConstants.{MOVE_ANSWERS, MOVE_PROJECTS}
 pub use Rattle.review_sql_tables.specs.declared.versions.{EarlierVersion.EarlierVersion, TablesVersion.TablesVersion}
 pub use Rattle.review_sql_tables.specs.declared.versions.TablesVersion.TheVariants.{First, Second, Third}
-pub use Rattle.review_sql_tables.specs.inner.Words.{Drops, DropsBy, DropsText, Fills, FillsBy, FillsText, HasNoKeys, IsSimple, with_both}
-pub use Rattle.review_sql_tables.specs.inner.Words.{AreIds, AreOwn, firsts}
-pub use Rattle.review_sql_tables.specs.inner.Words.{DeletesBelow, FindsIds, ShowsCount, Then, WereApart, WereRead, WereSorted, count_where, first_as}
-pub use Rattle.review_sql_tables.specs.inner.Words.{table_at, tests_below}
+pub use Rattle.review_sql_tables.specs.inner.Words.{Drops, DropsBy, DropsText, Fills, FillsBy, FillsText, HasNoKeys, IsSimple, with_both, AreIds}
+pub use Rattle.review_sql_tables.specs.inner.Words.{AreOwn, firsts, DeletesBelow, FindsIds, ShowsCount, Then, WereApart, WereRead, WereSorted}
+pub use Rattle.review_sql_tables.specs.inner.Words.{count_where, first_as, table_at, tests_below}
 unfoldable pub use Rattle.std.specs.List.{IsDistinct}
 unfoldable pub use Rattle.sqlite.specs.Listing.{listing_schema, understood}
 unfoldable pub use Rattle.sqlite.specs.State.{FailsToQuery, IsNotRun, Shown}
