@@ -6,7 +6,7 @@ use Rattle.std.specs.{Char.is_ascii_digit, Io.KnownBytes.Appends, List.position_
 use Rattle.review_names.proofs.Components.{is_slash, components_split, components_whole, Splits}
 use Rattle.review_names.specs.Forms.{components}
 use Rattle.review_http_requests.specs.Bytes.{Gave, IsFirstPart}
-use Rattle.review_http_requests.specs.{Counts.one_more, Fields.digits_after, Fields.most, Resources.segment}
+use Rattle.review_http_requests.specs.{Counts.one_more, Heads.digits_after, Heads.most, Resources.segment}
 
 -- ==== what reads gave, one after the other
 
