@@ -258,7 +258,9 @@ answers_part (line ∷ before) last rs = answered_part (asked line) rs (answers 
 left_part : (fault : Fault) (lines : List (List ℕ)) (rs : List Reply) (text : List ℕ) → IsLeftBy fault lines rs text → IsPartOf text (answers lines rs)
 left_part Input lines rs text left = ([], sym (append-nil text ∙ left))
 left_part Memory lines rs text left =
-    subst (λ (all : List (List ℕ)). IsPartOf text (answers all rs)) (sym left.2) (subst (λ (t : List ℕ). IsPartOf t (answers (left.0 ++ left.1) rs)) (sym left.4) (answers_part left.0 left.1 rs))
+    let P : List (List ℕ) → Type 0 = λ all. IsPartOf text (answers all rs) in
+    let Q : List ℕ → Type 0 = λ t. IsPartOf t (answers (left.0 ++ left.1) rs) in
+    subst P (sym left.2) (subst Q (sym left.4) (answers_part left.0 left.1 rs))
 left_part Output lines rs text left = left
 
 -- what waits is sent in part
@@ -291,7 +293,8 @@ pub output_left : (f : Fault) (lines : List (List ℕ)) (rs : List Reply) (sent 
 output_left f lines rs sent part waiting rest is less whole none =
     let all : IsPartOf (sent ++ waiting) (answers lines rs) = ([], sym (append-nil (sent ++ waiting) ∙ whole)) in
     let text : (sent ++ part) ++ rest ≡ sent ++ part = ap (λ l. (sent ++ part) ++ l) none ∙ append-nil (sent ++ part) in
-    subst (λ (x : Fault). IsLeftBy x lines rs ((sent ++ part) ++ rest)) (sym is) (subst (λ (t : List ℕ). IsPartOf t (answers lines rs)) (sym text) (sent_less sent part waiting _ less all))
+    let P : List ℕ → Type 0 = λ t. IsPartOf t (answers lines rs) in
+    subst (λ (x : Fault). IsLeftBy x lines rs ((sent ++ part) ++ rest)) (sym is) (subst P (sym text) (sent_less sent part waiting _ less all))
 
 pub part_left : (f : Fault) (lines : List (List ℕ)) (rs : List Reply) (text : List ℕ) → f ≡ Output → IsPartOf text (answers lines rs) → IsLeftBy f lines rs text
 part_left f lines rs text is part = subst (λ (x : Fault). IsLeftBy x lines rs text) (sym is) part

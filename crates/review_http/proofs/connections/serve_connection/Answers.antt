@@ -9,8 +9,10 @@ returns-clause-served g c =
     let one = served_one g.S.Shelf.state _ _ _ _ _ _ _ was in
     let before = g.C.Connections.told c.args.connections.now in
     let after = g.C.Connections.told c.close.new.self in
-    let empty = subst (λ (held : Option (List ℕ)). IfSome before (λ (b : List (List ℕ)). held ≡ Some [])) (sym (ap g.C.Writer.Write.contents c.new-writer.ensures.inner)) c.requires.empty in
-    let tells = subst (λ (holds : Option (List ℕ)). IfSome holds (λ (t : List ℕ). WereTold before (t ∷ []) after)) (ap g.C.Writer.Write.contents c.into_inner-2.ensures) c.close.ensures.told in (
+    let Empty : Option (List ℕ) → Type 0 = λ held. IfSome before (λ (b : List (List ℕ)). held ≡ Some []) in
+    let Tells : Option (List ℕ) → Type 0 = λ holds. IfSome holds (λ (t : List ℕ). WereTold before (t ∷ []) after) in
+    let empty = subst Empty (sym (ap g.C.Writer.Write.contents c.new-writer.ensures.inner)) c.requires.empty in
+    let tells = subst Tells (ap g.C.Writer.Write.contents c.into_inner-2.ensures) c.close.ensures.told in (
       was.text,
       one.0,
       subst (λ (input : Option (List ℕ)). ServedOne g.S.Shelf.state (record { input = input; text = was.text }) one.0 c.args.shelf.now c.serve_request.new.shelf)
