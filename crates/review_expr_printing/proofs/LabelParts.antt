@@ -1,7 +1,7 @@
 -- The parts of label words.
 use Rattle.std.proofs.Common.{◌≡◌, ℕ, ◌≤◌, ◌==◌, List, [], ◌∷◌, ◌++◌, append-nil, Bool, true, false, not, cond, Option, None, Some, option_map, refl, ap, subst, ◌∙◌, arith, ◌&&◌, nat_le, codes, ℤ, pos, sym, bytes_eq, zero, suc, ◌+◌, ◌-◌, ◌<◌, length, take, drop, length-append, ◌||◌}
 use Rattle.std.proofs.Math.{Bool.and-false, Seq.take-append_seam, Seq.drop-append_seam, Seq.take-append-add}
-use Rattle.std.proofs.lemmas.{Bool.and_parts, Bool.Decides.nat_tests, Slice.Eq.bytes_eq-Decides}
+use Rattle.std.proofs.lemmas.{Bool.and_parts, Bool.Decides.nat_tests, Option.same_Some, Slice.Eq.bytes_eq-Decides}
 use Rattle.std.specs.{Char.is_ascii_alphabetic, Char.is_ascii_alphanumeric, List.list_all}
 use Rattle.review_names.{proofs.Numerals.number_shown, specs.Forms.is_label, specs.Forms.goes_on}
 use Rattle.review_names.specs.Names.{is_account_number, is_plain, is_word}
@@ -182,10 +182,7 @@ abbrev pub AreParts : Voters × Option Count → Type 0
 AreParts parts = IsNamed parts.0 × IsAskedIfAny parts.1
 
 parts_as : (p q : Voters × Option Count) → AreParts p → Some p ≡ Some q → AreParts q
-parts_as p q h e = let same : p ≡ q = ap (one_of q) e in subst AreParts same h where
-  one_of : Voters × Option Count → Option (Voters × Option Count) → Voters × Option Count
-  one_of d None = d
-  one_of d (Some x) = x
+parts_as p q h e = subst AreParts (same_Some p q e) h
 
 one_good : (c : Option Count) (x : List ℕ) (p : Voters × Option Count) → count_in x ≡ c → one_part c x ≡ Some p → AreParts p
 one_good (Some asked) x p is e = parts_as (voters.Everyone, Some asked) p (tt, asked_count x asked is) e
@@ -434,10 +431,7 @@ label_again t h =
 
 label_front_by : (b : Bool) (front rest : List ℕ) (o : Option (List ℕ × List ℕ)) → (b ≡ true → is_label front ≡ true) → ((halves : List ℕ × List ℕ) → o ≡ Some halves → is_label halves.0 ≡ true)
     → (halves : List ℕ × List ℕ) → cond b (Some (front, rest)) o ≡ Some halves → is_label halves.0 ≡ true
-label_front_by true front rest o here below halves e = subst (λ x. is_label x ≡ true) (ap (first_of front) e) (here refl) where
-  first_of : List ℕ → Option (List ℕ × List ℕ) → List ℕ
-  first_of d None = d
-  first_of d (Some x) = x.0
+label_front_by true front rest o here below halves e = subst (λ x. is_label x ≡ true) (ap (λ (h : List ℕ × List ℕ). h.0) (same_Some (front, rest) halves e)) (here refl)
 label_front_by false front rest o here below halves e = below halves e
 
 front_label : (n : ℕ) (x : List ℕ) (halves : List ℕ × List ℕ) → longest_label n x ≡ Some halves → is_label halves.0 ≡ true

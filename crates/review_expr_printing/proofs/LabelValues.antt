@@ -1,7 +1,7 @@
 -- The values of label words.
 use Rattle.std.proofs.Common.{◌≡◌, ℕ, zero, suc, ◌+◌, ◌-◌, ◌<◌, ◌≤◌, List, [], ◌∷◌, ◌++◌, length, take, drop, length-append, append_assoc, append-nil, Bool, true, false, cond, Option, None, Some, refl, sym, ap, subst, ◌∙◌, arith, take-append-drop, length-take-le, ◌&&◌, nat_le, option_map, inl, inr, ◌==◌}
 use Rattle.std.proofs.Math.{Bool.and-false, Seq.take-append_seam, Seq.drop-append_seam, Seq.take-append-add}
-use Rattle.std.proofs.lemmas.Bool.{and_parts, Decides.nat_tests}
+use Rattle.std.proofs.lemmas.{Bool.and_parts, Bool.Decides.nat_tests, Option.same_Some}
 use Rattle.review_names.specs.{Forms.is_label, Forms.goes_on, Numerals.◌>>=◌}
 use Rattle.review_expr_terms.specs.declared.terms.{Count.Count, LabelTerm.LabelTerm, Voters.Voters}
 use Rattle.review_expr_spelling.proofs.Fronts.{taken_front, skip}
@@ -54,12 +54,6 @@ record Found (n : ℕ) (text : List ℕ) (halves : List ℕ × List ℕ) : Type 
   is_name : is_label halves.0 ≡ true
   longest : (m : ℕ) → length halves.0 < m → m ≤ n → m ≤ length text → is_label (take m text) ≡ false
 
-halves_same : {X : Type 0} (x y : X) → Some x ≡ Some y → x ≡ y
-halves_same x y e = ap (or_else x) e where
-  or_else : {X : Type 0} → X → Option X → X
-  or_else d None = d
-  or_else d (Some z) = z
-
 found_by : (b : Bool) (n : ℕ) (text : List ℕ) (halves : List ℕ × List ℕ) → (nat_le (suc n) (length text) && is_label (take (suc n) text)) ≡ b
     → ((x : List ℕ × List ℕ) → longest_label n text ≡ Some x → Found n text x)
     → cond b (Some (take (suc n) text, drop (suc n) text)) (longest_label n text) ≡ Some halves → Found (suc n) text halves
@@ -67,7 +61,7 @@ found_by true n text halves is below e =
     let t = and_parts (nat_le (suc n) (length text)) (is_label (take (suc n) text)) is in
     let fits : suc n ≤ length text = let u = t.0 in grind (arith, nat_tests, u) in
     let long : length (take (suc n) text) ≡ suc n = length-take-le (suc n) text fits in
-    subst (Found (suc n) text) (halves_same _ _ e) (record {
+    subst (Found (suc n) text) (same_Some _ _ e) (record {
       whole = take-append-drop (suc n) text;
       is_name = t.1;
       longest = λ m more most within. absurd (omega (arith, long, more, most));

@@ -6,7 +6,7 @@ use Rattle.std.specs.{Char.is_ascii_digit, Io.KnownBytes.Appends, List.position_
 use Rattle.review_names.proofs.Components.{is_slash, components_split, components_whole, Splits}
 use Rattle.review_names.specs.Forms.{components}
 use Rattle.review_http_requests.specs.Bytes.{Gave, IsFirstPart}
-use Rattle.review_http_requests.specs.{Counts.one_more, Fields.digits_after, Fields.most, Resources.segment}
+use Rattle.review_http_requests.specs.{Counts.one_more, Heads.digits_after, Heads.most, Resources.segment}
 
 -- ==== what reads gave, one after the other
 
@@ -44,8 +44,7 @@ drop_suc (suc k) (y ∷ xs) x ys h = drop_suc k xs x ys h
 
 pub next : (index : ℕ) (path rest front more : List ℕ) → IsLeft index path rest → Splits rest front more → IsLeft (index + 1) path more
 next index path rest front more left h =
-    let P : ℕ → Type 0 = λ k. drop k (components path) ≡ components more in
-    subst P (sym (add-one index)) (drop_suc index (components path) front (components more) (left ∙ split rest front more h))
+    subst (λ (k : ℕ). drop k (components path) ≡ components more) (sym (add-one index)) (drop_suc index (components path) front (components more) (left ∙ split rest front more h))
 
 at_front : (k : ℕ) (xs : List (List ℕ)) (x : List ℕ) (ys : List (List ℕ)) → drop k xs ≡ x ∷ ys → slice_index_or xs k [] ≡ x
 at_front zero [] x ys h = cc

@@ -4,8 +4,6 @@ pub mod Shown
 pub mod Resources
 pub mod Methods
 pub mod Table
-pub mod Faults
-pub mod Fields
 pub mod Heads
 pub mod Wire
 pub mod RequestLaws

@@ -1,7 +1,7 @@
 -- Words that only proofs and private clauses use.
 use Rattle.std.specs.Prelude.{[], ◌<◌, ◌++◌, ℕ, List, length, ◌+◌, ◌≡◌, Bool, true, false, Result, Ok, Err, ◌≤◌, drop, ◌⊎◌}
 use Rattle.httparse.specs.Grammar.{RequestHead, ReadsRequest, print_request, NeverHasRequest, HasNoRequest, MayBecomeRequest}
-use Rattle.review_http_requests.specs.{Fields.Occurs, Fields.absent, Fields.once, Fields.again, Heads.envelope}
+use Rattle.review_http_requests.specs.Heads.{Occurs, absent, once, again, envelope}
 use Rattle.review_http_requests.specs.Wire.{IsNotWhole, CallsFor, most_fields, HasManyFields, Follows}
 use Rattle.review_http_requests.specs.declared.envelope.Envelope.{Envelope}
 use Rattle.review_http_requests.specs.declared.fault.Refused.{Refused, TheVariants.Http, TheVariants.Memory}
