@@ -18,6 +18,9 @@ last_pushed : (before : ℕ) (ps : List PatchRow) (p : PatchRow) → last_upload
 last_pushed before [] p = refl
 last_pushed before (q ∷ ps) p = last_pushed q.uploader ps p
 
+pub current_patch-requires : goal.current_patch-requires
+current_patch-requires c = subst (λ xs. is_within most_patches (length xs) ≡ true) (sym c.deref.ensures.value) c.args.self.now.sound.patches
+
 pub next_patch-requires : goal.next_patch-requires
 next_patch-requires c =
     let ps = c.args.self.now.rows.now.patches.items in

@@ -1,10 +1,14 @@
-use Rattle.std.proofs.Common.{◌≡◌, ℕ, ◌==◌, ◌&&◌, ◌||◌, ◌++◌, not, ◌∙◌, ap, length, map, None}
+use Rattle.std.proofs.Common.{true, sym, subst, ◌≡◌, ℕ, ◌==◌, ◌&&◌, ◌||◌, ◌++◌, not, ◌∙◌, ap, length, map, None}
 use Rattle.std.specs.{List.list_any, Prelude.if◌then◌else◌, Prelude.unwrap_or, Prelude.is_some}
+use Rattle.review_names.specs.Forms.{most_patches, is_within}
 use Rattle.review_words.specs.declared.command.ChangeCommand.TheVariants.{Review}
 use Rattle.review_core_rules.specs.Change.{last_uploader, reviewed, given_or, stored_as, said, new_comments, posts, kept_or, why_replied, why_commented, writer_role, is_open, no_copying}
 use Rattle.review_core_rules.specs.{EditedRows.edited_account, Seen.seen, Seen.of_account}
 use Rattle.review_core_tables.specs.declared.attention.Who.{Who}
 use Rattle.review_core.proofs.file.ChangeFile.with_review.Goals as goal
+
+pub reviewed_patch-requires : goal.reviewed_patch-requires
+reviewed_patch-requires c = subst (λ xs. is_within most_patches (length xs) ≡ true) (sym c.deref-2.ensures.value) c.args.self.now.sound.patches
 
 pub returns : goal.returns
 returns c =

@@ -1,10 +1,14 @@
-use Rattle.std.proofs.Common.{◌≡◌, ◌==◌, ◌&&◌, ◌||◌, not, ◌∙◌, ap, length, pos, None, refl}
+use Rattle.std.proofs.Common.{true, sym, subst, ◌≡◌, ◌==◌, ◌&&◌, ◌||◌, not, ◌∙◌, ap, length, pos, None, refl}
 use Rattle.std.specs.{Cmp.unsigned_tied, Prelude.if◌then◌else◌}
+use Rattle.review_names.specs.Forms.{most_patches, is_within}
 use Rattle.review_words.specs.declared.command.ChangeCommand.TheVariants.{RemoveReviewer}
 use Rattle.review_core_rules.specs.Change.{last_uploader, eligible, settled, no_copying}
 use Rattle.review_core_rules.specs.Seen.{seen, of_account}
 use Rattle.review_core_tables.{proofs.Accounts.kept_nothing, specs.declared.attention.Who.Who}
 use Rattle.review_core.proofs.file.ChangeFile.without_reviewer.Goals as goal
+
+pub current_patch-requires : goal.current_patch-requires
+current_patch-requires c = subst (λ xs. is_within most_patches (length xs) ≡ true) (sym c.deref-2.ensures.value) c.args.self.now.sound.patches
 
 pub returns : goal.returns
 returns c =
