@@ -9,7 +9,7 @@ use Rattle.review_words.specs.declared.command.Command.TheVariants.{CreateAccoun
 use Rattle.review_words.specs.declared.faults.{ExprFault.ExprFault, FileFault.FileFault, FileFault.TheVariants.Expr}
 use Rattle.review_words.specs.declared.reply.Refusal.TheVariants.{UnknownCaller, NotAdmin, NoProject, NoAccount, SameState, CommitKnown, RequirementUnsatisfied, NameTaken, BadFile, Limit, EpochAhead}
 use Rattle.review_machine_rows.proofs.Asked.{all_asked}
-use Rattle.review_machine_rows.proofs.Common.{Command, Delta, Done, File, Nothing, PlaceKey, Refusal, Refused, Reply, Rows, StoredFile, cases_Bool, is_at, is_eq-slice_cmp, named_parent, slice_cmp, unsigned_tied}
+use Rattle.review_machine_rows.proofs.Common.{Command, Done, File, Nothing, Refusal, Refused, Reply, cases_Bool, is_at, is_eq-slice_cmp, named_parent, slice_cmp, unsigned_tied}
 use Rattle.review_machine_rows.proofs.{Joins.placed_more, Joins.place_is_free, Lined.there_is}
 use Rattle.review_machine_rows.proofs.Puts.{at_place_of, no_base, no_base_more, no_file, no_project}
 use Rattle.review_machine_rows.specs.Answer.{IsAnswerBy, IsOutcome, first_refusal, refused_by, checks, IsAnswerAt, epoch_checks, refused_or}
@@ -18,6 +18,7 @@ use Rattle.review_machine_rows.specs.Known.{known, Agrees, IsKnown, is_so, is_th
 use Rattle.review_machine_rows.specs.Rows.{Key, AccountKey, MemberKey, FileKey, BaseKey, PartKey, OddKey, Row, AccountRow, FileRow, BaseRow, APart, Count, Projects, BasesOf, ClosedEpochs, member_cmp, account_change, member_change, edited, after, count_after, after_put, count_put, place_cmp, ChangesNothing}
 use Rattle.review_machine_rows.specs.Steps.{OfCommand, command_wants}
 use Rattle.review_machine_rows.specs.View.{view, fact, counted, AreEnough, IsDecided, IsDecidedAt}
+use Rattle.review_machine_rows.specs.declared.rows.{Delta.Delta, PlaceKey.PlaceKey, Rows.Rows, StoredFile.StoredFile}
 use Rattle.review_machine_accounts.proofs.Members.{eq_sym, members_after}
 use Rattle.review_machine_accounts.proofs.Told.{account_told, member_told, held_told}
 use Rattle.review_machine_accounts.specs.Decisions.{IsEmpty}

@@ -6,7 +6,7 @@ use Rattle.review_words.specs.History.{Entry, accepted, counted, named, is_named
 use Rattle.review_words.specs.declared.command.Command.TheVariants.{CreateAccount, PutGroup, PutProject, RecordBase, CloseEpoch, CreateChange, OnChange, Submit}
 use Rattle.review_words.specs.declared.command.Query.{Query}
 use Rattle.review_machine_rows.proofs.Asked.{found_of, all_asked}
-use Rattle.review_machine_rows.proofs.Common.{Answer, Base, Command, Done, File, OfQuery, Refusal, Refused, Rows, StoredFile, UnknownCaller, bytes_eq-Decides, first_refusal, nat_tests, row_in, some_mapped, some_or}
+use Rattle.review_machine_rows.proofs.Common.{Answer, Command, Done, File, OfQuery, Refusal, Refused, UnknownCaller, bytes_eq-Decides, first_refusal, nat_tests, row_in, some_mapped, some_or}
 use Rattle.review_machine_rows.proofs.Joins.{past_end, some_at, nothing_at_zero}
 use Rattle.review_machine_rows.proofs.{Lined.there_is, Looked.based_from}
 use Rattle.review_machine_rows.specs.Changes.{Reading, own_of, is_known, is_sent}
@@ -14,7 +14,8 @@ use Rattle.review_machine_rows.specs.Known.{IsFoundByName, IsLast, known, Agrees
 use Rattle.review_machine_rows.specs.Questions.{IsQueryAnswerBy, IsToldTo, query_checks, query_refused_by}
 use Rattle.review_machine_rows.specs.Rows.{AccountKey, AccountRow, MemberRow, FileRow, BaseRow, member_row}
 use Rattle.review_machine_rows.specs.View.{fact, view, counted as counted_in, AreEnough}
-use Rattle.review_machine_rows.specs.declared.rows.{BranchKey.BranchKey as Branch, Counted.Counted}
+use Rattle.review_machine_rows.specs.declared.rows.{Base.Base, BranchKey.BranchKey as Branch, Counted.Counted}
+use Rattle.review_machine_rows.specs.declared.rows.{Rows.Rows, StoredFile.StoredFile}
 use Rattle.review_machine_laws.proofs.{Sent.sent_is, Shown.placed_at, Shown.listed_at}
 use Rattle.review_machine_accounts.specs.{Commits.known_in, inner.Words.is_held, inner.Words.member_of}
 use Rattle.review_machine_rows.specs.declared.rows.Want.TheVariants as want

@@ -7,7 +7,8 @@ use Rattle.review_core_rules.specs.{EditedChanges.IsBare, EditedChanges.after_ed
 use Rattle.review_core_rules.specs.Parts.{Part, TheHeader, PatchOf, VoteOf, RoleOf, CommentOf, AttentionOf, AHeader, APatch, AVote, ARole, AComment, AnAttentionEntry, part_row}
 use Rattle.review_core_rules.specs.Seen.{of_account, seen, value_of, vote_cmp}
 use Rattle.review_core_rules.specs.declared.edited_change.EditedChange.{EditedChange}
-use Rattle.review_machine_rows.proofs.Common.{ChangeEdit, ChangeRows, Ordering, RowEdit, VoteKey, append-nil, cases_Bool, nat_tests, of_number, part_change, unsigned_tied, vote_row, voted}
+use Rattle.review_machine_rows.proofs.Common.{ChangeRows, Ordering, RowEdit, VoteKey, append-nil, cases_Bool, nat_tests, of_number, part_change, unsigned_tied, vote_row, voted}
+use Rattle.review_machine_rows.specs.declared.rows.ChangeEdit.{ChangeEdit}
 use Rattle.review_machine_change_rows.specs.Edits.{puts_after}
 
 -- ==== rows that are put under the next numbers

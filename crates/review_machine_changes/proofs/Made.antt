@@ -11,7 +11,7 @@ use Rattle.review_core_rules.specs.Change.{Change, after_copying, after_plain, c
 use Rattle.review_core_rules.specs.EditedChanges.{Makes, after_edits}
 use Rattle.review_core_rules.specs.{Parts.Part, Parts.part_row, declared.edited_change.EditedChange.EditedChange}
 use Rattle.review_machine_rows.proofs.Asked.{requests_are}
-use Rattle.review_machine_rows.proofs.Common.{AllocError, Answer, AreMany, ChangeEdit, ChangeRows, Command, Delta, Done, File, IfOk-weaker, IsSound, NewPatch, OfCommand, OnChange, Refusal, Reply, Rows, cases_Bool, nat_tests, seen, voted}
+use Rattle.review_machine_rows.proofs.Common.{AllocError, Answer, AreMany, ChangeRows, Command, Done, File, IfOk-weaker, IsSound, NewPatch, OfCommand, OnChange, Refusal, Reply, cases_Bool, nat_tests, seen, voted}
 use Rattle.review_machine_rows.proofs.Puts.{no_base, no_base_more, no_file, no_project}
 use Rattle.review_machine_rows.specs.Answer.{first_refusal, IsAnswerBy, IsOf, IsUploadAnswer, comment_numbers, most_requests, numbers_after, refused_by}
 use Rattle.review_machine_rows.specs.Changes.{Reading, change, setting_of}
@@ -19,6 +19,7 @@ use Rattle.review_machine_rows.specs.Decisions.{NamesChangesOnce, NamesEachOnce,
 use Rattle.review_machine_rows.specs.Known.{part_of, known, number_of}
 use Rattle.review_machine_rows.specs.Rows.{member_cmp, APart, edited, part_change, Key, Row, AccountKey, MemberKey, FileKey, BaseKey, PartKey, OddKey, Count, Projects, BasesOf, ClosedEpochs, account_change, member_change, after, count_after}
 use Rattle.review_machine_rows.specs.View.{AreEnough, IsDecided, counted, fact, view}
+use Rattle.review_machine_rows.specs.declared.rows.{ChangeEdit.ChangeEdit, Delta.Delta, Rows.Rows}
 use Rattle.review_machine_change_rows.proofs.Edited.{after_mapped}
 use Rattle.review_machine_accounts.proofs.Decided.{outcome_answer}
 use Rattle.review_machine_changes.specs.Facts.{EditsChange, MakesChange, next_request, setting_in}

@@ -18,12 +18,13 @@ use Rattle.review_core_rules.specs.Change.{Change, current, is_open, label_in, r
 use Rattle.review_core_rules.specs.Sound.{fits, answer_stored}
 use Rattle.review_core_tables.{proofs.Accounts.in_table, proofs.Accounts.is_listed, specs.Copies.group_list}
 use Rattle.review_machine_rows.proofs.Asked.{file_asked}
-use Rattle.review_machine_rows.proofs.Common.{ChangeCommand, Damaged, Delta, Done, Expr, File, Given, IsUndecided, LabelView, NewPatch, Nothing, OnChange, Refusal, Reply, Rows, nat_tests, option_map_or, row_in, rows_of, slice_cmp}
+use Rattle.review_machine_rows.proofs.Common.{ChangeCommand, Damaged, Done, Expr, File, Given, IsUndecided, LabelView, NewPatch, Nothing, OnChange, Refusal, Reply, nat_tests, option_map_or, row_in, rows_of, slice_cmp}
 use Rattle.review_machine_rows.specs.Answer.{first_refusal, given_checks, is_in_range, is_value_of, of_change, refused_by, review_checks, upload_checks, IsRequestOutcome, has_role, is_merged, request_checks}
 use Rattle.review_machine_rows.specs.Changes.{Reading, Reads, file_of, groups_of, setting_of, texts_of, change}
 use Rattle.review_machine_rows.specs.Known.{IsKnown, known, change_in, Members, members_of}
 use Rattle.review_machine_rows.specs.Steps.{HasFile, OfCommand, caller_in, given_wants, granted_groups, has_some, named_in}
 use Rattle.review_machine_rows.specs.View.{AreEnough, IsDecided}
+use Rattle.review_machine_rows.specs.declared.rows.{Delta.Delta, Rows.Rows}
 use Rattle.review_machine_laws.proofs.{Changes.all_pass, Changes.Passes, Grouped.in_group}
 use Rattle.review_machine_laws.proofs.Histories.{OneEffective, same_file}
 use Rattle.review_machine_accounts.proofs.Decided.{admin_is, asked_beside, outcome_answer}

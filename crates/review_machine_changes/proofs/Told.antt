@@ -11,7 +11,7 @@ use Rattle.review_words.specs.declared.reply.NotTaken.{NotTaken as Cause, TheVar
 use Rattle.review_words.specs.declared.reply.Refusal.TheVariants.{UnknownCaller, NoProject, NoBranch, NotAllowed, CommitKnown, UnknownParent, Limit, NoChange}
 use Rattle.review_file_rules.specs.{Rights.groups_of as right_groups, declared.parts.Right.Right}
 use Rattle.review_machine_rows.proofs.Asked.{found_of, file_asked, line_asked, change_asked}
-use Rattle.review_machine_rows.proofs.Common.{Change, ChangeCommand, ChangeEdit, Delta, Done, File, Given, IsSound, IsUndecided, NewChange, NewPatch, Part, Refusal, Rows, StoredFile, begun, has_account, most_changes, nat_tests, part_row}
+use Rattle.review_machine_rows.proofs.Common.{Change, ChangeCommand, Done, File, Given, IsSound, IsUndecided, NewChange, NewPatch, Part, Refusal, begun, has_account, most_changes, nat_tests, part_row}
 use Rattle.review_machine_rows.proofs.Lined.{texts_told, there_is}
 use Rattle.review_machine_rows.proofs.Puts.{no_base, no_base_more, no_file, no_project}
 use Rattle.review_machine_rows.specs.Answer.{has_right, first_refusal, refused_by, IsHistory, of_change, request_checks}
@@ -21,6 +21,8 @@ use Rattle.review_machine_rows.specs.Lines.{line_of, with_above, most_depth}
 use Rattle.review_machine_rows.specs.Rows.{Key, AccountKey, MemberKey, FileKey, BaseKey, PartKey, OddKey, APart, Count, Projects, BasesOf, ClosedEpochs, account_change, member_change, edited, after, count_after, part_change, member_cmp}
 use Rattle.review_machine_rows.specs.Steps.{HasFile, caller_in, OfCommand, command_wants, file_wants, given_wants, has_some, line_steps, needs_file, known_parent, project_for, request_wants, texts_in, unknown, wants_by}
 use Rattle.review_machine_rows.specs.View.{view, AreEnough, IsDecided, counted, fact}
+use Rattle.review_machine_rows.specs.declared.rows.{ChangeEdit.ChangeEdit, Delta.Delta, Rows.Rows}
+use Rattle.review_machine_rows.specs.declared.rows.StoredFile.{StoredFile}
 use Rattle.review_machine_laws.proofs.Changes.{last_change_is, all_pass, change_there, is_up_to}
 use Rattle.review_machine_laws.proofs.{Grouped.in_group, Histories.OneEffective, Histories.same_file, Rows.rows_tell}
 use Rattle.review_machine_laws.proofs.SoundProjects.{has_project}

@@ -13,11 +13,12 @@ use Rattle.review_file_rules.specs.{Spelled.label_in, Spelled.named, Spelled.spe
 use Rattle.review_core_rules.proofs.Stays.{removed_on}
 use Rattle.review_core_rules.specs.Change.{Change, Copying, Setting, after, begun, carried, copying, current, given_or, reviewed, is_lost}
 use Rattle.review_core_rules.specs.Counts.{AreApart, AreMany, has_vote}
-use Rattle.review_machine_rows.proofs.Common.{Answer, ChangeCommand, Command, Done, Expr, Given, IsRead, NewPatch, Ordering, Reply, StoredFile, UnknownCaller, VoteKey, is_label, list_any, option_map_or, slice_cmp, voted}
+use Rattle.review_machine_rows.proofs.Common.{Answer, ChangeCommand, Command, Done, Expr, Given, IsRead, NewPatch, Ordering, Reply, UnknownCaller, VoteKey, is_label, list_any, option_map_or, slice_cmp, voted}
 use Rattle.review_machine_rows.proofs.Readings.{IsDoneBy, done_of}
 use Rattle.review_machine_rows.specs.Answer.{IsAnswerBy, IsHistory, checks, IsUploadAnswer, is_value_of}
 use Rattle.review_machine_rows.specs.Changes.{Reading, Reads, change, change_by, change_count, setting_of, submitted, effective_of, file_of, own_of, texts_of}
 use Rattle.review_machine_rows.specs.Lines.{line_of, most_depth, with_above}
+use Rattle.review_machine_rows.specs.declared.rows.StoredFile.{StoredFile}
 use Rattle.review_machine_laws.proofs.Changes.{joining_keeps, all_pass, done_passes}
 use Rattle.review_machine_laws.proofs.{Histories.line_read, Rows.made_holds, SoundProjects.votes_stand}
 use Rattle.review_machine_deliveries.proofs.Files.{AreReadRight, spelled_once}

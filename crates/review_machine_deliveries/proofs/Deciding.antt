@@ -4,7 +4,7 @@ use Rattle.review_words.specs.History.{Entry, is_project, IsFirst, if_done}
 use Rattle.review_words.specs.declared.reply.NotTaken.{NotTaken as Cause}
 use Rattle.review_words.specs.declared.reply.NotTaken.TheVariants.{Memory, Store, Damaged, Pattern, Full}
 use Rattle.review_machine_rows.proofs.Asked.{all_asked, line_asked, least_epoch_is, requests_are}
-use Rattle.review_machine_rows.proofs.Common.{AllByRecursion, AreEnough, CloseEpoch, Command, Done, File, IsHistory, IsStored, NotTaken, PutProject, Reply, Rows, StoredFile, Write, most_requests, named_parent, option_map_or}
+use Rattle.review_machine_rows.proofs.Common.{AllByRecursion, AreEnough, CloseEpoch, Command, Done, File, IsHistory, IsStored, NotTaken, PutProject, Reply, Write, most_requests, named_parent, option_map_or}
 use Rattle.review_machine_rows.proofs.Lined.{line_told, own_told, there_is}
 use Rattle.review_machine_rows.proofs.Readings.{history_length, reading_of}
 use Rattle.review_machine_rows.specs.Changes.{Reading, own_of, texts_of}
@@ -14,7 +14,7 @@ use Rattle.review_machine_rows.specs.Lines.{line_of, most_depth, with_above}
 use Rattle.review_machine_rows.specs.Rows.{ClosedEpochs, Tables, is_above, new_least}
 use Rattle.review_machine_rows.specs.Shelf.{AddsNoStop, Answers, LeavesBy, Shown, Shows, Views}
 use Rattle.review_machine_rows.specs.Steps.{OfCommand, line_steps, own_in, parent_or, texts_above, texts_in, unknown, next}
-use Rattle.review_machine_rows.specs.declared.rows.Want.TheVariants.{LeastEpoch}
+use Rattle.review_machine_rows.specs.declared.rows.{Rows.Rows, StoredFile.StoredFile, Want.TheVariants.LeastEpoch}
 use Rattle.review_machine_laws.proofs.{Growing.line_whole, Histories.sound_files, Histories.parent_ends}
 use Rattle.{review_machine_laws.specs.Ends.ends, review_machine_deliveries.proofs.Files.spelled_once}
 use Rattle.review_machine_deliveries.proofs.Histories.{enough_shown, requests_told, rests_on}

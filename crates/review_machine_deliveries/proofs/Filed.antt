@@ -4,7 +4,7 @@ use Rattle.review_words.specs.declared.command.Command.TheVariants.{CreateAccoun
 use Rattle.review_words.specs.declared.reply.NotTaken.{NotTaken as Cause}
 use Rattle.review_words.specs.declared.reply.NotTaken.TheVariants.{Memory, Store, Damaged, Pattern, Full}
 use Rattle.review_machine_rows.proofs.Asked.{or_stays, none_in, all_made, asking_lowers, asks_first, each_known, line_asked}
-use Rattle.review_machine_rows.proofs.Common.{APart, AllByRecursion, Change, Command, Entry, File, IsEffective, Rows, ShelfFault, StoredFile, Tables, Want, is_project, named_parent, option_map_or, option_or, view}
+use Rattle.review_machine_rows.proofs.Common.{APart, AllByRecursion, Change, Command, Entry, File, IsEffective, Tables, is_project, named_parent, option_map_or, option_or, view}
 use Rattle.review_machine_rows.proofs.Lined.{fewer, own_told, texts_told, there_is}
 use Rattle.review_machine_rows.proofs.Readings.{reading_of}
 use Rattle.review_machine_rows.specs.Changes.{Reading, change, effective_of, texts_of}
@@ -13,7 +13,8 @@ use Rattle.review_machine_rows.specs.Known.{Found, IsFound, known, IsKnown, Agre
 use Rattle.review_machine_rows.specs.Lines.{most_depth, line_of, with_above}
 use Rattle.review_machine_rows.specs.Shelf.{Shows, LeavesBy, cause_of, IsDamaged}
 use Rattle.review_machine_rows.specs.Steps.{HasComeTo, Topic, change_wants, file_wants, first_wants, left, line_steps, next, next_of, or_next, parent_of, unknown, unless_none, wants_in, OfCommand, OfQuery, HasFile, asks_file, line_wants, needs_file, own_in, known_parent, parent_or, project_for, project_of, texts_for, texts_in}
-use Rattle.review_machine_rows.specs.declared.rows.Need.{Need}
+use Rattle.review_machine_rows.specs.declared.rows.{Need.Need, Rows.Rows, StoredFile.StoredFile, Want.Want}
+use Rattle.review_machine_rows.specs.declared.shelf.ShelfFault.{ShelfFault}
 use Rattle.review_machine_laws.proofs.{Histories.effective_is, Histories.line_read, Rows.rows_tell}
 use Rattle.review_machine_deliveries.proofs.{Files.AreReadRight, Histories.view_of}
 use Rattle.review_machine_deliveries.specs.Gathered.{IsSoFar, StaysKnown, IsJudgedByPattern, IsUngathered}

@@ -8,7 +8,7 @@ use Rattle.review_words.specs.declared.reply.NotTaken.{NotTaken as Cause}
 use Rattle.review_words.specs.declared.reply.NotTaken.TheVariants.{Memory, Store, Pattern, Full}
 use Rattle.review_words.specs.declared.reply.Reply.TheVariants.{Done, Refused, IdentityReused, EpochClosed, NotTaken}
 use Rattle.review_machine_rows.proofs.Asked.{requests_are}
-use Rattle.review_machine_rows.proofs.Common.{Change, ChangeCommand, Command, Delivery, Delta, File, IsDoneOrRefused, NewPatch, Nothing, Read, Reading, Reads, Refusal, Reply, RestsOn, Rows, ShelfFault, Write, bytes_eq-Decides, change}
+use Rattle.review_machine_rows.proofs.Common.{Change, ChangeCommand, Command, Delivery, File, IsDoneOrRefused, NewPatch, Nothing, Read, Reading, Reads, Refusal, Reply, RestsOn, Write, bytes_eq-Decides, change}
 use Rattle.review_machine_rows.proofs.Readings.{closed_stays, own_open, reading_of, IsToldDone, sent_or_done}
 use Rattle.review_machine_rows.specs.Answer.{IsHistory, IsAnswer, IsAnswerBy, IsAnswerAt, epoch_checks, IsOf, IsOutcome, IsRequestOutcome, IsUploadAnswer, file_checks, first_refusal, refused_by, refused_or, most_requests}
 use Rattle.review_machine_rows.specs.Known.{Agrees, known, number_of}
@@ -17,7 +17,8 @@ use Rattle.review_machine_rows.specs.Shelf.{IsCommitted, Answers, Shows, Views, 
 use Rattle.review_machine_rows.specs.Steps.{Topic, OfCommand, OfQuery}
 use Rattle.review_machine_rows.specs.Submits.{IsSubmitAnswer, checked_reply}
 use Rattle.review_machine_rows.specs.View.{AreEnough, IsView, IsViewBy, IsDecidedAt, view, fact, stored_answer, kept_answer, answer_row}
-use Rattle.review_machine_rows.specs.declared.rows.Want.TheVariants.{Requests}
+use Rattle.review_machine_rows.specs.declared.rows.{Delta.Delta, Rows.Rows, Want.TheVariants.Requests}
+use Rattle.review_machine_rows.specs.declared.shelf.ShelfFault.{ShelfFault}
 use Rattle.{review_machine_laws.proofs.Parents.history_from, review_machine_deliveries.proofs.Stored.entry_stored}
 use Rattle.review_machine_deliveries.specs.Formed.{AllFormed, AreFormed, HasForm, IsFormed}
 use Rattle.review_machine_deliveries.specs.Gathered.{IsAllAsked}

@@ -6,7 +6,7 @@ use Rattle.review_words.specs.declared.{command.Query.Query, reply.NotTaken.NotT
 use Rattle.review_words.specs.declared.reply.NotTaken.TheVariants.{Memory, Store, Damaged, Pattern, Full}
 use Rattle.review_words.specs.declared.reply.Reply.TheVariants.{Done, Refused, IdentityReused, EpochClosed, NotTaken}
 use Rattle.review_words_texts.proofs.Fields.{content_text_injective, reply_text_injective}
-use Rattle.review_machine_rows.proofs.Common.{Agrees, Command, Delivery, Delta, File, IsRead, IsReadRight, OfQuery, PutProject, Read, Reading, Reads, Reply, Rows, ShelfFault, Write, bytes_eq-Decides, cases_Bool}
+use Rattle.review_machine_rows.proofs.Common.{Agrees, Command, Delivery, File, IsRead, IsReadRight, OfQuery, PutProject, Read, Reading, Reads, Reply, Write, bytes_eq-Decides, cases_Bool}
 use Rattle.review_machine_rows.proofs.Readings.{put_file, reading_of, IsDoneBy, done_by}
 use Rattle.review_machine_rows.specs.Answer.{IsHistory, IsAnswer, most_requests}
 use Rattle.review_machine_rows.specs.Decisions.{IsUnshown, IsDoneOrRefused, RestsOn}
@@ -14,6 +14,7 @@ use Rattle.review_machine_rows.specs.Questions.{IsQueryAnswer, IsQueryAnswerBy}
 use Rattle.review_machine_rows.specs.Rows.{AnswerRow, Answered, Tables, ClosedEpochs}
 use Rattle.review_machine_rows.specs.Shelf.{Answers, IsCommitted, Shown, Shows, Views, LeavesBy, StopLeavesOwnTables, AddsNoStop, IsCounted, Blames, cause_of, IsClosedIn}
 use Rattle.review_machine_rows.specs.View.{AreEnough, IsView, IsDecidedAt, answer_row}
+use Rattle.review_machine_rows.specs.declared.{rows.Delta.Delta, rows.Rows.Rows, shelf.ShelfFault.ShelfFault}
 use Rattle.review_machine_deliveries.proofs.Histories.{formed_entry, answers_are, passed_over, told_where, where_told, latest_follows, recalled, not_recalled, view_grows, answer_given, stored_given, enough_shown, stored_stays, stored_here, same_to, answer_given_in, rests_on}
 use Rattle.review_machine_deliveries.specs.{Formed.IsFormed, Gathered.IsAllAsked, Gathered.IsUngathered}
 use Rattle.review_machine_deliveries.specs.Replies.{history_after, has_identity, with_entries as hist, IsRight, IsTold, IsToldOfStored, IsServed, IsLawful, IsNew, HasEffect, StopGoesOnFrom, StopHasEntry, IsEntered, GoesOn, KeepsUntaken, CountsReply}

@@ -4,7 +4,8 @@ use Rattle.std.proofs.lemmas.Bool.{and_parts, and_from, not_from_false, not-true
 use Rattle.review_file_rules.proofs.Known.{OrderedLabels, child_covers, covers_itself, inherited_ordered, inherits_known, still_known}
 use Rattle.review_file_rules.specs.{Expressions.names_unknown_label, Reading.IsRead}
 use Rattle.review_file.proofs.SoundLabels.{labels_in_order}
-use Rattle.review_machine_rows.proofs.Common.{Expr, FileView, Reading, StoredFile, bytes_eq-Decides, covers, effective_of, inherit, inherits_unknown_label, line_of, option_map_or, with_above}
+use Rattle.review_machine_rows.proofs.Common.{Expr, FileView, Reading, bytes_eq-Decides, covers, effective_of, inherit, inherits_unknown_label, line_of, option_map_or, with_above}
+use Rattle.review_machine_rows.specs.declared.rows.StoredFile.{StoredFile}
 use Rattle.review_machine_laws.specs.Ends.{ends, ends_above, ends_by}
 
 -- ==== lines that end: what a project's line is, however far it is followed, and which projects stand in it

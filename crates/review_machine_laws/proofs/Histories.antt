@@ -9,12 +9,13 @@ use Rattle.review_file_rules.specs.Expressions.{names_unknown_label}
 use Rattle.review_file_rules.specs.Inherited.{inherit, inherits_unknown_label, IsEffective}
 use Rattle.review_file_rules.specs.{Reading.IsRead, Reading.named_parent, Trees.ExprTree, Trees.file_trees}
 use Rattle.review_file.proofs.SoundLabels.{labels_in_order, known_labels}
-use Rattle.review_machine_rows.proofs.Common.{Answer, Command, Done, Expr, File, FileView, HasFile, Nothing, PutProject, Refusal, Refused, Reply, StoredFile, UnknownLabel, covers, nat_tests, not-true, option_map_or}
+use Rattle.review_machine_rows.proofs.Common.{Answer, Command, Done, Expr, File, FileView, HasFile, Nothing, PutProject, Refusal, Refused, Reply, UnknownLabel, covers, nat_tests, not-true, option_map_or}
 use Rattle.review_machine_rows.proofs.Lined.{there_is}
 use Rattle.review_machine_rows.proofs.Readings.{not_refused, IsDoneBy, done_of, read_of}
 use Rattle.review_machine_rows.specs.Answer.{IsAnswerBy, IsFaultAnswer, IsFileAnswer, file_checks, file_with, first_refusal, keeps_parent, puts_unknown_label, refused_by, refused_or, IsHistory, is_same_parent}
 use Rattle.review_machine_rows.specs.Changes.{Reading, depth, file_of, effective_of, own_of, placed, IsReadRight, Reads, texts_of}
 use Rattle.review_machine_rows.specs.{Limits.most_projects, Lines.most_depth, Lines.line_of, Lines.with_above}
+use Rattle.review_machine_rows.specs.declared.rows.StoredFile.{StoredFile}
 use Rattle.review_machine_laws.proofs.Growing.{Files, more, more_is, SameBut, begins, began, ends_alike, ends_later, ends_spared, line_spared, there_avoids, ends_short, AreSpelled, IsPutAgain, OwnKnown, all_grow, eff, eff_later, eff_ordered, own_still_known, put_is, same_parents, eff_known}
 use Rattle.review_machine_laws.specs.Ends.{ends, ends_above}
 pub use Rattle.review_file.proofs.Parents.{parent_named}

@@ -8,12 +8,12 @@ use Rattle.review_core_rules.proofs.Stays.{zero_of, begins, stays, within_parts}
 use Rattle.review_core_rules.specs.Change.{Change, after, begun, joined_at, commit, current, of_number}
 use Rattle.review_core_rules.specs.Parts.{Part, TheHeader, PatchOf, VoteOf, RoleOf, CommentOf, AttentionOf, PartRow, AHeader, APatch, AVote, ARole, AComment, AnAttentionEntry, header_of, part_row}
 use Rattle.review_core_rules.specs.declared.rows.AttentionEntry.{AttentionEntry}
-use Rattle.review_machine_rows.proofs.Common.{APart, AllByRecursion, Answer, BranchKey, ChangeCommand, Command, CommentRow, Done, Header, JoinedChange, NewChange, PatchRow, Reply, Role, fact, is_merged, most_patches, option_map_or, voted}
+use Rattle.review_machine_rows.proofs.Common.{APart, AllByRecursion, Answer, ChangeCommand, Command, CommentRow, Done, Header, JoinedChange, NewChange, PatchRow, Reply, Role, fact, is_merged, most_patches, option_map_or, voted}
 use Rattle.review_machine_rows.proofs.{Joins.unsent_from, Readings.IsDoneBy, Readings.done_of}
 use Rattle.review_machine_rows.specs.Answer.{IsAnswerBy, IsHistory, request_checks}
 use Rattle.review_machine_rows.specs.Changes.{Reading, Reads, change, change_by, change_count, setting_of, submitted, joined, place_in}
 use Rattle.review_machine_rows.specs.Known.{part_of, HaveJoined, IsAtPlace, IsBefore, IsCurrent, IsJoinedAt, IsLastJoined}
-use Rattle.review_machine_rows.specs.Questions.{joined_change}
+use Rattle.review_machine_rows.specs.{Questions.joined_change, declared.rows.BranchKey.BranchKey}
 use Rattle.review_machine_laws.proofs.Changes.{joining_keeps, Passes, checks_pass, done_passes, are_sound}
 use Rattle.review_machine_laws.proofs.Joined.{has_place, joined_distinct, joined_placed, state_merged, merged_stays}
 use Rattle.review_machine_laws.proofs.Places.{none_past, last_number, of_number_there, same_order, contained_get, get_placed, placed_get}

@@ -1,9 +1,10 @@
 -- Commits and the patch sets that have them.
 use Rattle.std.proofs.Common.{◌≡◌, ℕ, zero, suc, ◌+◌, ◌<◌, ◌≤◌, List, [], ◌∷◌, Option, Some, None, true, false, cond, refl, sym, ap, subst, ◌∙◌, ⊎_elim, arith, slice_get, bytes_eq, Bool, ◌&&◌, leb-true, is_some, nat_le, option_map}
 use Rattle.review_core_rules.specs.Parts.{TheHeader, PatchOf, APatch, header_of}
-use Rattle.review_machine_rows.proofs.Common.{APart, Base, Change, Entry, Header, InBranch, IsSender, IsSentBy, Nowhere, PatchRow, PatchSet, Standing, and_parts, bytes_eq-Decides, cases_Bool, cases_lt, fact, of_number, part_of, same_Some}
+use Rattle.review_machine_rows.proofs.Common.{APart, Change, Entry, Header, InBranch, IsSender, IsSentBy, Nowhere, PatchRow, PatchSet, Standing, and_parts, bytes_eq-Decides, cases_Bool, cases_lt, fact, of_number, part_of, same_Some}
 use Rattle.review_machine_rows.specs.Changes.{Reading, change, is_for, change_count, has_commit, is_sent}
 use Rattle.review_machine_rows.specs.Submits.{patch_for, patch_of, sent_or, sent_up_to}
+use Rattle.review_machine_rows.specs.declared.rows.Base.{Base}
 use Rattle.review_machine_laws.proofs.Changes.{passes_up_to, one_passing, change_there}
 use Rattle.review_machine_laws.proofs.Patches.{sent_at, sent_from}
 use Rattle.review_machine_laws.{proofs.Rows.header_from, specs.Patches.HasPatch}

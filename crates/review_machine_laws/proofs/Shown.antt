@@ -9,12 +9,13 @@ use Rattle.review_chain.specs.declared.links.Standing.TheVariants.{InBranch, Pat
 use Rattle.review_core_rules.specs.Change.{Change, commit, current_patch, of_number, current}
 use Rattle.review_core_rules.specs.Parts.{TheHeader, PatchOf, APatch, header_of}
 use Rattle.review_machine_rows.proofs.Asked.{commit_known, found_of}
-use Rattle.review_machine_rows.proofs.Common.{APart, Base, BaseRow, Header, IsHistory, Link, Merged, PartKey, PatchRow, Rows, Standing, bytes_eq-Decides, fact, list_any, look_up, option_map_or, or-true, same_Some, view, wanted}
+use Rattle.review_machine_rows.proofs.Common.{APart, BaseRow, Header, IsHistory, Link, Merged, PartKey, PatchRow, Standing, bytes_eq-Decides, fact, list_any, look_up, option_map_or, or-true, same_Some, view, wanted}
 use Rattle.review_machine_rows.proofs.{Joins.unsent_from, Looked.based_from}
 use Rattle.review_machine_rows.specs.Changes.{Reading, Reads, change, change_count, is_for, some_change, is_known, is_sent}
 use Rattle.review_machine_rows.specs.Known.{IsCurrent, IsInBranch, IsMergedWith, IsSender, IsSentBy, StandsAs, at_place, part_of, Agrees, Found, IsKnown, change_in, known, standing_of as standing_in}
 use Rattle.review_machine_rows.specs.Links.{link_for, link_of, links_in}
 use Rattle.review_machine_rows.specs.Submits.{is_in_branch, is_merged, is_merged_commit, sent_up_to, standing_of, branch_after}
+use Rattle.review_machine_rows.specs.declared.rows.{Base.Base, Rows.Rows}
 use Rattle.review_machine_laws.proofs.Changes.{one_passing, some_passes, within_count}
 use Rattle.review_machine_laws.proofs.Joined.{state_merged}
 use Rattle.review_machine_laws.proofs.Patches.{commits_apart, current_there, parents_known, IsSent, sent_patch}

@@ -8,7 +8,7 @@ use Rattle.review_file_rules.proofs.Trees.{covers_seen, inherits_above, inherit_
 use Rattle.review_file_rules.specs.Inherited.{IsEffective, inherit, inherits_unknown_label}
 use Rattle.review_file_rules.specs.{Reading.IsReadFault, Reading.named_parent, declared.fault.ReadFault.ReadFault}
 use Rattle.{review_file_lines.specs.Texts.LineView, review_machine_rows.proofs.Asked.line_asked}
-use Rattle.review_machine_rows.proofs.Common.{AllByRecursion, AreEnough, Delta, HasNoEffect, IsDecided, Nothing, PutProject, Refusal, Refused, Reply, Rows, StoredFile, UnknownLabel, file_trees, most_projects, nat_tests, option_map_or}
+use Rattle.review_machine_rows.proofs.Common.{AllByRecursion, AreEnough, HasNoEffect, IsDecided, Nothing, PutProject, Refusal, Refused, Reply, UnknownLabel, file_trees, most_projects, nat_tests, option_map_or}
 use Rattle.review_machine_rows.proofs.Lined.{line_told, own_told, texts_told, there_is}
 use Rattle.review_machine_rows.specs.Answer.{IsAnswerBy, file_checks, file_with, first_refusal, puts_unknown_label, refused_or, keeps_parent as keeps_parent_of}
 use Rattle.review_machine_rows.specs.Changes.{Reading, depth, effective_of, file_of, own_of, texts_of}
@@ -16,6 +16,7 @@ use Rattle.review_machine_rows.specs.Decisions.{IsUndecided, IsUnread, SomePatte
 use Rattle.review_machine_rows.specs.Files.{File, IsRead, IsFileFault, covers}
 use Rattle.review_machine_rows.specs.Lines.{line_of, most_depth, with_above}
 use Rattle.review_machine_rows.specs.Steps.{HasFile, OfCommand, line_steps, own_in, parent_of, parent_or, texts_in, unknown}
+use Rattle.review_machine_rows.specs.declared.rows.{Delta.Delta, Rows.Rows, StoredFile.StoredFile}
 use Rattle.review_machine_laws.proofs.Histories.{same_name, parent_named, OneEffective, effective_is, line_read, same_file}
 use Rattle.review_machine_accounts.proofs.Decided.{asked_beside, empty_changes, outcome_answer, project_refused, refused_decided, file_decided}
 use Rattle.review_machine_accounts.{proofs.Told.room_told, specs.Decisions.IsEmpty}

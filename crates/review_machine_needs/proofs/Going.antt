@@ -5,8 +5,9 @@ use Rattle.review_chain.{proofs.Parting.walked_alone, specs.declared.walks.Walke
 use Rattle.review_file_rules.specs.{Patterns.HasPattern, declared.fault.ReadFault.ReadFault}
 use Rattle.review_file_lines.specs.Texts.{IsLineFault}
 use Rattle.review_machine_rows.proofs.Asked.{change_comes, come_stays, file_comes, first_comes, to_file}
-use Rattle.review_machine_rows.proofs.Common.{Branch, File, IsUnread, Rows, SomePattern, StoredFile, Want, file_in, known, line_of, map-append, most_depth, option_map_or, take_more, with_above}
+use Rattle.review_machine_rows.proofs.Common.{Branch, File, IsUnread, SomePattern, file_in, known, line_of, map-append, most_depth, option_map_or, take_more, with_above}
 use Rattle.review_machine_rows.specs.Steps.{Topic, HasComeTo, MayGoOnFor, change_wants, file_wants, first_wants, last_wants, line_steps, next, next_of, or_next, parent_of, steps, unknown, unless_none, known_parent, own_in}
+use Rattle.review_machine_rows.specs.declared.rows.{Rows.Rows, StoredFile.StoredFile, Want.Want}
 use Rattle.review_machine_needs.specs.inner.{Asked.IsAsked, Files.unread_cause, Walks.IsWalkIn}
 use Rattle.review_machine_rows.specs.declared.rows.Want.TheVariants as want
 use Rattle.review_machine_rows.specs.declared.step.Step.TheVariants as step

@@ -16,7 +16,7 @@ use Rattle.review_core_rules.specs.Change.{Change, joined_at, Setting, is_open}
 use Rattle.review_core_rules.specs.Facts.{AreStanding, IsFirstUnsatisfied, unsatisfied_in}
 use Rattle.review_core_rules.specs.Parts.{Part, PartRow, part_row}
 use Rattle.review_machine_rows.proofs.Asked.{all_made, change_asked, each_known, file_asked, line_asked, found_of}
-use Rattle.review_machine_rows.proofs.Common.{All-head, All-tail, ChainFault, ChangeEdit, Delta, Done, File, Link, Refusal, Refused, Reply, Rows, ShownRequirement, Submit, Submitted, and_parts, bytes_eq-Decides, file_trees, most_depth}
+use Rattle.review_machine_rows.proofs.Common.{All-head, All-tail, ChainFault, Done, File, Link, Refusal, Refused, Reply, ShownRequirement, Submit, Submitted, and_parts, bytes_eq-Decides, file_trees, most_depth}
 use Rattle.review_machine_rows.proofs.{Lined.texts_told, Puts.no_base, Puts.no_base_more, Puts.no_file, Puts.no_project}
 use Rattle.review_machine_rows.specs.Answer.{IsAnswerBy, IsHistory, first_refusal, of_change, refused_by, submit_checks, most_requests}
 use Rattle.review_machine_rows.specs.Changes.{Reading, change, joined, joining, joining_at, place_in, Reads, file_of, setting_of, texts_of, change_count}
@@ -27,6 +27,7 @@ use Rattle.review_machine_rows.specs.Rows.{member_cmp, Key, AccountKey, MemberKe
 use Rattle.review_machine_rows.specs.Steps.{HasFile, OfCommand, caller_in, chain_wants, last_wants, line_steps, look_up, known_parent, project_for, submit_wants, texts_in, unknown, wanted_for, wants_by}
 use Rattle.review_machine_rows.specs.Submits.{HasBadLink, refusal_of, branch_after, judged_after, IsOf, IsSubmitAnswer, checked_reply}
 use Rattle.review_machine_rows.specs.View.{IsDecided, counted, fact, AreEnough, view}
+use Rattle.review_machine_rows.specs.declared.rows.{ChangeEdit.ChangeEdit, Delta.Delta, Rows.Rows}
 use Rattle.review_core_standing.proofs.InThreads.{other_way}
 use Rattle.review_machine_laws.proofs.{Changes.changes_bound, Histories.OneEffective, SoundProjects.has_project}
 use Rattle.review_machine_accounts.proofs.Decided.{outcome_answer, refused_decided}

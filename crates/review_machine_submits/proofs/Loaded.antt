@@ -23,7 +23,7 @@ use Rattle.review_core_rules.specs.{Listed.AreListed, Listed.AreThose, Seen.seen
 use Rattle.review_core_rules.specs.Shown.{AreVotes, shown_vote, IsToldOf}
 use Rattle.review_core_tables.proofs.{Accounts.accounts_tell, Accounts.has_row, Copied.vote_key, Copied.votes_tell}
 use Rattle.review_machine_rows.proofs.Asked.{all_asked, change_asked, found_of, line_asked, file_asked}
-use Rattle.review_machine_rows.proofs.Common.{AllByRecursion, Answer, ChangeRows, Done, Expr, File, GroupList, IsSound, PatchRow, Refusal, Refused, Role, Rows, StoredFile, VoteKey, keys_of, nat_tests, option_map_or, voted, within_parts}
+use Rattle.review_machine_rows.proofs.Common.{AllByRecursion, Answer, ChangeRows, Done, Expr, File, GroupList, IsSound, PatchRow, Refusal, Refused, Role, VoteKey, keys_of, nat_tests, option_map_or, voted, within_parts}
 use Rattle.review_machine_rows.proofs.Lined.{texts_told, there_is}
 use Rattle.review_machine_rows.specs.Answer.{IsHistory, has_role, IsOf, first_refusal}
 use Rattle.review_machine_rows.specs.Changes.{Reading, change, file_of, own_of, texts_of, joined, groups_of, setting_of}
@@ -33,6 +33,7 @@ use Rattle.review_machine_rows.specs.Lines.{line_of, most_depth, with_above}
 use Rattle.review_machine_rows.specs.Questions.{joined_change, query_refused_by, IsQueryAnswerBy}
 use Rattle.review_machine_rows.specs.Steps.{HasFile, OfQuery, line_steps, known_parent, project_for, question_wants, texts_in, unknown, wants_by}
 use Rattle.review_machine_rows.specs.View.{AreEnough, view}
+use Rattle.review_machine_rows.specs.declared.rows.{Rows.Rows, StoredFile.StoredFile}
 use Rattle.review_core_standing.proofs.Made.{value_kept, some_where, order_kept, row_kept}
 use Rattle.review_machine_laws.proofs.{Histories.OneEffective, Rows.rows_tell, Rows.joined_rows}
 use Rattle.review_machine_laws.proofs.SoundProjects.{has_project}

@@ -8,10 +8,11 @@ use Rattle.std.specs.declared.cmp.Ordering.TheVariants.{Less, Equal, Greater}
 use Rattle.review_table.proofs.Places.{exact_by_parts}
 use Rattle.review_table.specs.Rows.{row_in, rows_of, row_edit_of, after_row_edit, changed, HasNoEmptyPlace}
 use Rattle.review_words.specs.History.{Identity, is_same}
-use Rattle.review_machine_rows.proofs.Common.{AllocError, Delta, IsCommitted, Ordering, PartRow, PlaceKey, Put, RowEdit, StoredFile, is_at, option_or, ordering_then, same_Some, slice_cmp, some_mapped, tells_apart}
+use Rattle.review_machine_rows.proofs.Common.{AllocError, IsCommitted, Ordering, PartRow, RowEdit, is_at, option_or, ordering_then, same_Some, slice_cmp, some_mapped, tells_apart}
 use Rattle.review_machine_rows.proofs.Puts.{is_eq-then}
 use Rattle.review_machine_rows.specs.Rows.{member_cmp, Key, AccountKey, MemberKey, FileKey, BaseKey, PartKey, OddKey, Row, AccountRow, FileRow, BaseRow, APart, Count, Projects, BasesOf, ClosedEpochs, AnswerRow, Answered, Tables, member_row, member_change, account_change, after_put, count_put, place_cmp, after, count_after, kept_row, edited}
-use Rattle.review_machine_rows.specs.declared.rows.{Kept.Kept, MemberKey.MemberKey as Member}
+use Rattle.review_machine_rows.specs.declared.rows.{Delta.Delta, Kept.Kept, MemberKey.MemberKey as Member}
+use Rattle.review_machine_rows.specs.declared.rows.{PlaceKey.PlaceKey, Put.Put, StoredFile.StoredFile}
 use Rattle.review_memory_rows.proofs.{Dropped.at_account, Dropped.exact_answer, Dropped.at_answer, Turned.made_by}
 use Rattle.review_memory_rows.specs.Answers.{key_of, answer_cmp}
 use Rattle.review_memory_rows.specs.{Bases.BranchesView, Bases.total_in, Kept.ArePrepared, Kept.part_at}

@@ -1,9 +1,9 @@
 -- Rows of changes on a desk.
 use Rattle.std.proofs.Common.{◌≡◌, inl, inr, ⊎_elim, ℕ, false, List, Option, Some, None, get_or, refl, ◌∙◌}
-use Rattle.review_machine_rows.proofs.Common.{Base, IsDamaged, JoinedChange, Key, Nowhere, Part, PartKey, PatchOf, PatchRow, PatchSet, Row, TheHeader, change}
+use Rattle.review_machine_rows.proofs.Common.{IsDamaged, JoinedChange, Key, Nowhere, Part, PartKey, PatchOf, PatchRow, PatchSet, Row, TheHeader, change}
 use Rattle.review_machine_rows.proofs.{Looked.based_from, Readings.reading_of}
 use Rattle.review_machine_rows.specs.Known.{IsAtPlace, IsCurrent, IsInBranch, IsLastJoined, IsMergedWith, IsSender, IsSentBy, StandsAs, HaveJoined, IsJoinedAt}
-use Rattle.review_machine_rows.specs.declared.rows.BranchKey.{BranchKey as Branch}
+use Rattle.review_machine_rows.specs.declared.rows.{Base.Base, BranchKey.BranchKey as Branch}
 use Rattle.review_machine_change_rows.specs.{Tables.fault_of, declared.loading.ChangeFault.ChangeFault}
 use Rattle.review_machine_change_rows.specs.declared.loading.ChangeFault.TheVariants.{Memory, Gap}
 use Rattle.review_memory_rows.specs.Bases.{base_at, IsCommitThere}

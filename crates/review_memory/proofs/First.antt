@@ -4,10 +4,11 @@ use Rattle.std.proofs.lemmas.Cmp.{tied_itself, nat_eq_equiv}
 use Rattle.std.proofs.lemmas.{List.Elements.Contains-append_left, List.Elements.Contains-push, Option.cond_some}
 use Rattle.review_names.specs.Names.{administrators, admin_name}
 use Rattle.review_words.specs.History.{bases as bases_in, Entry}
-use Rattle.review_machine_rows.proofs.Common.{BranchKey, IsDamaged, IsHistory, IsView, Reading, ShelfFault, at_place, cases_Bool, counted, exact_unsigned, fact, is_at, list_any, most_requests, row_in, take_more, tells_apart}
+use Rattle.review_machine_rows.proofs.Common.{IsDamaged, IsHistory, IsView, Reading, at_place, cases_Bool, counted, exact_unsigned, fact, is_at, list_any, most_requests, row_in, take_more, tells_apart}
 use Rattle.review_machine_rows.proofs.{Looked.based_from, Readings.history_length, Readings.reading_of}
 use Rattle.review_machine_rows.specs.Rows.{Key, AccountKey, MemberKey, BaseKey, AccountRow, MemberRow, Count, Projects, BasesOf, ClosedEpochs, Stored, member_cmp, member_row, Tables}
-use Rattle.review_machine_rows.specs.declared.rows.MemberKey.{MemberKey as Member}
+use Rattle.review_machine_rows.specs.declared.rows.{BranchKey.BranchKey, MemberKey.MemberKey as Member}
+use Rattle.review_machine_rows.specs.declared.shelf.ShelfFault.{ShelfFault}
 use Rattle.review_machine_change_rows.specs.{Tables.fault_of, declared.loading.ChangeFault.ChangeFault}
 use Rattle.review_memory_rows.proofs.Dropped.{at_account}
 use Rattle.review_memory_rows.specs.Bases.{IsUnlisted, AreBases, base_at}

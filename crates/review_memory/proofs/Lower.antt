@@ -2,9 +2,10 @@
 use Rattle.std.proofs.Common.{ℕ, ◌≤◌, List, length, take, sym, take_all, All, ◌≡◌, Bool, true, false, cond, ◌||◌, Option, Some, None, refl, ap, ◌∙◌, subst, ⊎_elim, nat_lt, option_map, unwrap_or, [], ◌∷◌, Result, Ok, Err, arith, drop, length-drop, is_some, nat_cmp, OnErr, OnOk}
 use Rattle.std.proofs.lemmas.{Bool.or_parts, Bool.cases_Bool, List.Elements.All-same}
 use Rattle.review_table.specs.Rows.{HasNoEmptyPlace, row_in, rows_of, after_row_edit, row_edit_of, changed, is_named, place_at, HasEmptyOnly}
-use Rattle.review_machine_rows.proofs.Common.{Delta, Identity, IsCommitted, Ordering, Put, RowEdit, StoredFile, is_at, is_same, list_any-append, slice_cmp, tells_apart}
+use Rattle.review_machine_rows.proofs.Common.{Identity, IsCommitted, Ordering, RowEdit, is_at, is_same, list_any-append, slice_cmp, tells_apart}
 use Rattle.review_machine_rows.specs.Rows.{Key, AccountKey, Row, Count, Projects, BasesOf, ClosedEpochs, Stored, Answered, after, count_after, is_below, kept_row}
-use Rattle.{review_machine_rows.specs.declared.rows.Kept.Kept, review_memory_rows.proofs.Based.none_spare}
+use Rattle.review_machine_rows.specs.declared.rows.{Delta.Delta, Kept.Kept, Put.Put, StoredFile.StoredFile}
+use Rattle.review_memory_rows.proofs.Based.{none_spare}
 use Rattle.review_memory_rows.proofs.Dropped.{among_lower, among_own, not_lower, not_own, at_answer, exact_answer}
 use Rattle.review_memory_rows.specs.Answers.{answer_cmp, key_of, is_among, if_lower, lower, lower_of}
 use Rattle.review_memory_rows.specs.Kept.{KeptView, IsFull, IsFullBut, place_cmp, sent_cmp}

@@ -6,9 +6,10 @@ use Rattle.std.proofs.lemmas.Map.Lookups.{CmpEqualImpliesEq, exact_unsigned, exa
 use Rattle.std.specs.{Cmp.IsTotalOrder, Cmp.unsigned_ties, Int.from_bool}
 use Rattle.review_table.proofs.Places.{both_equal}
 use Rattle.review_table.specs.Rows.{row_in, after_row_edit, changed, HasNoEmptyPlace, HasEmptyOnly}
-use Rattle.review_machine_rows.proofs.Common.{BranchKey, Ordering, PlaceKey, Put, RowEdit, at_place, branch_cmp, bytes_eq-Decides, is_at, is_eq-slice_cmp, ordering_then, place_cmp, same_Some, slice_cmp, tells_apart}
+use Rattle.review_machine_rows.proofs.Common.{Ordering, RowEdit, at_place, branch_cmp, bytes_eq-Decides, is_at, is_eq-slice_cmp, ordering_then, place_cmp, same_Some, slice_cmp, tells_apart}
 use Rattle.review_machine_rows.proofs.Joins.{nothing_at_zero, past_end, some_at, placed_more}
 use Rattle.review_machine_rows.proofs.Puts.{at_place_of, is_eq-then, exact_place, place_total}
+use Rattle.review_machine_rows.specs.declared.rows.{BranchKey.BranchKey, PlaceKey.PlaceKey, Put.Put}
 use Rattle.review_memory_rows.specs.Bases.{commit_cmp, base_at, total_in, last_in, AreLast, IsLastPlace, commit_at, greatest_place, has_commit, is_stale, AreListed, AreBases}
 use Rattle.review_memory_rows.specs.declared.keys.CommitKey.{CommitKey}
 

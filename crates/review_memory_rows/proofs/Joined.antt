@@ -9,11 +9,11 @@ use Rattle.std.specs.declared.cmp.Ordering.TheVariants.{Less, Equal, Greater}
 use Rattle.review_table.proofs.{Lasts.between, Lasts.keys_filtered, Places.both_equal, Places.row_between}
 use Rattle.review_table.specs.Rows.{after_row_edit, is_named, row_in, rows_of}
 use Rattle.review_core_rules.specs.Parts.{Part, TheHeader, PartRow, AHeader}
-use Rattle.review_machine_rows.proofs.Common.{AllByRecursion, ChangeEdit, Header, Included, JoinedChange, Ordering, PatchRow, RowEdit, and_parts, bytes_eq-Decides, is_at, keys_of, nat_tests, ordering_then, range_contains, tells_apart}
+use Rattle.review_machine_rows.proofs.Common.{AllByRecursion, Header, Included, JoinedChange, Ordering, PatchRow, RowEdit, and_parts, bytes_eq-Decides, is_at, keys_of, nat_tests, ordering_then, range_contains, tells_apart}
 use Rattle.review_machine_rows.proofs.{Joins.one_joined, Joins.one_place, Learning.branch_total, Learning.exact_branch}
 use Rattle.review_machine_rows.specs.Known.{IsAtPlace, IsLastJoined, HaveJoined, IsBefore, IsJoinedAt}
 use Rattle.review_machine_rows.specs.Rows.{branch_cmp, edited, part_change, APart, Key, Row}
-use Rattle.review_machine_rows.specs.declared.rows.BranchKey.{BranchKey as Branch}
+use Rattle.review_machine_rows.specs.declared.rows.{BranchKey.BranchKey as Branch, ChangeEdit.ChangeEdit}
 use Rattle.review_machine_change_rows.specs.declared.tables.ChangeTables.{ChangeTables}
 use Rattle.review_memory_rows.proofs.Sent.{current_is, no_patch, all_so, first_named, named_left, named_right, put_there, puts_append, stays_there, OnlyPuts, WithKeys, between_parts, header_is}
 use Rattle.review_memory_rows.specs.Kept.{part_at, place_cmp, place_of, placed_in, ArePlaced, ArePlaceKeys, IsPlaceKey, is_placed, part_where, row_of, AddsJoined, IsCurrentOf, IsJoinedOrNot}

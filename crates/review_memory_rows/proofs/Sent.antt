@@ -7,10 +7,11 @@ use Rattle.std.specs.Cmp.{IsTotalOrder, unsigned_tied, unsigned_ties, nat_cmp_is
 use Rattle.review_table.proofs.Places.{both_equal}
 use Rattle.review_table.specs.Rows.{after_row_edit, changed, row_edit_of, is_named, row_in, rows_of}
 use Rattle.review_core_rules.specs.Parts.{Part, PatchOf, PartRow, APatch, TheHeader, AHeader}
-use Rattle.review_machine_rows.proofs.Common.{AllByRecursion, AllocError, Base, ChangeEdit, Equal, Greater, Header, Less, Ordering, PatchRow, RowEdit, and_parts, bytes_eq-Decides, is_at, ordering_then, same_Some, slice_cmp, tells_apart}
+use Rattle.review_machine_rows.proofs.Common.{AllByRecursion, AllocError, Equal, Greater, Header, Less, Ordering, PatchRow, RowEdit, and_parts, bytes_eq-Decides, is_at, ordering_then, same_Some, slice_cmp, tells_apart}
 use Rattle.review_machine_rows.proofs.Joins.{unsent_from}
 use Rattle.review_machine_rows.specs.Known.{IsSender, IsCurrent, IsMergedWith, IsSentBy}
 use Rattle.review_machine_rows.specs.Rows.{edited, part_change, APart}
+use Rattle.review_machine_rows.specs.declared.rows.{Base.Base, ChangeEdit.ChangeEdit}
 use Rattle.review_machine_change_rows.specs.declared.tables.ChangeTables.{ChangeTables}
 use Rattle.review_memory_rows.specs.Kept.{part_at, sent_by, sent_cmp, sent_in, with_sent, AreListed, AreNumbered, IsNumbered, has_commit, is_sent, part_where, row_of, IsCurrentOf, IsFoundSent, IsLastOf, IsSentAs, IsSentIn}
 use Rattle.review_memory_rows.specs.declared.kept.SentKey.{SentKey}

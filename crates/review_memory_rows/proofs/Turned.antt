@@ -3,8 +3,9 @@ use Rattle.std.proofs.Common.{drop-cons, append_assoc, ◌≡◌, ℕ, ◌==◌,
 use Rattle.review_table.specs.Rows.{after_row_edit, changed, row_edit_of, row_in, rows_of}
 use Rattle.review_core_rules.specs.Parts.{Part, TheHeader, PatchOf, VoteOf, RoleOf, CommentOf, AttentionOf, PartRow, AHeader, APatch, ARole, AComment, AnAttentionEntry, part_row}
 use Rattle.review_core_rules.specs.declared.rows.AttentionEntry.{AttentionEntry}
-use Rattle.review_machine_rows.proofs.Common.{APart, All-from_recursion, AllByRecursion, Change, ChangeEdit, CommentRow, PatchRow, Role, RowEdit, VoteKey, edited, part_change, take_more, unsigned_tied, vote_cmp, vote_row}
-use Rattle.review_machine_rows.{proofs.Joins.part_from, specs.Known.HasChange}
+use Rattle.review_machine_rows.proofs.Common.{APart, All-from_recursion, AllByRecursion, Change, CommentRow, PatchRow, Role, RowEdit, VoteKey, edited, part_change, take_more, unsigned_tied, vote_cmp, vote_row}
+use Rattle.review_machine_rows.proofs.Joins.{part_from}
+use Rattle.review_machine_rows.specs.{Known.HasChange, declared.rows.ChangeEdit.ChangeEdit}
 use Rattle.review_machine_change_rows.specs.Tables.{part_in, HaveFault, Show}
 use Rattle.review_machine_change_rows.specs.declared.loading.ChangeFault.{ChangeFault}
 use Rattle.review_machine_change_rows.specs.declared.loading.ChangeFault.TheVariants.{Memory, Gap}

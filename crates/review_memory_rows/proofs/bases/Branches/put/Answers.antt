@@ -1,5 +1,6 @@
 use Rattle.std.proofs.Common.{◌≡◌, ◌≤◌, ◌+◌, ◌∙◌, ◌∷◌, [], List, ℕ, Some, None, cond, ap, ◌<◌, sym, subst, arith, All, is_some, option_map, IsSome, nat_cmp}
-use Rattle.review_machine_rows.proofs.Common.{BranchKey, PlaceKey, Put, RowEdit, branch_cmp, changed, place_cmp, row_in, rows_of, slice_cmp, some_mapped}
+use Rattle.review_machine_rows.proofs.Common.{RowEdit, branch_cmp, changed, place_cmp, row_in, rows_of, slice_cmp, some_mapped}
+use Rattle.review_machine_rows.specs.declared.rows.{BranchKey.BranchKey, PlaceKey.PlaceKey, Put.Put}
 use Rattle.review_memory_rows.proofs.Based.{WithRow, IsGreater, with_row, last_more, last_unique, greater_of, still_last, total_more, total_is, one_has, listed_alike, listed_more, stood_before}
 use Rattle.review_memory_rows.specs.Bases.{BranchesView, IsPut, IsLastPlace, commit_cmp, commit_at, has_commit, last_in, total_in, greatest_place}
 use Rattle.review_memory_rows.specs.declared.keys.CommitKey.{CommitKey}
