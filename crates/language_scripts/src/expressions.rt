@@ -46,7 +46,7 @@ pub struct ExpressionScript {
 impl ExpressionScript {
     /// One that has said nothing.
     pub fn new(alloc: Global) -> Result<ExpressionScript, Fault> {
-        let change = first_change(alloc)?;
+        let change = Facts::Change(first_change(alloc)?);
         let vote = first_vote(alloc);
         Ok(ExpressionScript { change, vote })
     }

@@ -9,10 +9,10 @@ use std::alloc::Global;
 use std::collections::BTreeMap;
 
 /// A change of which nothing was said.
-pub fn first_change(alloc: Global) -> Result<Facts, Fault> {
+pub fn first_change(alloc: Global) -> Result<ChangeFacts, Fault> {
     let paths = Paths::from_vec(alloc, Vec::new(alloc))?;
     let branch = BranchName::read(alloc, "main")?;
-    Ok(Facts::Change(ChangeFacts {
+    Ok(ChangeFacts {
         votes: BTreeMap::new(alloc),
         ranges: BTreeMap::new(alloc),
         paths,
@@ -21,7 +21,7 @@ pub fn first_change(alloc: Global) -> Result<Facts, Fault> {
         branch,
         unresolved: false,
         groups: Groups(BTreeMap::new(alloc)),
-    }))
+    })
 }
 
 /// A vote of which nothing was said.
@@ -67,66 +67,13 @@ fn range(text: &str) -> Result<ValueRange, Fault> {
     Ok(ValueRange { least, greatest })
 }
 
-fn kind(text: &str) -> Result<ChangeKind, Fault> {
-    match text {
-        "NO_CHANGE" => Ok(ChangeKind::NoChange),
-        "NO_CODE_CHANGE" => Ok(ChangeKind::NoCodeChange),
-        "TRIVIAL_REBASE" => Ok(ChangeKind::TrivialRebase),
-        "TRIVIAL_REBASE_WITH_MESSAGE_UPDATE" => Ok(ChangeKind::TrivialRebaseWithMessageUpdate),
-        "MERGE_FIRST_PARENT_UPDATE" => Ok(ChangeKind::MergeFirstParentUpdate),
-        "REWORK" => Ok(ChangeKind::Rework),
-        _ => Err(Fault::Form),
-    }
-}
-
-fn put_account(account: &mut AccountNo, text: &str) -> Result<(), Fault> {
-    *account = AccountNo::read(text)?;
-    Ok(())
-}
-
-fn put_branch(alloc: Global, branch: &mut BranchName, text: &str) -> Result<(), Fault> {
-    *branch = BranchName::read(alloc, text)?;
-    Ok(())
-}
-
-fn put_threads(unresolved: &mut bool, text: &str) -> Result<(), Fault> {
-    *unresolved = is_first(text, "unresolved", "resolved")?;
-    Ok(())
-}
-
-fn put_value(number: &mut i8, text: &str) -> Result<(), Fault> {
-    *number = value(text)?;
-    Ok(())
-}
-
-fn put_range(values: &mut ValueRange, text: &str) -> Result<(), Fault> {
-    *values = range(text)?;
-    Ok(())
-}
-
-fn put_kind(patch: &mut ChangeKind, text: &str) -> Result<(), Fault> {
-    *patch = kind(text)?;
-    Ok(())
-}
-
-fn put_files(unchanged: &mut bool, text: &str) -> Result<(), Fault> {
-    *unchanged = is_first(text, "same", "changed")?;
-    Ok(())
-}
-
-fn each_path(alloc: Global, text: &str) -> Result<Vec<Path>, Fault> {
+fn paths(alloc: Global, text: &str) -> Result<Paths, Fault> {
     let mut paths = Vec::new(alloc);
     for path in text.split(", ") {
         let path = Path::read(alloc, path)?;
         paths.push(path)?;
     }
-    Ok(paths)
-}
-
-fn put_paths(alloc: Global, paths: &mut Paths, text: &str) -> Result<(), Fault> {
-    let given = each_path(alloc, text)?;
-    *paths = Paths::from_vec(alloc, given)?;
-    Ok(())
+    Ok(Paths::from_vec(alloc, paths)?)
 }
 
 fn each_account(alloc: Global, text: &str) -> Result<Vec<AccountNo>, Fault> {
@@ -164,16 +111,22 @@ fn put_label(alloc: Global, ranges: &mut OfLabels<ValueRange>, text: &str) -> Re
     Ok(())
 }
 
-fn vote(text: &str) -> Result<(AccountNo, i8), Fault> {
-    let (account, number) = cut(text)?;
+fn vote(text: &str, mark: &str) -> Result<(AccountNo, i8), Fault> {
+    let (account, number) = text.split_once(mark).ok_or(Fault::Form)?;
     let account = AccountNo::read(account)?;
     Ok((account, value(number)?))
 }
 
-fn each_vote(alloc: Global, text: &str) -> Result<BTreeMap<AccountNo, i8>, Fault> {
+/// The votes that a text says, with a mark between an account and its value, and another between votes.
+pub fn each_vote(
+    alloc: Global,
+    text: &str,
+    mark: &str,
+    between: &str,
+) -> Result<BTreeMap<AccountNo, i8>, Fault> {
     let mut votes = BTreeMap::new(alloc);
-    for part in text.split(", ") {
-        let (account, value) = vote(part)?;
+    for part in text.split(between) {
+        let (account, value) = vote(part, mark)?;
         votes.insert(account, value)?;
     }
     Ok(votes)
@@ -186,7 +139,7 @@ fn put_votes(
 ) -> Result<(), Fault> {
     let (name, given) = cut(text)?;
     let label = LabelName::read(alloc, name)?;
-    let given = each_vote(alloc, given)?;
+    let given = each_vote(alloc, given, " ", ", ")?;
     votes.insert(label, given)?;
     Ok(())
 }
@@ -198,34 +151,32 @@ fn tell_change(
     word: &str,
     text: &str,
 ) -> Result<bool, Fault> {
-    let told = match word {
-        "owner" => put_account(&mut facts.owner, text),
-        "uploader" => put_account(&mut facts.uploader, text),
-        "branch" => put_branch(alloc, &mut facts.branch, text),
-        "paths" => put_paths(alloc, &mut facts.paths, text),
-        "threads" => put_threads(&mut facts.unresolved, text),
-        "group" => put_group(alloc, &mut facts.groups, text),
-        "label" => put_label(alloc, &mut facts.ranges, text),
-        "votes" => put_votes(alloc, &mut facts.votes, text),
+    match word {
+        "owner" => facts.owner = AccountNo::read(text)?,
+        "uploader" => facts.uploader = AccountNo::read(text)?,
+        "branch" => facts.branch = BranchName::read(alloc, text)?,
+        "paths" => facts.paths = paths(alloc, text)?,
+        "threads" => facts.unresolved = is_first(text, "unresolved", "resolved")?,
+        "group" => put_group(alloc, &mut facts.groups, text)?,
+        "label" => put_label(alloc, &mut facts.ranges, text)?,
+        "votes" => put_votes(alloc, &mut facts.votes, text)?,
         _ => return Ok(false),
-    };
-    told?;
+    }
     Ok(true)
 }
 
 /// Takes a fact of a vote: whether the word names one.
 fn tell_vote(alloc: Global, facts: &mut VoteFacts, word: &str, text: &str) -> Result<bool, Fault> {
-    let told = match word {
-        "voter" => put_account(&mut facts.voter, text),
-        "uploader" => put_account(&mut facts.uploader, text),
-        "value" => put_value(&mut facts.value, text),
-        "range" => put_range(&mut facts.range, text),
-        "kind" => put_kind(&mut facts.kind, text),
-        "files" => put_files(&mut facts.unchanged_files, text),
-        "group" => put_group(alloc, &mut facts.groups, text),
+    match word {
+        "voter" => facts.voter = AccountNo::read(text)?,
+        "uploader" => facts.uploader = AccountNo::read(text)?,
+        "value" => facts.value = value(text)?,
+        "range" => facts.range = range(text)?,
+        "kind" => facts.kind = ChangeKind::from_name(text).ok_or(Fault::Form)?,
+        "files" => facts.unchanged_files = is_first(text, "same", "changed")?,
+        "group" => put_group(alloc, &mut facts.groups, text)?,
         _ => return Ok(false),
-    };
-    told?;
+    }
     Ok(true)
 }
 

@@ -1,9 +1,10 @@
 //! Expressions at work, to be timed from outside.
 
-use review_expr::{Expr, Facts, Terms, compile, eval, parse_requirement};
-use review_expr_judging::{ChangeFacts, ValueRange};
+use crate::facts::first_change;
+use review_expr::{Facts, compile, eval, parse_requirement};
+use review_expr_judging::ValueRange;
 use review_expr_terms::Pattern;
-use review_words::{AccountNo, BranchName, Groups, LabelName, Path, Paths};
+use review_words::{AccountNo, LabelName, Path, Paths};
 use std::alloc::Global;
 use std::collections::BTreeMap;
 use std::env::Args;
@@ -28,95 +29,40 @@ fn paths(alloc: Global, count: u64) -> Option<Paths> {
     Paths::from_vec(alloc, paths).ok()
 }
 
-/// 20 votes on Code-Review.
-fn votes_on_label(alloc: Global) -> Option<BTreeMap<LabelName, BTreeMap<AccountNo, i8>>> {
-    let label = LabelName::read(alloc, "Code-Review").ok()?;
-    let given = votes(alloc)?;
-    let mut labels = BTreeMap::new(alloc);
-    labels.insert(label, given).ok()?;
-    Some(labels)
-}
-
-/// The values of Code-Review.
-fn ranges(alloc: Global) -> Option<BTreeMap<LabelName, ValueRange>> {
+/// A change with 20 votes on Code-Review, and so many paths.
+fn change(alloc: Global, count: u64) -> Option<Facts> {
     let label = LabelName::read(alloc, "Code-Review").ok()?;
     let range = ValueRange {
         least: -2,
         greatest: 2,
     };
-    let mut ranges = BTreeMap::new(alloc);
-    ranges.insert(label, range).ok()?;
-    Some(ranges)
+    let votes = votes(alloc)?;
+    let mut change = first_change(alloc).ok()?;
+    change.paths = paths(alloc, count)?;
+    change.votes.insert(label.copy(alloc).ok()?, votes).ok()?;
+    change.ranges.insert(label, range).ok()?;
+    Some(Facts::Change(change))
 }
 
-/// So many paths, and the branch main.
-fn paths_and_branch(alloc: Global, count: u64) -> Option<(Paths, BranchName)> {
-    let branch = BranchName::read(alloc, "main").ok()?;
-    let paths = paths(alloc, count)?;
-    Some((paths, branch))
-}
-
-/// A change with 20 votes on Code-Review, and so many paths.
-fn change(alloc: Global, count: u64) -> Option<Facts> {
-    let (paths, branch) = paths_and_branch(alloc, count)?;
-    let ranges = ranges(alloc)?;
-    let votes = votes_on_label(alloc)?;
-    Some(Facts::Change(ChangeFacts {
-        votes,
-        ranges,
-        paths,
-        owner: AccountNo::first(),
-        uploader: AccountNo::first(),
-        branch,
-        unresolved: false,
-        groups: Groups(BTreeMap::new(alloc)),
-    }))
-}
-
-fn parsed(alloc: Global, text: &str, count: u64) -> u64 {
-    let mut read = 0u64;
+/// How many of so many tries succeed.
+fn counted<F: Fn() -> bool>(count: u64, succeeds: F) -> u64
+    requires { F.IsAlwaysCallable succeeds }
+{
+    let mut done = 0u64;
     for _ in 0..count {
-        if parse_requirement(alloc, text).is_ok() {
-            read = read.saturating_add(1);
+        if succeeds() {
+            done = done.saturating_add(1);
         }
     }
-    read
-}
-
-fn compiled(alloc: Global, text: &str, count: u64) -> u64 {
-    let mut read = 0u64;
-    for _ in 0..count {
-        if Pattern::read(alloc, text).is_ok() {
-            read = read.saturating_add(1);
-        }
-    }
-    read
-}
-
-fn held(alloc: Global, expression: &Expr, facts: &Facts, count: u64) -> u64 {
-    let mut held = 0u64;
-    for _ in 0..count {
-        if matches!(eval(alloc, expression, facts), Ok(true)) {
-            held = held.saturating_add(1);
-        }
-    }
-    held
+    done
 }
 
 fn evaluated(alloc: Global, text: &str, count: u64, paths: u64) -> Option<u64> {
     let expression = parse_requirement(alloc, text).ok()?;
     let facts = change(alloc, paths)?;
-    Some(held(alloc, &expression, &facts, count))
-}
-
-fn met(alloc: Global, terms: &Terms, facts: &Facts, count: u64) -> u64 {
-    let mut met = 0u64;
-    for _ in 0..count {
-        if matches!(terms.eval(alloc, facts), Ok(true)) {
-            met = met.saturating_add(1);
-        }
-    }
-    met
+    Some(counted(count, || {
+        matches!(eval(alloc, &expression, &facts), Ok(true))
+    }))
 }
 
 /// As `evaluated`, with the expression compiled once.
@@ -124,13 +70,13 @@ fn evaluated_as_terms(alloc: Global, text: &str, count: u64, paths: u64) -> Opti
     let expression = parse_requirement(alloc, text).ok()?;
     let terms = compile(alloc, &expression).ok()?;
     let facts = change(alloc, paths)?;
-    Some(met(alloc, &terms, &facts, count))
+    Some(counted(count, || { matches!(terms.eval(alloc, &facts), Ok(true)) }))
 }
 
 fn work(alloc: Global, work: &str, count: u64, paths: u64, text: &str) -> Option<u64> {
     match work {
-        "parse" => Some(parsed(alloc, text, count)),
-        "compile" => Some(compiled(alloc, text, count)),
+        "parse" => Some(counted(count, || parse_requirement(alloc, text).is_ok())),
+        "compile" => Some(counted(count, || Pattern::read(alloc, text).is_ok())),
         "eval" => evaluated(alloc, text, count, paths),
         "terms" => evaluated_as_terms(alloc, text, count, paths),
         _ => None,

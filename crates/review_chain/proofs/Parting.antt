@@ -116,8 +116,7 @@ end_told b c decided walk _ h e = tt
 pub meets_decided : (part whole : Branch) → IsPart part whole → (walk : List ℕ) (c : ℕ) (v : Before) → IsDecided part c → Meets whole walk c v → IsTold v → Meets part walk c v
 meets_decided part whole is walk c v decided h told =
     let some = ending part c in
-    let some_told = end_told part c decided some.walk some.met some.meets some.is_end in
-    let kept = meets_kept part whole is some.walk c some.met some.meets some_told in
+    let kept = meets_kept part whole is some.walk c some.met some.meets (end_told part c decided some.walk some.met some.meets some.is_end) in
     let same : some.walk ≡ walk = one_walk whole some.walk walk c some.met v kept some.is_end h (told_end v told) in
     let alike : some.met ≡ v = one_end whole some.walk walk c some.met v kept some.is_end h (told_end v told) in
     subst (λ (z : List ℕ). Meets part z c v) same (subst (λ (z : Before). Meets part some.walk c z) alike some.meets)

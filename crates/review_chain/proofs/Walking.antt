@@ -35,8 +35,7 @@ fine_parts false wip s e = absurd (let f : Some Outdated ≡ None = e in cc)
 fine_parts true true _ e = absurd (let f : Some Wip ≡ None = e in cc)
 
 by_fault : (b : Branch) (n c d k : ℕ) (l : Link) (fault : Option ChainFault) → (n == most_changes) ≡ false → parent_standing b c ≡ Some (PatchSet d k) → b.link d ≡ Some l → patch_set_fault k l ≡ fault → Means b n c (before_fault d fault)
-by_fault b n c d k l (Some fault) full p there e =
-    (PatchSet d k, p, rw (full, there) e)
+by_fault b n c d k l (Some fault) full p there e = (PatchSet d k, p, rw (full, there) e)
 by_fault b n c d k l None full p there e =
     let parts = fine_parts (k == l.patch) l.wip l.state e in
     (full, record { patch = k; parent = p; link = l; there = there; current = eqb-true k l.patch parts.0; is_open = parts.1; is_ready = parts.2 })
@@ -237,10 +236,8 @@ ends_here b n c x v h k e = subst IsEnd (sym h ∙ k) e
 one_before : (b : Branch) (v w : Before) (xs ys rest : List ℕ) → AreBefore b xs rest → AreBefore b ys rest → Stops b (onto xs rest) v → Stops b (onto ys rest) w → onto xs rest ≡ onto ys rest
 one_before b v w xs ys [] h k e f = absurd h
 one_before b v w [] [] (c ∷ rest) h k e f = refl
-one_before b v w [] (y ∷ ys) (c ∷ rest) h k e f =
-    absurd (ends_here b (length (c ∷ rest)) c y v e.meets (next_stands b y c ys rest k.0 f.short) e.is_end)
-one_before b v w (x ∷ xs) [] (c ∷ rest) h k e f =
-    absurd (ends_here b (length (c ∷ rest)) c x w f.meets (next_stands b x c xs rest h.0 e.short) f.is_end)
+one_before b v w [] (y ∷ ys) (c ∷ rest) h k e f = absurd (ends_here b (length (c ∷ rest)) c y v e.meets (next_stands b y c ys rest k.0 f.short) e.is_end)
+one_before b v w (x ∷ xs) [] (c ∷ rest) h k e f = absurd (ends_here b (length (c ∷ rest)) c x w f.meets (next_stands b x c xs rest h.0 e.short) f.is_end)
 one_before b v w (x ∷ xs) (y ∷ ys) (c ∷ rest) h k e f =
     let both : Change y ≡ Change x = sym (next_stands b y c ys rest k.0 f.short) ∙ next_stands b x c xs rest h.0 e.short in
     let same : y ≡ x = cc in
@@ -259,8 +256,7 @@ one_walk b xs ys c v w h i k j =
 -- and it meets one thing
 pub one_end : (b : Branch) (xs ys : List ℕ) (c : ℕ) (v w : Before) → Meets b xs c v → IsEnd v → Meets b ys c w → IsEnd w → v ≡ w
 one_end b xs ys c v w h i k j =
-    let same = one_walk b xs ys c v w h i k j in
-    let there : before b (length ys) (first_of ys) ≡ v = subst (λ (z : List ℕ). before b (length z) (first_of z) ≡ v) same h.meets in
+    let there : before b (length ys) (first_of ys) ≡ v = subst (λ (z : List ℕ). before b (length z) (first_of z) ≡ v) (one_walk b xs ys c v w h i k j) h.meets in
     sym there ∙ k.meets
 
 -- ---- some walk to a change ends
@@ -290,8 +286,7 @@ ending b c = ends_from b c 99 (c ∷ []) (before b 1 c) (omega arith) (record { 
 
 -- what the code finds before a walk
 pub met : (b : Branch) (walk : List ℕ) (c n first : ℕ) (v : Before) → IsWalk b walk c → n ≤ 100 → length walk ≡ n → first_of walk ≡ first → v ≡ before b n first → Meets b walk c v
-met b walk c n first v walks short counted begins e =
-    record { walks = walks; short = omega arith; meets = rw (counted, begins) (sym e) }
+met b walk c n first v walks short counted begins e = record { walks = walks; short = omega arith; meets = rw (counted, begins) (sym e) }
 
 -- a fault that is wrong with a link isn't that something is unknown
 never_unknown : (b : Branch) (n : ℕ) (s : Standing) → link_fault b n s ≡ Some Unknown → ⊥

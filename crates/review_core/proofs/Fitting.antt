@@ -1,11 +1,11 @@
 -- Rows that fit together.
-use Rattle.std.proofs.Common.{◌≡◌, List, [], ◌∷◌, Option, Some, None, Bool, true, false, refl, sym, ap, ◌∙◌, unwrap_or, if◌then◌else◌, ℕ, ℤ, not, ◌&&◌, ◌||◌, eq-eqb, eqb-true, length, nat_le, nat_cmp, ◌==◌, is_some, ◌+◌, pos, arith, int_eq}
-use Rattle.std.proofs.lemmas.Bool.{and_parts, and_from, false_from_ne_true, Decides.Decides-int_eq}
+use Rattle.std.proofs.Common.{◌≡◌, List, [], ◌∷◌, Option, Some, None, Bool, true, false, refl, sym, ap, ◌∙◌, unwrap_or, if◌then◌else◌, ℕ, ℤ, not, ◌&&◌, ◌||◌, eq-eqb, eqb-true, length, nat_le, nat_cmp, ◌==◌, is_some, ◌+◌, pos, arith}
+use Rattle.std.proofs.lemmas.Bool.{and_parts, and_from, false_from_ne_true}
 use Rattle.std.specs.{BTreeMap.is_at, List.list_all, List.Sorted.IsStrictlySortedBy, Map.keys_of}
 use Rattle.std.specs.declared.cmp.Ordering.{Ordering}
 use Rattle.review_names.specs.Forms.{is_within, most_comments, most_patches}
 use Rattle.review_table.specs.Rows.{row_in, rows_of}
-use Rattle.review_core_rules.proofs.Stays.{within_parts}
+use Rattle.review_core_rules.proofs.Stays.{zero_of, within_parts}
 use Rattle.review_core_rules.specs.Change.{current, uploader, Change}
 use Rattle.review_core_rules.specs.Seen.{of_account, seen, value_of, vote_cmp, vote_in}
 use Rattle.review_core_rules.specs.{Sound.IsSound, Sound.are_in_order, Votes.voted}
@@ -126,13 +126,6 @@ passing rows votes_sorted called_sorted s =
     (all_from accounts_tell (call_test rows) (rows_of rows.attention) called_sorted (call_passes rows s))))
 
 -- ==== what the definitions say of rows that are made
-
-zero_of : (v : ℤ) → voted v ≡ false → v ≡ pos 0
-zero_of v e = (Decides-int_eq v (pos 0)).0 (untrue (int_eq v (pos 0)) e)
-  where
-    untrue : (b : Bool) → not b ≡ false → b ≡ true
-    untrue true e = refl
-    untrue false e = absurd (let f : true ≡ false = e in cc)
 
 -- the next patch set has no votes yet
 pub next_free : (c : Change) → IsSound c → (l : List ℕ) (a : ℕ) → c.vote (current c + 1) l a ≡ pos 0

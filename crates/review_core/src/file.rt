@@ -1,26 +1,21 @@
 //! A change whose rows fit together, and what each request makes of it.
 ghost use Rattle.std.specs.Prelude.{◌≡◌, ◌↔◌, true, IfOk, MatchResult};
-ghost use Rattle.review_words.specs.declared.command.ChangeCommand.TheVariants.{Upload, Review as ReviewOf, AddReviewer, RemoveReviewer, SetWip, SetReady, Abandon, Restore, AddAttention, RemoveAttention};
-ghost use Rattle.review_core_rules.specs.Change.{after, after_plain, carried, copying, eligible, is_lost, joined_at};
-ghost use Rattle.review_core_rules.specs.{EditedChanges.Makes, Seen.seen, Sound.IsSound, Sound.fits, Threads.threads};
-ghost use Rattle.review_core_rules.specs.Votes.{voted};
-ghost use Rattle.review_core_tables.specs.Copies.{AreMany, group_list};
-ghost use Rattle.{review_core_standing.specs.Grouped.IsStatus, review_core.specs.Faults.IsRefused};
+ghost use Rattle.review_core_rules.specs.{Change.eligible, Seen.seen, Sound.IsSound, Threads.threads};
+ghost use Rattle.{review_core_tables.specs.Copies.group_list, review_core_standing.specs.Grouped.IsStatus};
+ghost use Rattle.review_core.specs.Faults.{IsRefused};
 
 use crate::sound::{are_all, are_counted, are_eligible, are_in_order, are_in_place};
-use crate::uploading::{self, Copied};
-use crate::{attending, reviewing, roles, states};
-use review_core_rules::{ChangeRows, EditedChange, joins_sound, stays_sound};
+use review_core_rules::ChangeRows;
 use review_core_standing::last_uploader;
 use review_core_tables::GroupTables;
 use review_file::{ProjectFile, Requirement};
-use review_words::{AccountNo, Listed, NewPatch, Reason, Review, Role, Status, Thread};
+use review_words::{AccountNo, Listed, Status, Thread};
 use std::alloc::{AllocError, Global};
 
 /// The rows of one change, which fit together.
 #[derive(Drop)]
 pub struct ChangeFile<'r> {
-    rows: &'r ChangeRows,
+    pub(crate) rows: &'r ChangeRows,
     ghost sound: { IsSound (seen rows.now) },
 }
 
@@ -92,179 +87,6 @@ impl<'r> ChangeFile<'r> {
         ensures { IfOk result (IsStatus (record { file = file.now; groups = group_list groups.now }) (seen self.now.rows.now) requirement.now) }
     {
         review_core_standing::status(alloc, self.rows, file, groups, requirement)
-    }
-
-    /// A new patch set, with the numbers of votes that were copied to it and that weren't. The file and the groups are those
-    /// before the request.
-    pub fn with_patch_set(
-        &self,
-        alloc: Global,
-        patch: NewPatch,
-        caller: AccountNo,
-        file: &ProjectFile,
-        groups: &GroupTables,
-        request: u64,
-    ) -> Result<(EditedChange<'r>, Copied), AllocError>
-        requires { fits (Upload patch) (seen self.now.rows.now) ≡ true }
-        ensures change { IfOk result (λ r. Makes self.now.rows.now (after (record { file = file.now; groups = group_list groups.now }) (Upload patch) caller request (seen self.now.rows.now)) r.0) }
-        ensures copied { IfOk result (λ r. AreMany (λ l u. voted (carried (copying (record { file = file.now; groups = group_list groups.now }) (Upload patch) caller (seen self.now.rows.now)) (seen self.now.rows.now) l u)) r.1.copied) }
-        ensures outdated { IfOk result (λ r. AreMany (λ l u. is_lost (copying (record { file = file.now; groups = group_list groups.now }) (Upload patch) caller (seen self.now.rows.now)) (seen self.now.rows.now) u l) r.1.outdated) }
-    {
-        stays_sound();
-        let (edited, counts) = uploading::with_patch_set(
-            alloc, self.rows, patch, caller, file, groups, request,
-        )?;
-        Ok((edited, counts))
-    }
-
-    /// A review: votes, a message, comments.
-    pub fn with_review(
-        &self,
-        alloc: Global,
-        review: &Review,
-        caller: AccountNo,
-        request: u64,
-    ) -> Result<EditedChange<'r>, AllocError>
-        requires { fits (ReviewOf review.now) (seen self.now.rows.now) ≡ true }
-        ensures { IfOk result (Makes self.now.rows.now (after_plain (ReviewOf review.now) caller request (seen self.now.rows.now))) }
-    {
-        stays_sound();
-        let edited = reviewing::with_review(alloc, self.rows, review, caller, request)?;
-        Ok(edited)
-    }
-
-    /// A role for an account.
-    pub fn with_reviewer(
-        &self,
-        alloc: Global,
-        account: AccountNo,
-        role: Role,
-        caller: AccountNo,
-        request: u64,
-    ) -> Result<EditedChange<'r>, AllocError>
-        ensures { IfOk result (Makes self.now.rows.now (after_plain (AddReviewer account role) caller request (seen self.now.rows.now))) }
-    {
-        stays_sound();
-        let edited = roles::with_reviewer(alloc, self.rows, account, role, caller, request)?;
-        Ok(edited)
-    }
-
-    /// No role for an account any more, and no votes on the current patch set.
-    pub fn without_reviewer(
-        &self,
-        alloc: Global,
-        account: AccountNo,
-        caller: AccountNo,
-        request: u64,
-    ) -> Result<EditedChange<'r>, AllocError>
-        ensures { IfOk result (Makes self.now.rows.now (after_plain (RemoveReviewer account) caller request (seen self.now.rows.now))) }
-    {
-        stays_sound();
-        let edited = roles::without_reviewer(alloc, self.rows, account, caller, request)?;
-        Ok(edited)
-    }
-
-    /// In work in progress.
-    pub fn wip(
-        &self,
-        alloc: Global,
-        caller: AccountNo,
-        request: u64,
-    ) -> Result<EditedChange<'r>, AllocError>
-        ensures { IfOk result (Makes self.now.rows.now (after_plain SetWip caller request (seen self.now.rows.now))) }
-    {
-        stays_sound();
-        let edited = states::wip(alloc, self.rows, caller, request)?;
-        Ok(edited)
-    }
-
-    /// Ready for review.
-    pub fn ready(
-        &self,
-        alloc: Global,
-        caller: AccountNo,
-        request: u64,
-    ) -> Result<EditedChange<'r>, AllocError>
-        ensures { IfOk result (Makes self.now.rows.now (after_plain SetReady caller request (seen self.now.rows.now))) }
-    {
-        stays_sound();
-        let edited = states::ready(alloc, self.rows, caller, request)?;
-        Ok(edited)
-    }
-
-    /// Abandoned.
-    pub fn abandon(
-        &self,
-        alloc: Global,
-        caller: AccountNo,
-        request: u64,
-    ) -> Result<EditedChange<'r>, AllocError>
-        ensures { IfOk result (Makes self.now.rows.now (after_plain Abandon caller request (seen self.now.rows.now))) }
-    {
-        stays_sound();
-        let edited = states::abandon(alloc, self.rows, caller, request)?;
-        Ok(edited)
-    }
-
-    /// Open again.
-    pub fn restore(
-        &self,
-        alloc: Global,
-        caller: AccountNo,
-        request: u64,
-    ) -> Result<EditedChange<'r>, AllocError>
-        ensures { IfOk result (Makes self.now.rows.now (after_plain Restore caller request (seen self.now.rows.now))) }
-    {
-        stays_sound();
-        let edited = states::restore(alloc, self.rows, caller, request)?;
-        Ok(edited)
-    }
-
-    /// Joined to its branch at a place.
-    pub fn merged(
-        &self,
-        alloc: Global,
-        place: u32,
-        request: u64,
-    ) -> Result<EditedChange<'r>, AllocError>
-        ensures { IfOk result (Makes self.now.rows.now (joined_at place request (seen self.now.rows.now))) }
-    {
-        joins_sound();
-        let edited = states::merged(alloc, self.rows, place, request)?;
-        Ok(edited)
-    }
-
-    /// An account called by hand.
-    pub fn attend(
-        &self,
-        alloc: Global,
-        account: AccountNo,
-        reason: &Reason,
-        caller: AccountNo,
-        request: u64,
-    ) -> Result<EditedChange<'r>, AllocError>
-        requires { fits (AddAttention account reason.now) (seen self.now.rows.now) ≡ true }
-        ensures { IfOk result (Makes self.now.rows.now (after_plain (AddAttention account reason.now) caller request (seen self.now.rows.now))) }
-    {
-        stays_sound();
-        let edited = attending::attend(alloc, self.rows, account, reason, caller, request)?;
-        Ok(edited)
-    }
-
-    /// An account called no more.
-    pub fn unattend(
-        &self,
-        alloc: Global,
-        account: AccountNo,
-        reason: &Reason,
-        caller: AccountNo,
-        request: u64,
-    ) -> Result<EditedChange<'r>, AllocError>
-        ensures { IfOk result (Makes self.now.rows.now (after_plain (RemoveAttention account reason.now) caller request (seen self.now.rows.now))) }
-    {
-        stays_sound();
-        let edited = attending::unattend(alloc, self.rows, account, reason, caller, request)?;
-        Ok(edited)
     }
 }
 

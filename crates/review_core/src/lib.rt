@@ -30,4 +30,5 @@ pub use file::{ChangeFile, RowsFault};
 pub use review_core_rules::{
     AttentionEntry, ChangeRows, Comment, CommentRow, EditedChange, Header, PatchRow, Vote, VoteKey,
 };
+pub use roles::current_patch;
 pub use uploading::Copied;

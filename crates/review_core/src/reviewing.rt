@@ -3,13 +3,14 @@ ghost use Rattle.std.specs.List.{list_any};
 ghost use Rattle.std.specs.Prelude.{◌≡◌, ◌==◌, ◌&&◌, ◌||◌, not, ℕ, true, None, length, unwrap_or, IfOk, OnOk, if◌then◌else◌};
 ghost use Rattle.review_names.specs.Forms.{is_within, most_patches};
 ghost use Rattle.review_words.specs.declared.command.ChangeCommand.TheVariants.{Review as ReviewOf};
-ghost use Rattle.review_core_rules.specs.Change.{after_plain, current, is_open, kept_or, why_commented, why_replied};
-ghost use Rattle.review_core_rules.specs.{EditedChanges.after_edits, EditedRows.edited_account, Seen.seen};
+ghost use Rattle.review_core_rules.specs.Change.{after_plain, is_open, kept_or, why_commented, why_replied};
+ghost use Rattle.review_core_rules.specs.{EditedChanges.Makes, EditedRows.edited_account, Seen.seen, Sound.fits};
 
+use crate::file::ChangeFile;
 use crate::roles::{current_patch, who_for};
 use crate::states::is_open;
 use review_core_rules::{
-    AttentionEntry, ChangeRows, Comment, EditedChange, PatchRow, Post, begin_edits,
+    AttentionEntry, Comment, EditedChange, PatchRow, Post, begin_edits, stays_sound,
 };
 use review_core_tables::{
     Origin, WhenReviewed, Who, call_all, callable, drop_called, give, new_comments, posts,
@@ -68,44 +69,46 @@ fn reviewed_patch(patches: &[PatchRow], review: &Review) -> PatchNo
     }
 }
 
-/// The change after a review.
-pub fn with_review<'r>(
-    alloc: Global,
-    rows: &'r ChangeRows,
-    review: &Review,
-    caller: AccountNo,
-    request: u64,
-) -> Result<EditedChange<'r>, AllocError>
-    requires { is_within most_patches (current (seen rows.now)) ≡ true }
-    ensures rows { IfOk result (λ new. new.rows ≡ rows.entry) }
-    ensures made { IfOk result (λ new. after_edits new ≡ after_plain (ReviewOf review.now) caller request (seen rows.now)) }
-{
-    let mut edited = begin_edits(alloc, rows, rows.header.state, request)?;
-    let who = who_for(&rows.header, &rows.patches, caller);
-    let patch = reviewed_patch(&rows.patches, review);
-    let labels = review.labels.as_slice();
-    give(alloc, &mut edited.votes, patch, caller, labels)?;
-    review_roles(&mut edited.roles, review, who.owner, caller)?;
-    let origin = Origin {
-        patch,
-        author: caller,
-        request,
-    };
-    let new = new_comments(alloc, &rows.comments, &origin, review)?;
-    let stored = posts(alloc, &rows.comments)?;
-    let given = review.comments.as_slice();
-    let accounts = callable(alloc, &edited.roles, &who)?;
-    call_reviewed(
-        alloc,
-        &mut edited.attention,
-        &accounts,
-        &who,
-        rows.header.state,
-        &stored,
-        given,
-        &new,
-        request,
-    )?;
-    edited.comments = new;
-    Ok(edited)
+impl<'r> ChangeFile<'r> {
+    /// A review: votes, a message, comments.
+    pub fn with_review(
+        &self,
+        alloc: Global,
+        review: &Review,
+        caller: AccountNo,
+        request: u64,
+    ) -> Result<EditedChange<'r>, AllocError>
+        requires { fits (ReviewOf review.now) (seen self.now.rows.now) ≡ true }
+        ensures { IfOk result (Makes self.now.rows.now (after_plain (ReviewOf review.now) caller request (seen self.now.rows.now))) }
+    {
+        stays_sound();
+        let mut edited = begin_edits(alloc, self.rows, self.rows.header.state, request)?;
+        let who = who_for(&self.rows.header, &self.rows.patches, caller);
+        let patch = reviewed_patch(&self.rows.patches, review);
+        let labels = review.labels.as_slice();
+        give(alloc, &mut edited.votes, patch, caller, labels)?;
+        review_roles(&mut edited.roles, review, who.owner, caller)?;
+        let origin = Origin {
+            patch,
+            author: caller,
+            request,
+        };
+        let new = new_comments(alloc, &self.rows.comments, &origin, review)?;
+        let stored = posts(alloc, &self.rows.comments)?;
+        let given = review.comments.as_slice();
+        let accounts = callable(alloc, &edited.roles, &who)?;
+        call_reviewed(
+            alloc,
+            &mut edited.attention,
+            &accounts,
+            &who,
+            self.rows.header.state,
+            &stored,
+            given,
+            &new,
+            request,
+        )?;
+        edited.comments = new;
+        Ok(edited)
+    }
 }

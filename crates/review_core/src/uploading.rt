@@ -1,14 +1,15 @@
 //! A new patch set: its votes, and who is called.
 ghost use Rattle.std.specs.Cmp.Lexicographic.{pointwise};
-ghost use Rattle.std.specs.Prelude.{◌≡◌, ◌+◌, ◌==◌, ℕ, List, [], pos, true, length, IfOk};
+ghost use Rattle.std.specs.Prelude.{◌≡◌, ◌+◌, ◌==◌, [], pos, true, length, IfOk};
 ghost use Rattle.review_names.specs.Forms.{is_within, most_patches};
 ghost use Rattle.review_words.specs.declared.command.ChangeCommand.TheVariants.{Upload};
-ghost use Rattle.review_core_rules.specs.Change.{after, carried, copying, current, is_lost, last_paths};
-ghost use Rattle.review_core_rules.specs.{EditedChanges.after_edits, Seen.seen, Seen.vote_in, Votes.voted};
+ghost use Rattle.review_core_rules.specs.Change.{after, carried, copying, is_lost, last_paths};
+ghost use Rattle.review_core_rules.specs.{EditedChanges.Makes, Seen.seen, Sound.fits, Votes.voted};
 ghost use Rattle.review_core_tables.specs.Copies.{AreMany, GroupTable, group_list, with_groups};
 
+use crate::file::ChangeFile;
 use crate::roles::current_patch;
-use review_core_rules::{ChangeRows, EditedChange, PatchRow, begin_edits};
+use review_core_rules::{EditedChange, PatchRow, begin_edits, stays_sound};
 use review_core_standing::last_uploader;
 use review_core_tables::{
     GroupTables, Parted, WhenLost, Who, call_all, callable, drop_called, is_eligible, part_votes,
@@ -80,65 +81,60 @@ fn upload_facts(
 fn sent_by(patch: NewPatch, caller: AccountNo) -> PatchRow
     ensures { result ≡ record { commit = patch.commit; parent = patch.parent; kind = patch.kind; uploader = caller; paths = patch.paths } }
 {
-    let NewPatch {
-        commit,
-        parent,
-        kind,
-        paths,
-    } = patch;
     PatchRow {
-        commit,
-        parent,
-        kind,
+        commit: patch.commit,
+        parent: patch.parent,
+        kind: patch.kind,
         uploader: caller,
-        paths,
+        paths: patch.paths,
     }
 }
 
-/// The change after a new patch set, and how many votes were copied and lost.
-pub fn with_patch_set<'r>(
-    alloc: Global,
-    rows: &'r ChangeRows,
-    patch: NewPatch,
-    caller: AccountNo,
-    file: &ProjectFile,
-    groups: &GroupTables,
-    request: u64,
-) -> Result<(EditedChange<'r>, Copied), AllocError>
-    requires now { is_within most_patches (current (seen rows.now)) ≡ true }
-    requires next { is_within most_patches (current (seen rows.now) + 1) ≡ true }
-    requires free { (l : List ℕ) (a : ℕ) → vote_in rows.now.votes (current (seen rows.now) + 1) l a ≡ pos 0 }
-    ensures rows { IfOk result (λ r. r.0.rows ≡ rows.entry) }
-    ensures made { IfOk result (λ r. after_edits r.0 ≡ after (record { file = file.now; groups = group_list groups.now }) (Upload patch) caller request (seen rows.now)) }
-    ensures copied { IfOk result (λ r. AreMany (λ l u. voted (carried (copying (record { file = file.now; groups = group_list groups.now }) (Upload patch) caller (seen rows.now)) (seen rows.now) l u)) r.1.copied) }
-    ensures outdated { IfOk result (λ r. AreMany (λ l u. is_lost (copying (record { file = file.now; groups = group_list groups.now }) (Upload patch) caller (seen rows.now)) (seen rows.now) u l) r.1.outdated) }
-{
-    let now = current_patch(&rows.patches);
-    let next = next_patch(now);
-    let former = last_uploader(rows.header.owner, &rows.patches);
-    let facts = upload_facts(alloc, &rows.patches, &patch, caller);
-    let parted = part_votes(alloc, &rows.votes, file, facts, groups, now, next)?;
-    let Parted { copied, lost } = parted;
-    let counts = Copied {
-        copied: copied.len(),
-        outdated: lost.len(),
-    };
-    let mut edited = begin_edits(alloc, rows, rows.header.state, request)?;
-    put_all(&mut edited.votes, copied)?;
-    edited.patches.push(sent_by(patch, caller))?;
-    let who = Who {
-        owner: rows.header.owner,
-        uploader: caller,
-        caller,
-        wip: rows.header.wip,
-    };
-    let is_gone = !is_eligible(who.owner, who.uploader, &rows.roles, former);
-    drop_called(&mut edited.attention, former, is_gone)?;
-    let rule = WhenLost {
-        labels: file.labels(),
-        lost: &lost,
-    };
-    let accounts = callable(alloc, &edited.roles, &who)?;
-    call_all(alloc, &mut edited.attention, &accounts, &rule, request)?;
-    Ok((edited, counts))
+impl<'r> ChangeFile<'r> {
+    /// A new patch set, with the numbers of votes that were copied to it and that weren't. The file and the groups are those
+    /// before the request.
+    pub fn with_patch_set(
+        &self,
+        alloc: Global,
+        patch: NewPatch,
+        caller: AccountNo,
+        file: &ProjectFile,
+        groups: &GroupTables,
+        request: u64,
+    ) -> Result<(EditedChange<'r>, Copied), AllocError>
+        requires { fits (Upload patch) (seen self.now.rows.now) ≡ true }
+        ensures change { IfOk result (λ r. Makes self.now.rows.now (after (record { file = file.now; groups = group_list groups.now }) (Upload patch) caller request (seen self.now.rows.now)) r.0) }
+        ensures copied { IfOk result (λ r. AreMany (λ l u. voted (carried (copying (record { file = file.now; groups = group_list groups.now }) (Upload patch) caller (seen self.now.rows.now)) (seen self.now.rows.now) l u)) r.1.copied) }
+        ensures outdated { IfOk result (λ r. AreMany (λ l u. is_lost (copying (record { file = file.now; groups = group_list groups.now }) (Upload patch) caller (seen self.now.rows.now)) (seen self.now.rows.now) u l) r.1.outdated) }
+    {
+        stays_sound();
+        let now = current_patch(&self.rows.patches);
+        let next = next_patch(now);
+        let former = last_uploader(self.rows.header.owner, &self.rows.patches);
+        let facts = upload_facts(alloc, &self.rows.patches, &patch, caller);
+        let parted = part_votes(alloc, &self.rows.votes, file, facts, groups, now, next)?;
+        let Parted { copied, lost } = parted;
+        let counts = Copied {
+            copied: copied.len(),
+            outdated: lost.len(),
+        };
+        let mut edited = begin_edits(alloc, self.rows, self.rows.header.state, request)?;
+        put_all(&mut edited.votes, copied)?;
+        edited.patches.push(sent_by(patch, caller))?;
+        let who = Who {
+            owner: self.rows.header.owner,
+            uploader: caller,
+            caller,
+            wip: self.rows.header.wip,
+        };
+        let is_gone = !is_eligible(who.owner, who.uploader, &self.rows.roles, former);
+        drop_called(&mut edited.attention, former, is_gone)?;
+        let rule = WhenLost {
+            labels: file.labels(),
+            lost: &lost,
+        };
+        let accounts = callable(alloc, &edited.roles, &who)?;
+        call_all(alloc, &mut edited.attention, &accounts, &rule, request)?;
+        Ok((edited, counts))
+    }
 }

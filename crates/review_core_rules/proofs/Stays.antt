@@ -1,7 +1,8 @@
 -- A request keeps a change sound.
 use lib.ListN.{length-map}
-use Rattle.std.proofs.Common.{◌≡◌, ◌≤◌, ℕ, ◌+◌, true, nat_lt, arith, ◌&&◌, List, [], ◌∷◌, ◌++◌, length, map, Option, Some, None, refl, ℤ, Bool, false, sym, ◌∙◌, bytes_eq, if◌then◌else◌, is_some, not, ◌||◌, ap, eqb-true, ⊎_elim, ◌==◌, is_none, pos, eq-eqb, nat_le, lt-ltb, length-append}
-use Rattle.std.proofs.lemmas.Bool.{and_parts, and_from, or_parts, cases_Bool, Decides.nat_tests}
+use Rattle.std.proofs.Common.{int_eq, ◌≡◌, ◌≤◌, ℕ, ◌+◌, true, nat_lt, arith, ◌&&◌, List, [], ◌∷◌, ◌++◌, length, map, Option, Some, None, refl, ℤ, Bool, false, sym, ◌∙◌, bytes_eq, if◌then◌else◌, is_some, not, ◌||◌, ap, eqb-true, ⊎_elim, ◌==◌, is_none, pos, eq-eqb, nat_le, lt-ltb, length-append}
+use Rattle.std.proofs.lemmas.Bool.{not-false, and_right, and_parts, and_from, or_parts, cases_Bool}
+use Rattle.std.proofs.lemmas.Bool.Decides.{Decides-int_eq, nat_tests}
 use Rattle.std.specs.{List.list_any, Option.option_map_or}
 use Rattle.review_names.specs.Forms.{is_within, most_patches, most_comments}
 use Rattle.review_words.specs.declared.changes.{Given.Given, NewChange.NewChange, NewComment.NewComment}
@@ -111,7 +112,7 @@ more_roles true b x y f h = refl
 more_roles false true x y f h = refl
 more_roles false false x y f h = f h
 
-some_put : (b : Bool) (r : Role) (o : Option Role) → is_some o ≡ true → is_some (if b then Some r else o) ≡ true
+pub some_put : {X : Type 0} (b : Bool) (r : X) (o : Option X) → is_some o ≡ true → is_some (if b then Some r else o) ≡ true
 some_put true r o h = refl
 some_put false r o h = h
 
@@ -264,10 +265,6 @@ role_at b x y e h = let f : is_some (if b then x else y) ≡ is_some x = rw e re
 role_not : (b : Bool) (x y : Option Role) → b ≡ false → is_some y ≡ true → is_some (if b then x else y) ≡ true
 role_not b x y e h = let f : is_some (if b then x else y) ≡ is_some y = rw e refl in f ∙ h
 
-and_false : (b d : Bool) → d ≡ false → (b && d) ≡ false
-and_false true d e = e
-and_false false d e = refl
-
 reviewed_voters : (r : ReviewOf) (caller : ℕ) (c : Change) (l : List ℕ) (a : ℕ) → (voted (c.vote (current c) l a) ≡ true → is_some (c.role a) ≡ true) →
     voted (if (reviewed r c == current c) && (caller == a) then given_or r.labels l (c.vote (current c) l a) else c.vote (current c) l a) ≡ true →
     is_some (if caller == a then writer_role r c.owner caller (c.role caller) else c.role a) ≡ true
@@ -281,7 +278,7 @@ reviewed_voters r caller c l a before h = ⊎_elim
     (λ had. ap (λ x. is_some (c.role x)) same ∙ before had) h))
     (λ (f : (caller == a) ≡ false).
     role_not (caller == a) (writer_role r c.owner caller (c.role caller)) (c.role a) f
-    (before (where_false ((reviewed r c == current c) && (caller == a)) (given_or r.labels l (c.vote (current c) l a)) (c.vote (current c) l a) (and_false (reviewed r c == current c) (caller == a) f) h)))
+    (before (where_false ((reviewed r c == current c) && (caller == a)) (given_or r.labels l (c.vote (current c) l a)) (c.vote (current c) l a) (and_right (reviewed r c == current c) (caller == a) f) h)))
     (cases_Bool (caller == a))
 
 reviewed_sound : (k : Copying) (r : ReviewOf) (caller request : ℕ) (c : Change) → IsSound c → fits (Review r) c ≡ true → IsSound (after_copying k (Review r) caller request c)
@@ -302,16 +299,12 @@ reviewed_sound k r caller request c s fit =
 
 -- ---- a reviewer added or removed
 
-added_voters : (b : Bool) (role : Role) (was : Option Role) → is_some was ≡ true → is_some (if b then Some role else was) ≡ true
-added_voters true role was h = refl
-added_voters false role was h = h
-
 removed_voters : (here same : Bool) (v : ℤ) (was : Option Role) → here ≡ true → (voted v ≡ true → is_some was ≡ true) → voted (if here && same then pos 0 else v) ≡ true → is_some (if same then None else was) ≡ true
 removed_voters true true v was e before h = absurd (let f : false ≡ true = h in cc)
 removed_voters true false v was e before h = before h
 removed_voters false same v was e before h = absurd (let f : false ≡ true = e in cc)
 
-removed_on : (b : Bool) (v : ℤ) → voted (if b then pos 0 else v) ≡ true → voted v ≡ true
+pub removed_on : (b : Bool) (v : ℤ) → voted (if b then pos 0 else v) ≡ true → voted v ≡ true
 removed_on true v h = absurd (let f : false ≡ true = h in cc)
 removed_on false v h = h
 
@@ -325,7 +318,7 @@ stays k (AddReviewer v role) caller request c s fit = record {
   comments = s.comments;
   on_patches = s.on_patches;
   in_order = s.in_order;
-  voters = λ l a h. added_voters (v == a) role (c.role a) (s.voters l a h);
+  voters = λ l a h. some_put (v == a) role (c.role a) (s.voters l a h);
   attending = all_eligible k (AddReviewer v role) caller request c fit s.attending;
 }
 stays k (RemoveReviewer v) caller request c s fit = record {
@@ -367,3 +360,7 @@ joins place request c s = record {
   voters = s.voters;
   attending = λ u h. absurd (let e : false ≡ true = h in cc);
 }
+
+-- a vote that isn't one is 0
+pub zero_of : (v : ℤ) → voted v ≡ false → v ≡ pos 0
+zero_of v e = (Decides-int_eq v (pos 0)).0 (not-false (int_eq v (pos 0)) e)

@@ -1,8 +1,9 @@
 -- Comments in threads, and which threads are unresolved.
 use Rattle.std.proofs.Common.{◌≡◌, List, [], ◌∷◌, ◌++◌, Bool, true, false, not, ◌&&◌, ◌||◌, ◌==◌, refl, ap, ◌∙◌, ℕ, zero, suc, ◌+◌, ◌≤◌, length, map, Option, Some, None, cond, sym, subst, eq-eqb, arith, unwrap_or, ◌<◌, get_or, set, append-nil, append_assoc, length-append, filter, option_map, slice_get, eqb-true, ⊎_elim}
-use Rattle.std.proofs.lemmas.Bool.{cases_Bool, Decides.nat_tests}
-use Rattle.std.proofs.lemmas.{List.length-map, List.map-append, Option.slice_get-map}
+use Rattle.std.proofs.{Math.Bool.or-true, lemmas.Bool.both_ways, lemmas.Bool.cases_Bool}
+use Rattle.std.proofs.lemmas.{Bool.Decides.nat_tests, List.length-map, List.map-append, Option.slice_get-map}
 use Rattle.std.specs.{List.list_any, List.AllByRecursion, Option.option_map_or}
+use Rattle.review_table.proofs.Plain.{all_at}
 use Rattle.review_words.specs.declared.shown.{ShownComment.ShownComment, Thread.Thread}
 use Rattle.review_core_rules.specs.Change.{has_unresolved, of_number, root_of, threaded, posts}
 use Rattle.review_core_rules.specs.Threads.{Rooted, last_unresolved, of_root, rooted, rooted_after, roots, shown_comment, thread_of, threads}
@@ -12,14 +13,10 @@ use Rattle.review_core_standing.specs.inner.Gathered.{place_of, put_in, thread_s
 
 -- ==== whether a thread is unresolved, from the last comment on
 
-or_true : (b : Bool) → (b || true) ≡ true
-or_true true = refl
-or_true false = refl
-
 -- what is unresolved among the last is unresolved among all
 pub stays_unresolved : (xs ys : List Post) → has_unresolved ys ≡ true → has_unresolved (xs ++ ys) ≡ true
 stays_unresolved [] ys is = is
-stays_unresolved (x ∷ xs) ys is = ap (λ b. (x.unresolved && not (list_any (λ q. q.root == x.root) (xs ++ ys))) || b) (stays_unresolved xs ys is) ∙ or_true (x.unresolved && not (list_any (λ q. q.root == x.root) (xs ++ ys)))
+stays_unresolved (x ∷ xs) ys is = ap (λ b. (x.unresolved && not (list_any (λ q. q.root == x.root) (xs ++ ys))) || b) (stays_unresolved xs ys is) ∙ or-true (x.unresolved && not (list_any (λ q. q.root == x.root) (xs ++ ys)))
 
 -- the last of its thread that is unresolved
 pub unresolved_here : (p : Post) (ps : List Post) → list_any (λ q. q.root == p.root) ps ≡ false → p.unresolved ≡ true → has_unresolved (p ∷ ps) ≡ true
@@ -108,12 +105,7 @@ same_all : (P : ℕ → Type 0) (f g : ℕ → Thread) (q : List ℕ) → ((y : 
 same_all P f g [] same all = refl
 same_all P f g (y ∷ q) same all = λ i. same y all.0 i ∷ same_all P f g q same all.1 i
 
-at_place : (P : ℕ → Type 0) (q : List ℕ) (k s : ℕ) → AllByRecursion P q → slice_get q k ≡ Some s → P s
-at_place P [] k s all is = absurd (cc)
-at_place P (y ∷ q) zero s all is = let same : y ≡ s = cc in subst P same all.0
-at_place P (y ∷ q) (suc k) s all is = at_place P q k s all.1 is
-
-other_way : (x y : ℕ) → (x == y) ≡ false → (y == x) ≡ false
+pub other_way : (x y : ℕ) → (x == y) ≡ false → (y == x) ≡ false
 other_way x y e = grind (arith, nat_tests)
 
 put_there : (q : List ℕ) (k s : ℕ) (f g : ℕ → Thread) (x : ShownComment) → slice_get q k ≡ Some s → AreApart q → ((y : ℕ) → (s == y) ≡ false → g y ≡ f y) →
@@ -124,8 +116,7 @@ put_there (y ∷ q) zero s f g x is apart stays grows =
     let here = subst (λ z. g z ≡ record { root = (f z).root; comments = (f z).comments ++ x ∷ []; unresolved = x.unresolved }) same grows in
     λ i. here i ∷ same_all (λ z. (y == z) ≡ false) f g q (λ z other. stays z (ap (λ w. w == z) same ∙ other)) apart.0 i
 put_there (y ∷ q) (suc k) s f g x is apart stays grows =
-    let other = at_place (λ z. (y == z) ≡ false) q k s apart.0 is in
-    λ i. stays y (other_way y s other) i ∷ put_there q k s f g x is apart.1 stays grows i
+    λ i. stays y (other_way y s (all_at (λ z. (y == z) ≡ false) q k s apart.0 is)) i ∷ put_there q k s f g x is apart.1 stays grows i
 
 put_last : (x : ShownComment) (ts : List Thread) → put_in (length ts) x ts ≡ ts ++ record { root = x.number; comments = x ∷ []; unresolved = x.unresolved } ∷ []
 put_last x [] = refl
@@ -145,12 +136,12 @@ among_more s (x ∷ xs) ys is = at (x == s) (is_among s xs) is (among_more s xs 
 
 among_last : (s : ℕ) (xs : List ℕ) → is_among s (xs ++ s ∷ []) ≡ true
 among_last s [] = ap (λ b. b || false) (eq-eqb s s refl)
-among_last s (x ∷ xs) = ap (λ b. (x == s) || b) (among_last s xs) ∙ or_true (x == s)
+among_last s (x ∷ xs) = ap (λ b. (x == s) || b) (among_last s xs) ∙ or-true (x == s)
 
 among_at : (q : List ℕ) (k s : ℕ) → slice_get q k ≡ Some s → is_among s q ≡ true
 among_at [] k s is = absurd (cc)
 among_at (y ∷ q) zero s is = let same : y ≡ s = cc in ap (λ b. b || is_among s q) (eq-eqb y s same)
-among_at (y ∷ q) (suc k) s is = ap (λ b. (y == s) || b) (among_at q k s is) ∙ or_true (y == s)
+among_at (y ∷ q) (suc k) s is = ap (λ b. (y == s) || b) (among_at q k s is) ∙ or-true (y == s)
 
 -- ---- what holds of the comments so far
 
@@ -191,7 +182,7 @@ grows_by_one ps p = length-append ps (p ∷ [])
 answered : (ps : List Post) (rs : List Rooted) (places : List ℕ) (ts : List Thread) (p : Post) (r : Rooted) (k : ℕ) → IsSoFar ps rs places ts → p.root ≡ r.root → r.comment.number ≡ length ps + 1 → slice_get (roots rs) k ≡ Some r.root →
     IsSoFar (ps ++ p ∷ []) (rs ++ r ∷ []) (places ++ k ∷ []) (put_in k r.comment ts)
 answered ps rs places ts p r k h of_post number at =
-    let low = at_place (λ s. s ≤ length ps) (roots rs) k r.root (roots_within (length ps) rs h.within) at in
+    let low = all_at (λ s. s ≤ length ps) (roots rs) k r.root (roots_within (length ps) rs h.within) at in
     let other : (r.root == r.comment.number) ≡ false = ap (λ m. r.root == m) number ∙ other_way (length ps + 1) r.root (below_other (length ps) r.root low) in
     let stay : roots (rs ++ r ∷ []) ≡ roots rs = roots_more rs r ∙ (ap (λ b. roots rs ++ cond b (r.root ∷ []) []) other ∙ append-nil (roots rs)) in
     record {
@@ -384,15 +375,14 @@ first_ends : (r : Rooted) (rs : List Rooted) → r.comment.unresolved ≡ true �
 first_ends r rs is last = λ i. (is i && not (last i)) || ends_open rs
 
 others_end : (r : Rooted) (rs : List Rooted) → ends_open rs ≡ true → ends_open (r ∷ rs) ≡ true
-others_end r rs is = ap (λ b. (r.comment.unresolved && not (has_root rs r.root)) || b) is ∙ or_true (r.comment.unresolved && not (has_root rs r.root))
+others_end r rs is = ap (λ b. (r.comment.unresolved && not (has_root rs r.root)) || b) is ∙ or-true (r.comment.unresolved && not (has_root rs r.root))
 
 -- an open thread has a comment that is unresolved with none of the thread behind it
 open_ends : (rs : List Rooted) (s : ℕ) → is_open rs s ≡ true → ends_open rs ≡ true
 open_ends [] s is = absurd (cc)
 open_ends (r ∷ rs) s is = ⊎_elim
     (λ (e : (r.root == s) ≡ true).
-    let now : last_unresolved r.comment.unresolved (of_root rs s) ≡ true = sym (ap (last_unresolved false) (of_here r rs s e)) ∙ is in
-    ⊎_elim
+    let now : last_unresolved r.comment.unresolved (of_root rs s) ≡ true = sym (ap (last_unresolved false) (of_here r rs s e)) ∙ is in ⊎_elim
     (λ (some : has_root rs s ≡ true). others_end r rs (open_ends rs s (some_of rs s false r.comment.unresolved some ∙ now)))
     (λ (none : has_root rs s ≡ false).
     first_ends r rs (sym (ap (last_unresolved r.comment.unresolved) (none_of rs s none)) ∙ now) (ap (has_root rs) (eqb-true r.root s e) ∙ none))
@@ -447,18 +437,12 @@ any_at : (p : ℕ → Bool) (xs : List ℕ) (s : ℕ) → is_among s xs ≡ true
 any_at p [] s among is = absurd (cc)
 any_at p (x ∷ xs) s among is =
     ⊎_elim (λ (e : (x == s) ≡ true). ap (λ b. b || list_any p xs) (ap p (eqb-true x s e) ∙ is))
-    (λ (e : (x == s) ≡ false). ap (λ b. p x || b) (any_at p xs s (sym (ap (λ b. b || is_among s xs) e) ∙ among) is) ∙ or_true (p x))
+    (λ (e : (x == s) ≡ false). ap (λ b. p x || b) (any_at p xs s (sym (ap (λ b. b || is_among s xs) e) ∙ among) is) ∙ or-true (p x))
     (cases_Bool (x == s))
 
 some_at : (p : ℕ → Bool) (xs : List ℕ) → list_any p xs ≡ true → (s : ℕ) × (p s ≡ true)
 some_at p [] is = absurd (cc)
-some_at p (x ∷ xs) is =
-    ⊎_elim (λ (e : p x ≡ true). (x, e)) (λ (e : p x ≡ false). some_at p xs (sym (ap (λ b. b || list_any p xs) e) ∙ is)) (cases_Bool (p x))
-
-same_bools : (a b : Bool) → (a ≡ true → b ≡ true) → (b ≡ true → a ≡ true) → a ≡ b
-same_bools true b to from = sym (to refl)
-same_bools false true to from = from refl
-same_bools false false to from = refl
+some_at p (x ∷ xs) is = ⊎_elim (λ (e : p x ≡ true). (x, e)) (λ (e : p x ≡ false). some_at p xs (sym (ap (λ b. b || list_any p xs) e) ∙ is)) (cases_Bool (p x))
 
 any_thread : (rs : List Rooted) (xs : List ℕ) → list_any (λ t. t.unresolved) (map (thread_of rs) xs) ≡ list_any (is_open rs) xs
 any_thread rs [] = refl
@@ -469,7 +453,7 @@ unresolved_alike xs =
     let rs = rooted_rest [] xs in
     ap has_unresolved (threaded_is [] xs)
     ∙ (by_rooted [] xs
-    ∙ (same_bools (ends_open rs) (list_any (is_open rs) (roots rs))
+    ∙ (both_ways (ends_open rs) (list_any (is_open rs) (roots rs))
     (λ e. let at = ends_open_at rs e in any_at (is_open rs) (roots rs) at.0 (open_rooted rs at.0 (all_rooted xs) at.1) at.1)
     (λ e. let at = some_at (is_open rs) (roots rs) e in open_ends rs at.0 at.1)
     ∙ (sym (any_thread rs (roots rs)) ∙ ap (λ l. list_any (λ t. t.unresolved) (map (thread_of l) (roots l))) (sym (rooted_is xs)))))

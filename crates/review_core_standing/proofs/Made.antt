@@ -82,7 +82,7 @@ voters_alike s c f _ a h = refl
 counted_alike : (s : Setting) (c : Change) (f : ChangeFacts) (t : LabelTerm) (a : ℕ) (v : ℤ) → AreFacts s c f → v ≡ c.vote (current c) t.label a → is_counted f t (a, v) ≡ counts s c t a
 counted_alike s c f t a v h is = λ i. meets (h.ranges t.label i) t.comparison (is i) && voters_alike s c f t.voters a h i
 
-some_where : {X : Type 0} (b : Bool) (x : X) → is_some (cond b (Some x) None) ≡ b
+pub some_where : {X : Type 0} (b : Bool) (x : X) → is_some (cond b (Some x) None) ≡ b
 some_where true x = refl
 some_where false x = refl
 
@@ -231,7 +231,7 @@ or_none : {X : Type 0} (o : Option X) → or_else o None ≡ o
 or_none None = refl
 or_none (Some x) = refl
 
-value_kept : (o : Option ℤ) → option_filter voted o ≡ unless_zero (value_of o)
+pub value_kept : (o : Option ℤ) → option_filter voted o ≡ unless_zero (value_of o)
 value_kept None = refl
 value_kept (Some v) = refl
 
@@ -264,8 +264,7 @@ none_or (Some x) p e = absurd (cc)
 pub range_new : (old new : BTreeMap (List ℕ) ValueRange) (name : List ℕ) (r : ValueRange) → is_some (get (slice_cmp nat_cmp) old name) ≡ false →
     ((l : List ℕ) → get (slice_cmp nat_cmp) new l ≡ cond (is_at (slice_cmp nat_cmp name) l) (Some r) (get (slice_cmp nat_cmp) old l)) → (l : List ℕ) →
     get (slice_cmp nat_cmp) new l ≡ option_or (get (slice_cmp nat_cmp) old l) (cond (bytes_eq name l) (Some r) None)
-range_new old new name r none is l =
-    ⊎_elim
+range_new old new name r none is l = ⊎_elim
     (λ (e : bytes_eq name l ≡ true).
     is l ∙ (ap (λ b. cond b (Some r) (get (slice_cmp nat_cmp) old l)) (is_eq-slice_cmp name l ∙ e)
     ∙ (none_or (get (slice_cmp nat_cmp) old l) (Some r) (sym (ap (λ x. is_some (get (slice_cmp nat_cmp) old x)) ((bytes_eq-Decides name l).0 e)) ∙ none)

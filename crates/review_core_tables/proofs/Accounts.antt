@@ -3,7 +3,7 @@ use Rattle.std.proofs.Common.{◌≡◌, ℕ, List, [], ◌∷◌, map, Option, 
 use Rattle.std.{proofs.lemmas.Bool.Decides.nat_tests, proofs.lemmas.Map.Made.lookup-map_values, specs.BTreeMap.is_at}
 use Rattle.std.specs.{Cmp.unsigned_tied, Cmp.Lexicographic.slice_cmp, List.list_any, Map.keys_of, Option.option_map_or}
 use Rattle.review_names.specs.{Groups.has_account, Names.registered_users}
-use Rattle.review_table.specs.Rows.{row_in, rows_of}
+use Rattle.review_table.{proofs.Plain.some_or, specs.Rows.row_in, specs.Rows.rows_of}
 use Rattle.review_core_rules.specs.{Change.kept_or, declared.rows.AttentionEntry.AttentionEntry, declared.rows.Why.Why}
 use Rattle.review_core_tables.proofs.Copied.{Tells, at_sym, any_kept}
 use Rattle.review_core_tables.specs.Copies.{GroupTable, group_list}
@@ -16,16 +16,12 @@ accounts_tell = record {
   self = λ k. unsigned_tied k k ∙ eq-eqb k k refl;
 }
 
-some_where : {X : Type 0} (b : Bool) (x : X) (o : Option X) → is_some (if b then Some x else o) ≡ (b || is_some o)
-some_where true x o = refl
-some_where false x o = refl
-
 -- who has a row
 pub has_row : {X : Type 0} (rows : List (ℕ × X)) (u : ℕ) → list_any (λ x. x == u) (map (λ e. e.0) rows) ≡ is_some (row_in nat_cmp rows u)
 has_row [] u = refl
 has_row (e ∷ rows) u =
     (λ i. (sym (unsigned_tied e.0 u) ∙ at_sym accounts_tell e.0 u) i || has_row rows u i)
-    ∙ sym (some_where (is_at (nat_cmp u) e.0) e.1 (row_in nat_cmp rows u))
+    ∙ sym (some_or (is_at (nat_cmp u) e.0) e.1 (row_in nat_cmp rows u))
 
 -- the accounts that have a row are those of some accounts that pass, where who has one is among these
 pub has_role : (p : ℕ → Bool) (u : ℕ) (xs : List ℕ) → (p u ≡ true → list_any (is_at (nat_cmp u)) xs ≡ true) → list_any (λ x. x == u) (filter p xs) ≡ p u

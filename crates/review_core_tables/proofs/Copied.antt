@@ -1,12 +1,12 @@
 -- Votes by their keys: copied to a new patch set, and counted.
 use Rattle.std.proofs.Common.{◌≡◌, List, [], ◌∷◌, Option, Some, None, Bool, true, false, refl, sym, ap, ◌∙◌, ⊎_elim, subst, filter, is_eq, if◌then◌else◌, ℕ, ℤ, pos, not, ◌&&◌, ◌||◌, eqb-true, eq-eqb, int_eq, IsSome, nat_cmp, ◌==◌, bytes_eq, Bor, ◌<◌, ◌+◌, length, drop, get_or, map, append_assoc, ◌++◌, suc}
-use Rattle.std.proofs.lemmas.Bool.{cases_Bool, and_parts, and_from, Decides.Decides-int_eq}
-use Rattle.std.proofs.lemmas.{List.at_drop_more, Map.Text.is_eq-slice_cmp, Slice.Eq.bytes_eq-Decides}
-use Rattle.std.specs.{BTreeMap.is_at, Cmp.tied_then, Cmp.unsigned_tied, Cmp.Lexicographic.slice_cmp}
-use Rattle.std.specs.List.{AllByRecursion, list_any, Sorted.IsStrictlySortedBy}
-use Rattle.std.specs.{Map.keys_of, Map.Iter.deref_pair, Ordering.ordering_then}
+use Rattle.std.proofs.{Math.Bool.and_assoc, lemmas.Bool.cases_Bool, lemmas.Bool.and_parts, lemmas.Bool.and_from}
+use Rattle.std.proofs.lemmas.{Bool.Decides.Decides-int_eq, List.at_drop_more, Map.Text.is_eq-slice_cmp}
+use Rattle.std.{proofs.lemmas.Slice.Eq.bytes_eq-Decides, specs.BTreeMap.is_at}
+use Rattle.std.specs.{Cmp.tied_then, Cmp.unsigned_tied, Cmp.Lexicographic.slice_cmp, List.AllByRecursion, List.list_any}
+use Rattle.std.specs.{List.Sorted.IsStrictlySortedBy, Map.keys_of, Map.Iter.deref_pair, Ordering.ordering_then}
 use Rattle.std.specs.declared.cmp.Ordering.{Ordering, TheVariants.Less}
-use Rattle.review_table.specs.Rows.{row_in, rows_of}
+use Rattle.{review_table.specs.Rows.row_in, review_table.specs.Rows.rows_of, review_core_rules.proofs.Stays.zero_of}
 use Rattle.review_core_rules.specs.Seen.{vote_cmp, value_of, Votes, vote_in}
 use Rattle.review_core_rules.specs.{Votes.voted, declared.rows.VoteKey.VoteKey}
 use Rattle.review_core_tables.specs.Copies.{Copies, has_lost, copied_rows, lost_rows, AreApart, AreMany}
@@ -20,8 +20,7 @@ pub record Tells {K : Type 0} (R : K → K → Ordering) : Type 0 where
   pub self : (k : K) → is_at (R k) k ≡ true
 
 pub at_sym : {K : Type 0} {R : K → K → Ordering} → Tells R → (j k : K) → is_at (R j) k ≡ is_at (R k) j
-at_sym {R = R} t j k =
-    ⊎_elim
+at_sym {R = R} t j k = ⊎_elim
     (λ (y : is_at (R j) k ≡ true). y ∙ sym (subst (λ x. is_at (R k) x ≡ true) (sym (t.same j k y)) (t.self k)))
     (λ (f : is_at (R j) k ≡ false). ⊎_elim
     (λ (y : is_at (R k) j ≡ true). let e = subst (λ x. is_at (R j) x ≡ true) (sym (t.same k j y)) (t.self j) in absurd (cc))
@@ -154,10 +153,6 @@ copied_where : (f : Copies) (l : List ℕ) (a : ℕ) (b : Bool) (v : ℤ) (o : O
 copied_where f l a true v o = refl
 copied_where f l a false v o = refl
 
-and_swap : (a b c : Bool) → ((a && b) && c) ≡ (a && (b && c))
-and_swap true b c = refl
-and_swap false b c = refl
-
 -- the row of a vote on the next patch set, after those that are copied
 pub put_copied : (f : Copies) (n next : ℕ) (l : List ℕ) (a : ℕ) (rows : List (VoteKey × ℤ)) → IsStrictlySortedBy vote_cmp (keys_of rows) → (before : Option ℤ) →
     put_in vote_cmp (copied_rows f n next rows) (vote_key next l a) before ≡ or_else (copied_of f l a (row_in vote_cmp rows (vote_key n l a))) before
@@ -176,7 +171,7 @@ put_copied f n next l a (e ∷ es) s before =
     let q : l ≡ e.0.label = ap (λ (x : VoteKey). x.label) same in
     let r : a ≡ e.0.account = ap (λ (x : VoteKey). x.account) same in (
       vote_tied k next l a ∙ and_from (next == next) (bytes_eq e.0.label l && (e.0.account == a)) (eq-eqb next next refl) (and_from (bytes_eq e.0.label l) (e.0.account == a) ((bytes_eq-Decides e.0.label l).1 (sym q)) (eq-eqb e.0.account a (sym r))),
-      and_swap (e.0.patch == n) (voted e.1) (f e.0.label e.0.account e.1) ∙ (λ i. eq-eqb e.0.patch n (sym p) i && (voted e.1 && f (sym q i) (sym r i) e.1)),
+      and_assoc (e.0.patch == n) (voted e.1) (f e.0.label e.0.account e.1) ∙ (λ i. eq-eqb e.0.patch n (sym p) i && (voted e.1 && f (sym q i) (sym r i) e.1)),
       ap (copied_of f l a) (none_after vote_cmp e.0 (vote_key n l a) same es s.0),
     ))
     (λ yes d.
@@ -235,7 +230,7 @@ lost_is f n l u (e ∷ es) s =
     let q : l ≡ e.0.label = ap (λ (x : VoteKey). x.label) same in
     let r : u ≡ e.0.account = ap (λ (x : VoteKey). x.account) same in (
       and_from (bytes_eq e.0.label l) (e.0.account == u) ((bytes_eq-Decides e.0.label l).1 (sym q)) (eq-eqb e.0.account u (sym r)),
-      and_swap (e.0.patch == n) (voted e.1) (not (f e.0.label e.0.account e.1)) ∙ (λ i. eq-eqb e.0.patch n (sym p) i && (voted e.1 && not (f (sym q i) (sym r i) e.1))),
+      and_assoc (e.0.patch == n) (voted e.1) (not (f e.0.label e.0.account e.1)) ∙ (λ i. eq-eqb e.0.patch n (sym p) i && (voted e.1 && not (f (sym q i) (sym r i) e.1))),
       lost_is f n l u es s.1 ∙ value_none f l u old (none_after vote_cmp e.0 (vote_key n l u) same es s.0),
     ))
     (λ yes t.
@@ -246,14 +241,6 @@ lost_is f n l u (e ∷ es) s =
     (and_from (bytes_eq l e.0.label) (u == e.0.account) ((bytes_eq-Decides l e.0.label).1 (sym ((bytes_eq-Decides e.0.label l).0 z.0))) (eq-eqb u e.0.account (sym (eqb-true e.0.account u z.1)))))
     ∙ (ap (λ b. if here then voted e.1 && not (f l u e.1) else b) (lost_is f n l u es s.1)
     ∙ value_if f l u here e.1 old))
-
--- the vote on the next patch set
-zero_of : (v : ℤ) → voted v ≡ false → v ≡ pos 0
-zero_of v e = (Decides-int_eq v (pos 0)).0 (not_false (int_eq v (pos 0)) e)
-  where
-    not_false : (b : Bool) → not b ≡ false → b ≡ true
-    not_false true e = refl
-    not_false false e = absurd (let f : true ≡ false = e in cc)
 
 value_next : (f : Copies) (l : List ℕ) (a : ℕ) (o before : Option ℤ) → value_of before ≡ pos 0 → value_of (or_else (copied_of f l a o) before) ≡ (if f l a (value_of o) then value_of o else pos 0)
 value_next f l a None before zero = zero ∙ same (f l a (pos 0))

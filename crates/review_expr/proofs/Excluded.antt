@@ -6,8 +6,7 @@ use Rattle.review_expr_terms.specs.Grammar.{Tok, Tree, Fault, BadTerm, TooDeep, 
 use Rattle.review_expr_terms.specs.Lexemes.{Lexeme, Word, balanced}
 use Rattle.review_expr_terms.specs.Words.{Reading, Good, Bad, Flaw}
 use Rattle.review_words.specs.declared.faults.ExprCode.{ExprCode}
-use Rattle.review_expr.specs.Expressions.{HasTokens, HasExpr}
-use Rattle.review_expr.specs.Faults.{HasFlaw, HasWord, HasShapeFault, IsFault}
+use Rattle.review_expr.specs.Expressions.{HasTokens, HasExpr, HasFlaw, HasWord, HasShapeFault, IsFault}
 use Rattle.review_expr.specs.Tokens.{lexeme_tokens, joined, tokens_before, tokens}
 use Rattle.review_words.specs.declared.faults.ExprCode.TheVariants as code
 

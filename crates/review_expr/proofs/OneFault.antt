@@ -5,8 +5,8 @@ use Rattle.review_expr_terms.specs.Grammar.{Tok, Fault, BadTerm, TooDeep, Mixed,
 use Rattle.review_expr_terms.specs.Lexemes.{Lexeme, Word, IsCut, all_blank, balanced}
 use Rattle.review_expr_terms.specs.Words.{Reading, Good, Bad, Flaw, NoTerm, NoValue, Zero}
 use Rattle.review_words.specs.declared.faults.ExprCode.{ExprCode}
-use Rattle.review_expr.{proofs.Excluded.one_reading, proofs.Excluded.no_flaw, specs.Expressions.IsLaidOut}
-use Rattle.review_expr.specs.Faults.{HasFlaw, HasWord, HasShapeFault, IsFault}
+use Rattle.review_expr.proofs.Excluded.{one_reading, no_flaw}
+use Rattle.review_expr.specs.Expressions.{IsLaidOut, HasFlaw, HasWord, HasShapeFault, IsFault}
 use Rattle.review_expr.specs.Tokens.{lexeme_tokens, joined, tokens_before}
 use Rattle.review_words.specs.declared.faults.ExprCode.TheVariants as code
 

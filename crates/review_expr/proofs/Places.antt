@@ -1,7 +1,7 @@
 -- Where the words of a text lie in it.
-use Rattle.std.proofs.Common.{◌≡◌, ℕ, ◌+◌, ◌-◌, ◌<◌, ◌≤◌, min, Bool, true, false, ◌&&◌, List, [], ◌∷◌, ◌++◌, length, drop, get_or, slice_range, IsTrue, IsUtf8, refl, sym, ap, ◌∙◌, subst, arith, append_assoc, length-append, length-drop}
+use Rattle.std.proofs.Common.{◌≡◌, ℕ, ◌+◌, ◌-◌, ◌<◌, ◌≤◌, min, true, List, [], ◌∷◌, ◌++◌, length, drop, get_or, slice_range, IsTrue, IsUtf8, sym, ap, ◌∙◌, subst, arith, append_assoc, length-append, length-drop}
 use Rattle.std.proofs.Math.Seq.{drop-append_seam, get_or-append_seam}
-use Rattle.std.proofs.lemmas.{Bool.Decides.nat_tests, List.length-take}
+use Rattle.std.proofs.lemmas.{Bool.and_parts, Bool.Decides.nat_tests, List.length-take}
 use Rattle.std.proofs.lemmas.Str.{IsUtf8-nil, IsUtf8-drop, IsCharBoundary-after_ascii, IsCharBoundary-before_ascii, IsCharBoundary-at_seam}
 use Rattle.std.specs.Str.{IsCharBoundary}
 use Rattle.review_expr_terms.specs.Lexemes.{Lexeme, Word, Open, Close, is_blank, is_end, all_blank, ends, IsCut}
@@ -26,17 +26,9 @@ behind_ascii : (c : ℕ) (cs : List ℕ) → c < 128 → IsUtf8 (c ∷ cs) → I
 behind_ascii c cs low u =
     let one : 0 < length (c ∷ cs) = omega arith in IsUtf8-drop (c ∷ cs) 1 u (IsCharBoundary-after_ascii (c ∷ cs) 0 u one low)
 
-first : (a b : Bool) → a && b ≡ true → a ≡ true
-first true b h = refl
-first false b h = h
-
-second : (a b : Bool) → a && b ≡ true → b ≡ true
-second true b h = h
-second false b h = cc
-
 behind_blank : (blank rest : List ℕ) → IsTrue (all_blank blank) → IsUtf8 (blank ++ rest) → IsUtf8 rest
 behind_blank [] rest h u = u
-behind_blank (c ∷ cs) rest h u = behind_blank cs rest (second _ _ h) (behind_ascii c (cs ++ rest) (blank_ascii c (first _ _ h)) u)
+behind_blank (c ∷ cs) rest h u = behind_blank cs rest (and_parts _ _ h).1 (behind_ascii c (cs ++ rest) (blank_ascii c (and_parts _ _ h).0) u)
 
 behind_word : (w rest : List ℕ) → IsUtf8 (w ++ rest) → IsTrue (ends rest) → IsUtf8 rest
 behind_word w [] u h = IsUtf8-nil

@@ -7,7 +7,7 @@ use Rattle.review_expr_terms.specs.{Scanned.lexeme, Scanned.lexemes, Scanned.IsW
 use Rattle.review_expr_terms.specs.Words.{Reading, Good, Bad, IsWordFault}
 use Rattle.review_expr_terms.specs.declared.{lexemes.Piece.Piece, token.Token.Token, word.WordFault.WordFault}
 use Rattle.review_expr.proofs.Places.{Spans, lies, spans}
-use Rattle.review_expr.specs.{Expressions.IsLaidOut, Faults.IsReached, Faults.IsParseFault}
+use Rattle.review_expr.specs.Expressions.{IsLaidOut, IsReached, IsParseFault}
 use Rattle.review_expr.specs.Tokens.{lexeme_tokens, joined, tokens_before, word_tokens, unsigned, opens_at}
 use Rattle.review_expr.specs.inner.Words.{placed}
 use Rattle.review_expr_terms.specs.declared.word.WordFault.TheVariants as fault

@@ -4,8 +4,8 @@ use Rattle.std.proofs.lemmas.List.{length-map}
 use Rattle.review_expr_terms.specs.{Grammar.Tok, Lexemes.IsCut, Lexemes.balanced, Scanned.lexeme, Scanned.lexemes}
 use Rattle.review_expr_terms.specs.{Views.IsShapeFault, Words.Reading}
 use Rattle.review_expr_terms.specs.declared.{lexemes.Piece.Piece, parser.ShapeFault.ShapeFault}
-use Rattle.review_expr.specs.Expressions.{IsLaidOut, HasTokens}
-use Rattle.review_expr.specs.{Faults.IsParseFault, Tokens.tokens, inner.Words.shape_fault}
+use Rattle.review_expr.specs.Expressions.{IsLaidOut, HasTokens, IsParseFault}
+use Rattle.review_expr.specs.{Tokens.tokens, inner.Words.shape_fault}
 use Rattle.review_expr_terms.specs.declared.parser.ShapeFault.TheVariants as shape
 
 pub laid_out : (text bytes : List ℕ) (ps : List Piece) → bytes ≡ text → length bytes ≤ 4096 → IsCut 0 (lexemes bytes ps) bytes → 1 ≤ length ps → IsTrue (balanced 0 (lexemes bytes ps)) →

@@ -2,7 +2,7 @@
 use Rattle.std.proofs.Common.{◌≡◌, inl, inr, ℕ, ◌+◌, ◌≤◌, ◌<◌, List, [], ◌∷◌, ◌++◌, length, ap, arith, length-append}
 use Rattle.review_expr_terms.specs.Lexemes.{Lexeme, Word, Open, Close, IsCut}
 use Rattle.{review_expr_terms.specs.Words.Reading, review_words.specs.declared.faults.ExprCode.ExprCode}
-use Rattle.review_expr.specs.Faults.{IsReached, IsFault}
+use Rattle.review_expr.specs.Expressions.{IsReached, IsFault}
 use Rattle.review_words.specs.declared.faults.ExprCode.TheVariants as code
 
 -- a word begins within the text that it is cut from

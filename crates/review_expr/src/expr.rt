@@ -3,8 +3,8 @@ ghost use Rattle.std.specs.Prelude.{◌≡◌, IfOk, IfErr};
 ghost use Rattle.review_names.specs.Forms.{text_set};
 ghost use Rattle.review_expr_terms.specs.declared.terms.{CopyTerm.CopyTerm, RequirementTerm.RequirementTerm};
 ghost use Rattle.review_expr_spelling.specs.Words.{copy_reading, requirement_reading, IsDeep, IsPattern};
+ghost use Rattle.review_expr.specs.Expressions.{IsParseFault};
 ghost use Rattle.review_expr.specs.Exprs.{holds_for, labels_in, IsCopyOf, IsRequirementOf, NoWord};
-ghost use Rattle.review_expr.specs.Faults.{IsParseFault};
 
 use crate::expression::Expression;
 use crate::fault::ParseFault;

@@ -2,7 +2,7 @@
 ghost use Rattle.std.specs.Prelude.{◌≡◌, ◌⊎◌, ◌≤◌, ℕ, List, length};
 ghost use Rattle.review_expr_terms.specs.Grammar.{Tree};
 ghost use Rattle.review_words.specs.declared.faults.ExprCode.{ExprCode, TheVariants.BadValue};
-ghost use Rattle.review_expr.specs.{Expressions.HasExpr, Faults.HasWord, Faults.IsFault};
+ghost use Rattle.review_expr.specs.Expressions.{HasExpr, HasWord, IsFault};
 
 use crate::spelled::Spelled;
 

@@ -1,7 +1,8 @@
 //! From a text to the tree.
 ghost use Rattle.std.specs.Prelude.{◌≡◌, IfOk, IfErr};
-ghost use Rattle.{review_expr_terms.specs.Views.view, review_expr.specs.Expressions.HasExpr};
-ghost use Rattle.review_expr.specs.{Faults.IsParseFault, inner.Words.cut_fault, inner.Words.shape_fault};
+ghost use Rattle.review_expr_terms.specs.Views.{view};
+ghost use Rattle.review_expr.specs.Expressions.{HasExpr, IsParseFault};
+ghost use Rattle.review_expr.specs.inner.Words.{cut_fault, shape_fault};
 
 use crate::expression::Expression;
 use crate::fault::ParseFault;

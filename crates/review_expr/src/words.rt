@@ -3,7 +3,7 @@ ghost use Rattle.std.specs.List.{All};
 ghost use Rattle.std.specs.Prelude.{◌≡◌, ◌≤◌, ◌++◌, ℕ, List, Some, IfOk, IfErr, OnOk, length};
 ghost use Rattle.review_expr_terms.specs.{Grammar.Tok, Scanned.lexemes, Scanned.IsWithin, Views.tok, Views.toks};
 ghost use Rattle.review_expr_terms.specs.Words.{Good, IsWordFault};
-ghost use Rattle.review_expr.specs.{Expressions.IsLaidOut, Faults.IsParseFault};
+ghost use Rattle.review_expr.specs.Expressions.{IsLaidOut, IsParseFault};
 ghost use Rattle.review_expr.specs.Tokens.{meaning, opens_at, tokens, unsigned, word_tokens};
 ghost use Rattle.review_expr.specs.inner.Words.{placed};
 

@@ -1,7 +1,8 @@
 -- What is printed is read again.
 use mathlib.Core.Logic.{∥∥₁_map}
 use Rattle.std.proofs.Common.{◌≡◌, ◌≢◌, ℕ, suc, ◌+◌, Bool, true, false, ◌&&◌, List, [], ◌∷◌, ◌++◌, length, codes, Some, IsTrue, refl, sym, ap, ap₂, ◌∙◌, subst, arith, append_assoc, length-append, append-nil, ◌==◌, Option, None, if◌then◌else◌, bytes_eq, String, Global, string_bytes, Result, Ok, Err, IfOk, ◌≤◌, ◌<◌, lit<}
-use Rattle.std.{proofs.lemmas.Bool.Decides.nat_tests, proofs.lemmas.Option.same_Some, specs.Char.is_ascii_lowercase}
+use Rattle.std.proofs.lemmas.{Bool.and_parts, Bool.Decides.nat_tests, Option.same_Some}
+use Rattle.std.specs.Char.{is_ascii_lowercase}
 use Rattle.review_expr_terms.specs.Grammar.{Tok, NotWord, AndWord, OrWord, Join, And, Or, Tree, Term, Neg, All, Any, Trees, End, With, between, spelled, all_spelled, Word as Token, Open as Opens, Close as Closes, Unary, Members, Leaf, Group, Not, One, Next, trees, listed, has_or, tree_of, trees_of, tree, all_depth}
 use Rattle.review_expr_terms.specs.Lexemes.{Lexeme, Word, Open, Close, IsCut, balanced, ends, runs, Word as AWord}
 use Rattle.review_expr_terms.specs.Words.{Reading, Good, Bad, NoTerm}
@@ -104,14 +105,6 @@ abbrev mutual
   EachTerms P End = Unit {0}
   EachTerms P (With t ts) = AllTerms P t × EachTerms P ts
 
-and_left : (a b : Bool) → a && b ≡ true → a ≡ true
-and_left true b h = refl
-and_left false b h = h
-
-and_right : (a b : Bool) → a && b ≡ true → b ≡ true
-and_right true b h = h
-and_right false b h = cc
-
 -- a sign between members, by its word and its token
 pub record IsSign {A : Type 0} (reading : List ℕ → Reading A) (j : Join) (w : List ℕ) (o : Tok A) : Type 0 where
   pub is : IsWordOf reading w (o ∷ [])
@@ -128,11 +121,11 @@ mutual
   member_carried reading word d (All End) f g = cc
   member_carried reading word d (All (With t ts)) f g =
       group_carried reading (joined_text word (codes " AND ") (With t ts)) (all_spelled (members d And (With t ts)))
-      (joined_carried reading word d And (codes "AND") AndWord (record { is = and_word reading; between_is = refl }) t ts (member_carried reading word d t (and_left _ _ (and_right _ _ f)) g.0) (and_right _ _ (and_right _ _ f)) g.1)
+      (joined_carried reading word d And (codes "AND") AndWord (record { is = and_word reading; between_is = refl }) t ts (member_carried reading word d t (and_parts _ _ (and_parts _ _ f).1).0 g.0) (and_parts _ _ (and_parts _ _ f).1).1 g.1)
   member_carried reading word d (Any End) f g = cc
   member_carried reading word d (Any (With t ts)) f g =
       group_carried reading (joined_text word (codes " OR ") (With t ts)) (all_spelled (members d Or (With t ts)))
-      (joined_carried reading word d Or (codes "OR") OrWord (record { is = or_word reading; between_is = refl }) t ts (member_carried reading word d t (and_left _ _ (and_right _ _ f)) g.0) (and_right _ _ (and_right _ _ f)) g.1)
+      (joined_carried reading word d Or (codes "OR") OrWord (record { is = or_word reading; between_is = refl }) t ts (member_carried reading word d t (and_parts _ _ (and_parts _ _ f).1).0 g.0) (and_parts _ _ (and_parts _ _ f).1).1 g.1)
 
   joined_carried : {A : Type 0} → (reading : List ℕ → Reading A) (word : A → List ℕ) (d : A) (j : Join) (w : List ℕ) (o : Tok A) → IsSign reading j w o → (t : Tree A) (ts : Trees A) →
       Carries reading (member_text word t) (spelled (member d t)) → are_full ts ≡ true → EachTerms (IsSpelled reading word) ts →
@@ -141,16 +134,16 @@ mutual
   joined_carried reading word d j w o s t (With u us) h f g =
       subst (λ xs. Carries reading (joined_text word (32 ∷ (w ++ 32 ∷ [])) (With t (With u us))) (spelled (member d t) ++ (xs ++ all_spelled (members d j (With u us))))) (sym s.between_is)
       (joint_carried reading w o s.is (member_text word t) (joined_text word (32 ∷ (w ++ 32 ∷ [])) (With u us)) (spelled (member d t)) (all_spelled (members d j (With u us))) h
-      (joined_carried reading word d j w o s u us (member_carried reading word d u (and_left _ _ f) g.0) (and_right _ _ f) g.1))
+      (joined_carried reading word d j w o s u us (member_carried reading word d u (and_parts _ _ f).0 g.0) (and_parts _ _ f).1 g.1))
 
 pub printed_carried : {A : Type 0} → (reading : List ℕ → Reading A) (word : A → List ℕ) (d : A) (t : Tree A) → is_full t ≡ true → AllTerms (IsSpelled reading word) t →
     Carries reading (printed word t) (all_spelled (level d t))
 printed_carried reading word d (Term a) f g = member_carried reading word d (Term a) f g
 printed_carried reading word d (Neg t) f g = member_carried reading word d (Neg t) f g
 printed_carried reading word d (All (With t ts)) f g =
-    joined_carried reading word d And (codes "AND") AndWord (record { is = and_word reading; between_is = refl }) t ts (member_carried reading word d t (and_left _ _ (and_right _ _ f)) g.0) (and_right _ _ (and_right _ _ f)) g.1
+    joined_carried reading word d And (codes "AND") AndWord (record { is = and_word reading; between_is = refl }) t ts (member_carried reading word d t (and_parts _ _ (and_parts _ _ f).1).0 g.0) (and_parts _ _ (and_parts _ _ f).1).1 g.1
 printed_carried reading word d (Any (With t ts)) f g =
-    joined_carried reading word d Or (codes "OR") OrWord (record { is = or_word reading; between_is = refl }) t ts (member_carried reading word d t (and_left _ _ (and_right _ _ f)) g.0) (and_right _ _ (and_right _ _ f)) g.1
+    joined_carried reading word d Or (codes "OR") OrWord (record { is = or_word reading; between_is = refl }) t ts (member_carried reading word d t (and_parts _ _ (and_parts _ _ f).1).0 g.0) (and_parts _ _ (and_parts _ _ f).1).1 g.1
 printed_carried reading word d _ f g = cc
 
 -- ==== each term of a tree that a text has is spelled by a word of the text

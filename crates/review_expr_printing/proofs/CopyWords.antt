@@ -3,10 +3,8 @@ use Rattle.std.proofs.Common.{◌≡◌, List, ◌∷◌, ℕ, Option, None, Som
 use Rattle.review_names.specs.{Kinds.kind_named, Kinds.kind_name, Names.is_word, declared.kinds.ChangeKind.ChangeKind}
 use Rattle.review_expr_terms.specs.Words.{NoTerm, Reading, Good, Bad}
 use Rattle.review_expr_terms.specs.declared.terms.{CopyTerm.CopyTerm, VoteValue.VoteValue}
-use Rattle.review_expr_spelling.specs.Cuts.{cut_at, key_and_value, unquoted, with_first}
-use Rattle.review_expr_spelling.specs.Readings.{◌>>=◌, in_term, in_value, unless_zero}
-use Rattle.review_expr_spelling.specs.Values.{vote_in, is_met_by_zero}
-use Rattle.review_expr_spelling.specs.Words.{copy_key, copy_value, copy_reading}
+use Rattle.review_expr_spelling.specs.Values.{cut_at, key_and_value, unquoted, with_first, vote_in, is_met_by_zero}
+use Rattle.review_expr_spelling.specs.Words.{◌>>=◌, in_term, in_value, unless_zero, copy_key, copy_value, copy_reading}
 use Rattle.review_expr_spelling.specs.declared.keys.CopyKey.{CopyKey}
 use Rattle.review_expr_printing.proofs.Words.{lacks, word_back, value_lacks, bare_quote, keep, keep_both, quoted_runs, small_vote, vote_again, bare_vote}
 use Rattle.review_expr_printing.specs.Written.{vote_text, word_of, copy_word, IsOneWord}

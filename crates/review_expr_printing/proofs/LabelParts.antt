@@ -1,7 +1,7 @@
 -- The parts of label words.
 use Rattle.std.proofs.Common.{◌≡◌, ℕ, ◌≤◌, ◌==◌, List, [], ◌∷◌, ◌++◌, append-nil, Bool, true, false, not, cond, Option, None, Some, option_map, refl, ap, subst, ◌∙◌, arith, ◌&&◌, nat_le, codes, ℤ, pos, sym, bytes_eq, zero, suc, ◌+◌, ◌-◌, ◌<◌, length, take, drop, length-append, ◌||◌}
-use Rattle.std.proofs.Math.Seq.{take-append_seam, drop-append_seam, take-append-add}
-use Rattle.std.proofs.lemmas.{Bool.Decides.nat_tests, Slice.Eq.bytes_eq-Decides}
+use Rattle.std.proofs.Math.{Bool.and-false, Seq.take-append_seam, Seq.drop-append_seam, Seq.take-append-add}
+use Rattle.std.proofs.lemmas.{Bool.and_parts, Bool.Decides.nat_tests, Option.same_Some, Slice.Eq.bytes_eq-Decides}
 use Rattle.std.specs.{Char.is_ascii_alphabetic, Char.is_ascii_alphanumeric, List.list_all}
 use Rattle.review_names.{proofs.Numerals.number_shown, specs.Forms.is_label, specs.Forms.goes_on}
 use Rattle.review_names.specs.Names.{is_account_number, is_plain, is_word}
@@ -9,10 +9,9 @@ use Rattle.review_names.specs.Numerals.{numeral, account_of, number_of, ◌>>=�
 use Rattle.review_expr_terms.specs.declared.terms.{Comparison.Comparison, Count.Count, LabelTerm.LabelTerm}
 use Rattle.review_expr_terms.specs.declared.terms.{VoteValue.VoteValue, Voters.Voters}
 use Rattle.review_expr_spelling.proofs.{Accounts.account_back, Cutting.behind_front}
-use Rattle.review_expr_spelling.proofs.Fronts.{both, label_goes, passed_over, taken_front}
-use Rattle.review_expr_spelling.specs.Cuts.{behind, cut_at}
+use Rattle.review_expr_spelling.proofs.Fronts.{label_goes, passed_over, taken_front}
 use Rattle.review_expr_spelling.specs.Labels.{accounts_in, count_in, user_in, group_in, voters_in, one_part, two_parts, parts_by, parts_in, comparison_part, behind_comma, longest_label, label_in}
-use Rattle.review_expr_spelling.specs.Values.{digits_in, by_front, negative, number_in, vote_in, equal_to, comparison_in}
+use Rattle.review_expr_spelling.specs.Values.{behind, cut_at, digits_in, by_front, negative, number_in, vote_in, equal_to, comparison_in}
 use Rattle.review_expr_printing.proofs.Words.{lacks, bare, bare_quote, bare_comma, cut_lacking, whole_lacking, bare_both, lacks_both, in_numeral, bare_numeral, behind_in, differs, digits_back, front_gives, test_gives, map_gives, none_gives, IsSmallComparison, small_comparison, comparison_again, bare_comparison}
 use Rattle.review_expr_printing.specs.Written.{voters_text, count_text, comparison_text, label_text}
 use Rattle.review_expr_terms.specs.declared.terms.Voters.TheVariants as voters
@@ -44,17 +43,24 @@ accounts_again k h =
     let t : (nat_le 1 k && nat_le k 20) ≡ true = grind (arith, nat_tests, h.0, h.1) in
     rw (digits_back k (omega (arith, h.1)), t) refl
 
-range_of : (b : Bool) (n : ℕ) → (nat_le 1 n && nat_le n 20) ≡ b → (k : ℕ) → cond b (Some n) None ≡ Some k → (1 ≤ k) × (k ≤ 20)
-range_of true n t k e = let same : n ≡ k = cc in subst (λ m. (1 ≤ m) × (m ≤ 20)) same (grind (arith, nat_tests, t), grind (arith, nat_tests, t))
-range_of false n t k e = absurd (cc)
+-- what a reading and a second one of what it gave tell
+pub bind_gives : {A B : Type 0} (P : B → Type 0) (o : Option A) (f : A → Option B) → ((a : A) → o ≡ Some a → (b : B) → f a ≡ Some b → P b) → (b : B) → o >>= f ≡ Some b → P b
+bind_gives P None f h b e = absurd (cc)
+bind_gives P (Some a) f h b e = h a refl b e
 
-accounts_by : (o : Option ℕ) (k : ℕ) → o >>= (λ n. cond (nat_le 1 n && nat_le n 20) (Some n) None) ≡ Some k → (1 ≤ k) × (k ≤ 20)
-accounts_by None k e = absurd (cc)
-accounts_by (Some n) k e = range_of (nat_le 1 n && nat_le n 20) n refl k e
+-- what was read passes its test
+tested : {A : Type 0} (test : A → Bool) (b : Bool) (n : A) → test n ≡ b → (m : A) → cond b (Some n) None ≡ Some m → test m ≡ true
+tested test true n is m e = let same : n ≡ m = cc in subst (λ k. test k ≡ true) same is
+tested test false n is m e = absurd (cc)
+
+kept : {A : Type 0} (test : A → Bool) (o : Option A) (m : A) → o >>= (λ n. cond (test n) (Some n) None) ≡ Some m → test m ≡ true
+kept test o = bind_gives (λ m. test m ≡ true) o (λ n. cond (test n) (Some n) None) (λ n read. tested test (test n) n refl)
 
 asked_accounts : (x : List ℕ) (k : ℕ) → accounts_in x ≡ Some k → (1 ≤ k) × (k ≤ 20)
 unfolding accounts_in
-asked_accounts x k e = accounts_by (digits_in x) k e
+asked_accounts x k e =
+    let t : (nat_le 1 k && nat_le k 20) ≡ true = kept (λ n. nat_le 1 n && nat_le n 20) (digits_in x) k e in
+    (grind (arith, nat_tests, t), grind (arith, nat_tests, t))
 
 pub asked_count : (x : List ℕ) (c : Count) → count_in x ≡ Some c → IsAsked c
 unfolding count_in
@@ -85,21 +91,9 @@ count_again (count.Exactly k) h = ap (option_map count.Exactly) (accounts_again 
 count_again (count.AtLeast k) h = ap (option_map count.AtLeast) (accounts_again k h)
 count_again (count.Above k) h = rw (behind_in 48 61 [] (numeral k) refl (in_numeral k)) (ap (option_map count.Above) (accounts_again k h))
 
-account_by : (b : Bool) (n : ℕ) → is_account_number n ≡ b → (m : ℕ) → cond b (Some n) None ≡ Some m → is_account_number m ≡ true
-account_by true n t m e = let same : n ≡ m = cc in subst (λ k. is_account_number k ≡ true) same t
-account_by false n t m e = absurd (cc)
-
-account_of_number : (o : Option ℕ) (m : ℕ) → o >>= (λ n. cond (is_account_number n) (Some n) None) ≡ Some m → is_account_number m ≡ true
-account_of_number None m e = absurd (cc)
-account_of_number (Some n) m e = account_by (is_account_number n) n refl m e
-
 named_account : (x : List ℕ) (m : ℕ) → account_of x ≡ Some m → is_account_number m ≡ true
 unfolding account_of
-named_account x m e = account_of_number (number_of x) m e
-
-group_by : (b : Bool) (x : List ℕ) → is_word x ≡ b → (g : List ℕ) → cond b (Some x) None ≡ Some g → is_word g ≡ true
-group_by true x t g e = let same : x ≡ g = cc in subst (λ y. is_word y ≡ true) same t
-group_by false x t g e = absurd (cc)
+named_account x = kept is_account_number (number_of x)
 
 named_as : (v w : Voters) → IsNamed v → ◌≡◌ {A = Option Voters} (Some v) (Some w) → IsNamed w
 named_as v w h e = let same : v ≡ w = cc in subst IsNamed same h
@@ -115,13 +109,13 @@ pub named_voters : (x : List ℕ) (v : Voters) → voters_in x ≡ Some v → Is
 unfolding voters_in
 named_voters x =
     front_gives IsNamed _ _ _ named_user
-    (front_gives IsNamed _ _ _ (λ r. map_gives IsNamed voters.Group (group_in r) (group_by (is_word r) r refl))
+    (front_gives IsNamed _ _ _ (λ r. map_gives IsNamed voters.Group (group_in r) (tested is_word (is_word r) r refl))
     (none_gives IsNamed))
 
 bare_plain : (s : List ℕ) → list_all is_plain s ≡ true → bare s ≡ true
 bare_plain [] h = refl
 bare_plain (c ∷ s) h =
-    let p = both (is_plain c) (list_all is_plain s) h in
+    let p = and_parts (is_plain c) (list_all is_plain s) h in
     let q = p.0 in
     let t : (not (c == 34) && not (c == 44)) ≡ true = grind (arith, nat_tests, q) in
     (λ i. t i && bare_plain s p.1 i)
@@ -188,10 +182,7 @@ abbrev pub AreParts : Voters × Option Count → Type 0
 AreParts parts = IsNamed parts.0 × IsAskedIfAny parts.1
 
 parts_as : (p q : Voters × Option Count) → AreParts p → Some p ≡ Some q → AreParts q
-parts_as p q h e = let same : p ≡ q = ap (one_of q) e in subst AreParts same h where
-  one_of : Voters × Option Count → Option (Voters × Option Count) → Voters × Option Count
-  one_of d None = d
-  one_of d (Some x) = x
+parts_as p q h e = subst AreParts (same_Some p q e) h
 
 one_good : (c : Option Count) (x : List ℕ) (p : Voters × Option Count) → count_in x ≡ c → one_part c x ≡ Some p → AreParts p
 one_good (Some asked) x p is e = parts_as (voters.Everyone, Some asked) p (tt, asked_count x asked is) e
@@ -221,11 +212,6 @@ cut_tail s (Some parts) bare =
     (ap (λ x. comparison_part x (s ++ 44 ∷ parts)) cut, ap behind_comma cut)
 
 -- ==== what is read of a text tells that the text has no comma; and a part that says whose votes count is no count
-
--- what a reading and a second one of what it gave tell
-pub bind_gives : {A B : Type 0} (P : B → Type 0) (o : Option A) (f : A → Option B) → ((a : A) → o ≡ Some a → (b : B) → f a ≡ Some b → P b) → (b : B) → o >>= f ≡ Some b → P b
-bind_gives P None f h b e = absurd (cc)
-bind_gives P (Some a) f h b e = h a refl b e
 
 -- what is read behind a front, or otherwise, tells it of the text
 front_by : {A : Type 0} (Q : List ℕ → Type 0) (f x : List ℕ) (read : List ℕ → Option A) (otherwise : Option A) (o : Option (List ℕ)) → behind f x ≡ o
@@ -347,10 +333,6 @@ no_count x =
 
 -- ==== the values of label words, written and read again
 
-and_false : (b : Bool) → b && false ≡ false
-and_false true = refl
-and_false false = refl
-
 -- a byte that stands in no label's name
 abbrev Stops : ℕ → Type 0
 Stops b = (is_ascii_alphabetic b ≡ false) × ((is_ascii_alphanumeric b || b == 45) ≡ false)
@@ -358,17 +340,17 @@ Stops b = (is_ascii_alphabetic b ≡ false) × ((is_ascii_alphanumeric b || b ==
 goes_no_further : (letter : Bool) (s : List ℕ) (b : ℕ) (r : List ℕ) → Stops b → goes_on letter (s ++ b ∷ r) ≡ false
 goes_no_further true [] b r h = ap (λ x. x && goes_on false r) h.0
 goes_no_further false [] b r h = ap (λ x. x && goes_on (b == 45) r) h.1
-goes_no_further true (c ∷ s) b r h = ap (λ x. is_ascii_alphabetic c && x) (goes_no_further false s b r h) ∙ and_false _
-goes_no_further false (c ∷ s) b r h = ap (λ x. (is_ascii_alphanumeric c || c == 45) && x) (goes_no_further (c == 45) s b r h) ∙ and_false _
+goes_no_further true (c ∷ s) b r h = ap (λ x. is_ascii_alphabetic c && x) (goes_no_further false s b r h) ∙ and-false _
+goes_no_further false (c ∷ s) b r h = ap (λ x. (is_ascii_alphanumeric c || c == 45) && x) (goes_no_further (c == 45) s b r h) ∙ and-false _
 
 no_label : (s : List ℕ) → goes_on true s ≡ false → is_label s ≡ false
 unfolding is_label
-no_label s h = ap (λ x. nat_le (length s) 40 && x) h ∙ and_false _
+no_label s h = ap (λ x. nat_le (length s) 40 && x) h ∙ and-false _
 
-label_length : (s : List ℕ) → is_label s ≡ true → (0 < length s) × (length s ≤ 40)
+pub label_length : (s : List ℕ) → is_label s ≡ true → (0 < length s) × (length s ≤ 40)
 unfolding is_label
-label_length [] h = let never : false ≡ true = (both (nat_le 0 40) false h).1 in absurd (cc)
-label_length (c ∷ s) h = (omega arith, let t = (both (nat_le (length (c ∷ s)) 40) (goes_on true (c ∷ s)) h).0 in grind (arith, nat_tests, t))
+label_length [] h = let never : false ≡ true = (and_parts (nat_le 0 40) false h).1 in absurd (cc)
+label_length (c ∷ s) h = (omega arith, let t = (and_parts (nat_le (length (c ∷ s)) 40) (goes_on true (c ∷ s)) h).0 in grind (arith, nat_tests, t))
 
 longest_from : (k : ℕ) (s : List ℕ) (b : ℕ) (r : List ℕ) → is_label s ≡ true → Stops b → longest_label (length s + k) (s ++ b ∷ r) ≡ Some (s, b ∷ r)
 longest_from zero s b r label stops =
@@ -402,12 +384,12 @@ named_front s _ r label = longest_again s 62 _ label (refl, refl)
 bare_goes : (letter : Bool) (s : List ℕ) → goes_on letter s ≡ true → bare s ≡ true
 bare_goes letter [] h = refl
 bare_goes true (c ∷ s) h =
-    let p = both (is_ascii_alphabetic c) (goes_on false s) h in
+    let p = and_parts (is_ascii_alphabetic c) (goes_on false s) h in
     let q = p.0 in
     let t : (not (c == 34) && not (c == 44)) ≡ true = grind (arith, nat_tests, q) in
     (λ i. t i && bare_goes false s p.1 i)
 bare_goes false (c ∷ s) h =
-    let p = both (is_ascii_alphanumeric c || c == 45) (goes_on (c == 45) s) h in
+    let p = and_parts (is_ascii_alphanumeric c || c == 45) (goes_on (c == 45) s) h in
     let q = p.0 in
     let t : (not (c == 34) && not (c == 44)) ≡ true = grind (arith, nat_tests, q) in
     (λ i. t i && bare_goes (c == 45) s p.1 i)
@@ -423,13 +405,13 @@ label_lacks t h =
     (lacks_both 34 (comparison_text t.comparison) _ (bare_quote (comparison_text t.comparison) (bare_comparison t.comparison))
     (lacks_both 34 (voters_text t.voters) _ (voters_lack t.voters h.2) (count_lacks t.count)))
 
-abbrev with_parts : List ℕ → Comparison → Voters × Option Count → Option LabelTerm
+abbrev pub with_parts : List ℕ → Comparison → Voters × Option Count → Option LabelTerm
 with_parts label asked parts = Some (record { label = label; comparison = asked; voters = parts.0; count = parts.1 })
 
-abbrev with_asked : List ℕ → List ℕ → Comparison → Option LabelTerm
+abbrev pub with_asked : List ℕ → List ℕ → Comparison → Option LabelTerm
 with_asked label rest asked = parts_in (behind_comma (cut_at 44 rest)) >>= with_parts label asked
 
-abbrev with_label : List ℕ × List ℕ → Option LabelTerm
+abbrev pub with_label : List ℕ × List ℕ → Option LabelTerm
 with_label halves = comparison_in (comparison_part (cut_at 44 halves.1) halves.1) >>= with_asked halves.0 halves.1
 
 pub label_again : (t : LabelTerm) → IsOfForm t → label_in (label_text t) ≡ Some t
@@ -449,10 +431,7 @@ label_again t h =
 
 label_front_by : (b : Bool) (front rest : List ℕ) (o : Option (List ℕ × List ℕ)) → (b ≡ true → is_label front ≡ true) → ((halves : List ℕ × List ℕ) → o ≡ Some halves → is_label halves.0 ≡ true)
     → (halves : List ℕ × List ℕ) → cond b (Some (front, rest)) o ≡ Some halves → is_label halves.0 ≡ true
-label_front_by true front rest o here below halves e = subst (λ x. is_label x ≡ true) (ap (first_of front) e) (here refl) where
-  first_of : List ℕ → Option (List ℕ × List ℕ) → List ℕ
-  first_of d None = d
-  first_of d (Some x) = x.0
+label_front_by true front rest o here below halves e = subst (λ x. is_label x ≡ true) (ap (λ (h : List ℕ × List ℕ). h.0) (same_Some (front, rest) halves e)) (here refl)
 label_front_by false front rest o here below halves e = below halves e
 
 front_label : (n : ℕ) (x : List ℕ) (halves : List ℕ × List ℕ) → longest_label n x ≡ Some halves → is_label halves.0 ≡ true
@@ -460,7 +439,7 @@ unfolding longest_label
 front_label zero x halves e = none_gives (λ h. is_label h.0 ≡ true) halves e
 front_label (suc n) x halves e =
     label_front_by (nat_le (suc n) (length x) && is_label (take (suc n) x)) (take (suc n) x) (drop (suc n) x) (longest_label n x)
-    (λ t. (both (nat_le (suc n) (length x)) (is_label (take (suc n) x)) t).1) (front_label n x) halves e
+    (λ t. (and_parts (nat_le (suc n) (length x)) (is_label (take (suc n) x)) t).1) (front_label n x) halves e
 
 pub label_of_form : (x : List ℕ) (t : LabelTerm) → label_in x ≡ Some t → IsOfForm t
 unfolding label_in

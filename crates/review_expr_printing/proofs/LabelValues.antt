@@ -1,33 +1,18 @@
 -- The values of label words.
 use Rattle.std.proofs.Common.{◌≡◌, ℕ, zero, suc, ◌+◌, ◌-◌, ◌<◌, ◌≤◌, List, [], ◌∷◌, ◌++◌, length, take, drop, length-append, append_assoc, append-nil, Bool, true, false, cond, Option, None, Some, refl, sym, ap, subst, ◌∙◌, arith, take-append-drop, length-take-le, ◌&&◌, nat_le, option_map, inl, inr, ◌==◌}
-use Rattle.std.proofs.Math.Seq.{take-append_seam, drop-append_seam, take-append-add}
-use Rattle.std.proofs.lemmas.Bool.Decides.{nat_tests}
+use Rattle.std.proofs.Math.{Bool.and-false, Seq.take-append_seam, Seq.drop-append_seam, Seq.take-append-add}
+use Rattle.std.proofs.lemmas.{Bool.and_parts, Bool.Decides.nat_tests, Option.same_Some}
 use Rattle.review_names.specs.{Forms.is_label, Forms.goes_on, Numerals.◌>>=◌}
-use Rattle.review_expr_terms.specs.declared.terms.{Comparison.Comparison, Count.Count, LabelTerm.LabelTerm}
-use Rattle.review_expr_terms.specs.declared.terms.Voters.{Voters}
-use Rattle.review_expr_spelling.proofs.Fronts.{both, taken_front}
-use Rattle.review_expr_spelling.specs.Cuts.{cut_at, with_first}
+use Rattle.review_expr_terms.specs.declared.terms.{Count.Count, LabelTerm.LabelTerm, Voters.Voters}
+use Rattle.review_expr_spelling.proofs.Fronts.{taken_front, skip}
 use Rattle.review_expr_spelling.specs.Labels.{longest_label, count_in, voters_in, one_part, two_parts, parts_by, parts_in, comparison_part, behind_comma, label_in}
-use Rattle.review_expr_spelling.specs.Values.{comparison_in}
-use Rattle.review_expr_printing.proofs.LabelParts.{bind_gives, comparison_bare, count_bare, voters_bare, no_count, tail, cut_tail}
+use Rattle.review_expr_spelling.specs.Values.{cut_at, with_first, comparison_in}
+use Rattle.review_expr_printing.proofs.LabelParts.{bind_gives, label_length, with_parts, with_asked, with_label, comparison_bare, count_bare, voters_bare, no_count, tail, cut_tail}
 use Rattle.review_expr_printing.proofs.Words.{bare_comma, cut_lacking, whole_lacking}
-use Rattle.review_expr_printing.specs.LabelValues.{IsLongestName, AreParts, IsLabelValue, LabelValuesAreSo}
+use Rattle.review_expr_printing.specs.LabelWords.{IsLongestName, AreParts, IsLabelValue, LabelValuesAreSo}
 use Rattle.review_expr_terms.specs.declared.terms.Voters.TheVariants as voters
 
 -- ==== the longest front of a text that is a label's name
-
-and_false : (b : Bool) → b && false ≡ false
-and_false true = refl
-and_false false = refl
-
-name_length : (s : List ℕ) → is_label s ≡ true → (0 < length s) × (length s ≤ 40)
-unfolding is_label
-name_length [] h = let never : false ≡ true = (both (nat_le 0 40) false h).1 in absurd (cc)
-name_length (c ∷ s) h = (omega arith, let t = (both (nat_le (length (c ∷ s)) 40) (goes_on true (c ∷ s)) h).0 in grind (arith, nat_tests, t))
-
-skip : (n : ℕ) (text : List ℕ) → (nat_le (suc n) (length text) && is_label (take (suc n) text)) ≡ false → longest_label (suc n) text ≡ longest_label n text
-unfolding longest_label
-skip n text e = rw e refl
 
 -- a longer front is none
 not_longer : (name rest : List ℕ) (k : ℕ) → IsLongestName name rest
@@ -39,13 +24,13 @@ not_longer name [] k h =
 not_longer name (c ∷ r) k h =
     let front : take (length name + suc k) (name ++ c ∷ r) ≡ name ++ c ∷ take k r = take-append-add name (c ∷ r) (suc k) in
     let none = h.longest c (take k r) (drop k r) (ap (λ x. c ∷ x) (take-append-drop k r)) in
-    ap (λ b. nat_le (length name + suc k) (length (name ++ c ∷ r)) && b) (ap is_label front ∙ none) ∙ and_false _
+    ap (λ b. nat_le (length name + suc k) (length (name ++ c ∷ r)) && b) (ap is_label front ∙ none) ∙ and-false _
 
 found_from : (k : ℕ) (name rest : List ℕ) → IsLongestName name rest → longest_label (length name + k) (name ++ rest) ≡ Some (name, rest)
 found_from zero name rest h =
     let text = name ++ rest in
     let long : length name ≤ length text = omega (arith, length-append name rest) in
-    let sure = name_length name h.is_name in
+    let sure = label_length name h.is_name in
     let none : length name + 0 ≡ length name = omega arith in
     ap (λ n. longest_label n text) none
     ∙ (taken_front (length name) text sure.0 long (ap is_label (take-append_seam name rest) ∙ h.is_name)
@@ -59,7 +44,7 @@ found_from (suc k) name rest h =
 
 pub longest_found : (name rest : List ℕ) → IsLongestName name rest → longest_label 40 (name ++ rest) ≡ Some (name, rest)
 longest_found name rest h =
-    let most = (name_length name h.is_name).1 in
+    let most = (label_length name h.is_name).1 in
     let all : 40 ≡ length name + (40 - length name) = omega arith in
     ap (λ n. longest_label n (name ++ rest)) all ∙ found_from (40 - length name) name rest h
 
@@ -69,20 +54,14 @@ record Found (n : ℕ) (text : List ℕ) (halves : List ℕ × List ℕ) : Type 
   is_name : is_label halves.0 ≡ true
   longest : (m : ℕ) → length halves.0 < m → m ≤ n → m ≤ length text → is_label (take m text) ≡ false
 
-halves_same : {X : Type 0} (x y : X) → Some x ≡ Some y → x ≡ y
-halves_same x y e = ap (or_else x) e where
-  or_else : {X : Type 0} → X → Option X → X
-  or_else d None = d
-  or_else d (Some z) = z
-
 found_by : (b : Bool) (n : ℕ) (text : List ℕ) (halves : List ℕ × List ℕ) → (nat_le (suc n) (length text) && is_label (take (suc n) text)) ≡ b
     → ((x : List ℕ × List ℕ) → longest_label n text ≡ Some x → Found n text x)
     → cond b (Some (take (suc n) text, drop (suc n) text)) (longest_label n text) ≡ Some halves → Found (suc n) text halves
 found_by true n text halves is below e =
-    let t = both (nat_le (suc n) (length text)) (is_label (take (suc n) text)) is in
+    let t = and_parts (nat_le (suc n) (length text)) (is_label (take (suc n) text)) is in
     let fits : suc n ≤ length text = let u = t.0 in grind (arith, nat_tests, u) in
     let long : length (take (suc n) text) ≡ suc n = length-take-le (suc n) text fits in
-    subst (Found (suc n) text) (halves_same _ _ e) (record {
+    subst (Found (suc n) text) (same_Some _ _ e) (record {
       whole = take-append-drop (suc n) text;
       is_name = t.1;
       longest = λ m more most within. absurd (omega (arith, long, more, most));
@@ -233,15 +212,6 @@ parts_told (Some part) who asked e = parts_told_by (cut_at 44 part) part who ask
 rest_by : (o : Option (List ℕ × List ℕ)) (rest : List ℕ) → IsCut 44 rest o → comparison_part o rest ++ tail (behind_comma o) ≡ rest
 rest_by None rest h = append-nil rest
 rest_by (Some halves) rest h = h
-
-abbrev with_parts : List ℕ → Comparison → Voters × Option Count → Option LabelTerm
-with_parts label asked parts = Some (record { label = label; comparison = asked; voters = parts.0; count = parts.1 })
-
-abbrev with_asked : List ℕ → List ℕ → Comparison → Option LabelTerm
-with_asked label rest asked = parts_in (behind_comma (cut_at 44 rest)) >>= with_parts label asked
-
-abbrev with_label : List ℕ × List ℕ → Option LabelTerm
-with_label halves = comparison_in (comparison_part (cut_at 44 halves.1) halves.1) >>= with_asked halves.0 halves.1
 
 read_back : (text : List ℕ) (t : LabelTerm) → IsLabelValue text t → label_in text ≡ Some t
 unfolding label_in

@@ -1,5 +1,6 @@
 -- Trees as members of the grammar, level by level.
 use Rattle.std.proofs.Common.{Bool, true, false, ◌&&◌, ◌≡◌, ◌||◌, ◌∷◌, refl, ap, ap₂, ◌∙◌, ℕ, ◌+◌, ◌≤◌, max, List, [], arith, zero, suc, ◌<◌, ◌++◌, length, drop, get_or, map, sym, append_assoc, add-one, drop-cons}
+use Rattle.std.proofs.lemmas.Bool.{and_parts, and_from}
 use Rattle.review_expr_terms.specs.Grammar.{Join, And, Or, Unary, Members, Leaf, Group, Not, One, Next, Tree, Term, Neg, All, Any, Trees, End, With, trees, many, listed, has_or, has_and, tree_of, trees_of, tree, mixed, any_mixed, is_mixed, depth, all_depth}
 use Rattle.review_expr_terms.specs.{Views.view, declared.tree.Node.Node}
 use Rattle.review_expr_printing.specs.{Printed.member_text, Printed.led_text, inner.Words.left_text}
@@ -49,14 +50,6 @@ abbrev mutual
 
 -- ==== a tree's members have the tree, and no level of them is mixed
 
-and_left : (a b : Bool) → a && b ≡ true → a ≡ true
-and_left true b h = refl
-and_left false b h = h
-
-and_right : (a b : Bool) → a && b ≡ true → b ≡ true
-and_right true b h = h
-and_right false b h = cc
-
 -- members by one sign alone have no other
 no_or : {A : Type 0} → (d : A) (ts : Trees A) → has_or (joined d And ts) ≡ false
 no_or d (With t (With u us)) = no_or d (With u us)
@@ -92,14 +85,14 @@ mutual
   member_tree d (Neg t) h = ap Neg (member_tree d t h)
   member_tree d (All End) h = cc
   member_tree d (All (With t ts)) h =
-      all_tree d t ts (and_left _ _ h) (with_trees d And t ts (member_tree d t (and_left _ _ (and_right _ _ h))) (λ q. joined_trees d ts And (and_right _ _ (and_right _ _ h)) q))
+      all_tree d t ts (and_parts _ _ h).0 (with_trees d And t ts (member_tree d t (and_parts _ _ (and_parts _ _ h).1).0) (λ q. joined_trees d ts And (and_parts _ _ (and_parts _ _ h).1).1 q))
   member_tree d (Any End) h = cc
   member_tree d (Any (With t ts)) h =
-      any_tree d t ts (and_left _ _ h) (with_trees d Or t ts (member_tree d t (and_left _ _ (and_right _ _ h))) (λ q. joined_trees d ts Or (and_right _ _ (and_right _ _ h)) q))
+      any_tree d t ts (and_parts _ _ h).0 (with_trees d Or t ts (member_tree d t (and_parts _ _ (and_parts _ _ h).1).0) (λ q. joined_trees d ts Or (and_parts _ _ (and_parts _ _ h).1).1 q))
 
   joined_trees : {A : Type 0} → (d : A) (ts : Trees A) → (j : Join) → are_full ts ≡ true → is_some_tree ts ≡ true → trees (trees_of (joined d j ts)) ≡ ts
   joined_trees d End j h s = cc
-  joined_trees d (With t ts) j h s = with_trees d j t ts (member_tree d t (and_left _ _ h)) (λ q. joined_trees d ts j (and_right _ _ h) q)
+  joined_trees d (With t ts) j h s = with_trees d j t ts (member_tree d t (and_parts _ _ h).0) (λ q. joined_trees d ts j (and_parts _ _ h).1 q)
 
 pub level_tree : {A : Type 0} → (d : A) (t : Tree A) → is_full t ≡ true → tree (level d t) ≡ t
 level_tree d (Term a) h = refl
@@ -186,9 +179,6 @@ level_depth d (Next u j ms) = omega (arith, level_listed d (has_or (Next u j ms)
 abbrev all_full : {A : Type 0} → List (Tree A) → Bool
 all_full ts = are_full (trees ts)
 
-both : (a b : Bool) → a ≡ true → b ≡ true → a && b ≡ true
-both a b p q = rw (p, q) refl
-
 many_full : {A : Type 0} → (or : Bool) (t u : Tree A) (ts : List (Tree A)) → all_full (t ∷ u ∷ ts) ≡ true → is_full (many or (t ∷ u ∷ ts)) ≡ true
 many_full true t u ts h = h
 many_full false t u ts h = h
@@ -214,8 +204,8 @@ mutual
   unary_full (Not u) = unary_full u
 
   all_are_full : {A : Type 0} → (ms : Members A) → all_full (trees_of ms) ≡ true
-  all_are_full (One u) = both _ _ (unary_full u) refl
-  all_are_full (Next u j ms) = both _ _ (unary_full u) (all_are_full ms)
+  all_are_full (One u) = and_from _ _ (unary_full u) refl
+  all_are_full (Next u j ms) = and_from _ _ (unary_full u) (all_are_full ms)
 
 pub tree_full : {A : Type 0} → (ms : Members A) → is_full (tree ms) ≡ true
 tree_full ms = members_full (has_or ms) ms (all_are_full ms)

@@ -3,12 +3,9 @@ use Rattle.std.proofs.Common.{◌≡◌, List, ◌∷◌, ◌++◌, ℕ, Option,
 use Rattle.review_names.specs.{Forms.is_slashed_name, Forms.is_path, Names.is_word}
 use Rattle.review_expr_terms.specs.{Patterns.is_pattern, Words.NoTerm, Words.Reading, Words.Good, Words.Bad}
 use Rattle.review_expr_terms.specs.declared.terms.{LabelTerm.LabelTerm, RequirementTerm.RequirementTerm}
-use Rattle.review_expr_spelling.proofs.Cutting.{behind_front}
-use Rattle.review_expr_spelling.specs.Cuts.{behind, cut_at, key_and_value, unquoted, with_first}
-use Rattle.review_expr_spelling.specs.Labels.{label_in}
-use Rattle.review_expr_spelling.specs.Readings.{◌>>=◌, in_term, in_value, unless_zero}
-use Rattle.review_expr_spelling.specs.Values.{is_met_by_zero}
-use Rattle.review_expr_spelling.specs.Words.{formed, is_component, keyed, pattern_or, requirement_key, requirement_value, requirement_reading, truth_in}
+use Rattle.review_expr_spelling.{proofs.Cutting.behind_front, specs.Labels.label_in}
+use Rattle.review_expr_spelling.specs.Values.{behind, cut_at, key_and_value, unquoted, with_first, is_met_by_zero}
+use Rattle.review_expr_spelling.specs.Words.{◌>>=◌, in_term, in_value, unless_zero, formed, is_component, keyed, pattern_or, requirement_key, requirement_value, requirement_reading, truth_in}
 use Rattle.review_expr_spelling.specs.declared.keys.RequirementKey.{RequirementKey}
 use Rattle.review_expr_printing.proofs.CopyWords.{value_good, formed_good}
 use Rattle.review_expr_printing.proofs.LabelParts.{label_again, label_of_form, label_lacks}
@@ -46,7 +43,7 @@ record Spelled (t : RequirementTerm) : Type 0 where
   bare : lacks 34 text ≡ true
   gives : requirement_value key text ≡ Good t
 
-abbrev with_key : List ℕ × List ℕ → Reading (RequirementKey × List ℕ)
+abbrev pub with_key : List ℕ × List ℕ → Reading (RequirementKey × List ℕ)
 with_key halves = in_term (requirement_key halves.0) >>= (λ key. Good (key, halves.1))
 
 keyed_word : (key : RequirementKey) (text : List ℕ) → lacks 34 text ≡ true → keyed (word_of (name key) text) ≡ Good (key, text)
@@ -55,7 +52,7 @@ keyed_word key text bare =
     ap (λ o. in_term o >>= with_key) (word_back (name key) text (name_lacks key) bare)
     ∙ ap (λ o. in_term o >>= (λ k. Good (k, text))) (name_back key)
 
-abbrev valued : RequirementKey × List ℕ → Reading RequirementTerm
+abbrev pub valued : RequirementKey × List ℕ → Reading RequirementTerm
 valued halves = requirement_value halves.0 halves.1
 
 read_spelled : (t : RequirementTerm) → Spelled t → requirement_reading (requirement_word t) ≡ Good t

@@ -1,16 +1,16 @@
 -- A word is a label term exactly where it is `label:` and a text that stands for the value of that term.
 use Rattle.std.proofs.Common.{◌≡◌, ℕ, List, [], ◌∷◌, ◌++◌, Bool, true, false, not, cond, Option, None, Some, option_map, refl, sym, ap, ◌∙◌, inl, inr, ◌==◌, arith, ◌&&◌, ◌≢◌, codes, bytes_eq}
+use Rattle.std.proofs.Math.Bool.{and-false}
 use Rattle.std.proofs.lemmas.{Bool.Decides.nat_tests, List.Folds.list_all-append, Slice.Eq.bytes_eq-Decides}
 use Rattle.review_names.specs.{Forms.is_slashed_name, Forms.is_path, Names.is_word}
 use Rattle.review_expr_terms.specs.{Patterns.is_pattern, Words.Reading, Words.Good}
 use Rattle.review_expr_terms.specs.declared.terms.{LabelTerm.LabelTerm, RequirementTerm.RequirementTerm}
-use Rattle.review_expr_spelling.specs.Cuts.{behind, cut_at, closed, key_and_value, unquoted, unquoted_by}
 use Rattle.review_expr_spelling.specs.Labels.{label_in}
-use Rattle.review_expr_spelling.specs.Readings.{◌>>=◌, in_term, in_value, unless_zero}
-use Rattle.review_expr_spelling.specs.Values.{is_met_by_zero}
-use Rattle.review_expr_spelling.specs.Words.{formed, is_component, keyed, pattern_or, requirement_key, requirement_value, requirement_reading, truth_in}
+use Rattle.review_expr_spelling.specs.Values.{behind, cut_at, closed, key_and_value, unquoted, unquoted_by, is_met_by_zero}
+use Rattle.review_expr_spelling.specs.Words.{◌>>=◌, in_term, in_value, unless_zero, formed, is_component, keyed, pattern_or, requirement_key, requirement_value, requirement_reading, truth_in}
 use Rattle.review_expr_spelling.specs.declared.keys.RequirementKey.{RequirementKey}
 use Rattle.review_expr_printing.proofs.LabelValues.{IsCut, cut_is, label_values}
+use Rattle.review_expr_printing.proofs.RequirementWords.{with_key, valued}
 use Rattle.review_expr_printing.proofs.Words.{lacks, cut_lacking, whole_lacking, value_lacks, keep, keep_both}
 use Rattle.review_expr_printing.specs.LabelWords.{StandsFor, IsLabelWord, LabelWordsAreSo}
 use Rattle.review_names.specs.Numerals as Steps
@@ -19,10 +19,7 @@ use Rattle.review_expr_spelling.specs.declared.keys.RequirementKey.TheVariants a
 
 -- a value that lacks quotes, and one that no quote stands in
 quote_within : (before after : List ℕ) → lacks 34 (before ++ 34 ∷ after) ≡ false
-quote_within before after = list_all-append (λ c. not (c == 34)) before (34 ∷ after) ∙ and_false (lacks 34 before) where
-  and_false : (b : Bool) → b && false ≡ false
-  and_false true = refl
-  and_false false = refl
+quote_within before after = list_all-append (λ c. not (c == 34)) before (34 ∷ after) ∙ and-false (lacks 34 before)
 
 quote_free : (value : List ℕ) → lacks 34 value ≡ true → (before after : List ℕ) → before ++ (codes "\"" ++ after) ≢ value
 quote_free value h before after e =
@@ -58,12 +55,6 @@ stands_by text value (Some (c ∷ cs, rest)) cut e = absurd (cc)
 stands : (text value : List ℕ) → unquoted text ≡ Some value → StandsFor text value
 unfolding unquoted
 stands text value e = stands_by text value (cut_at 34 text) (cut_is 34 text) e
-
-abbrev with_key : List ℕ × List ℕ → Reading (RequirementKey × List ℕ)
-with_key halves = in_term (requirement_key halves.0) >>= (λ k. Good (k, halves.1))
-
-abbrev valued : RequirementKey × List ℕ → Reading RequirementTerm
-valued halves = requirement_value halves.0 halves.1
 
 -- from the word to its reading
 word_keyed : (text value : List ℕ) → StandsFor text value → lacks 34 value ≡ true → keyed (codes "label:" ++ text) ≡ Good (key.Label, value)

@@ -1,6 +1,7 @@
 -- Words: what they lack, how they stand in an expression, and how they are written.
-use Rattle.std.proofs.Common.{◌≡◌, ℕ, ◌==◌, List, [], ◌∷◌, ◌++◌, Bool, true, false, not, cond, Option, None, Some, option_map, refl, ap, subst, ◌∙◌, ◌&&◌, codes, ◌||◌, zero, suc, ◌+◌, ◌<◌, ◌≤◌, ℤ, pos, negsuc, map, IfSome, sym, arith, nat_le, bytes_eq}
-use Rattle.std.proofs.lemmas.{Bool.Decides.nat_tests, Int.Digits.all_below_base_digits_of, List.Folds.list_all-append}
+use Rattle.std.proofs.Common.{◌≡◌, ℕ, ◌==◌, List, [], ◌∷◌, ◌++◌, Bool, true, false, not, cond, Option, None, Some, option_map, refl, ap, subst, ◌∙◌, ◌&&◌, codes, zero, suc, ◌+◌, ◌<◌, ◌≤◌, ℤ, pos, negsuc, map, IfSome, sym, arith, nat_le, bytes_eq}
+use Rattle.std.proofs.lemmas.Bool.{or_parts, not-true, false_from_ne_true, and_parts, Decides.nat_tests}
+use Rattle.std.proofs.lemmas.{Int.Digits.all_below_base_digits_of, List.Folds.list_all-append}
 use Rattle.std.proofs.lemmas.Slice.Eq.{bytes_eq-Decides}
 use Rattle.std.specs.List.{list_all, list_any, AllByRecursion}
 use Rattle.review_names.proofs.Numerals.{number_back}
@@ -8,9 +9,8 @@ use Rattle.review_names.specs.Numerals.{◌>>=◌, shown_digits, numeral}
 use Rattle.review_expr_terms.specs.Lexemes.{is_end, runs}
 use Rattle.review_expr_terms.specs.declared.terms.{Comparison.Comparison, VoteValue.VoteValue}
 use Rattle.review_expr_spelling.proofs.Cutting.{same, behind_back}
-use Rattle.review_expr_spelling.proofs.{Digits.digits_small, Digits.up_to_99, Digits.up_some, Fronts.both}
-use Rattle.review_expr_spelling.specs.Cuts.{cut_at, with_first, closed, unquoted_by, unquoted, key_and_value, behind}
-use Rattle.review_expr_spelling.specs.Values.{by_front, digits_in, negative, number_in, vote_in, equal_to, comparison_in}
+use Rattle.review_expr_spelling.proofs.Digits.{digits_small, up_to_99, up_some}
+use Rattle.review_expr_spelling.specs.Values.{cut_at, with_first, closed, unquoted_by, unquoted, key_and_value, behind, by_front, digits_in, negative, number_in, vote_in, equal_to, comparison_in}
 use Rattle.review_expr_printing.specs.Written.{quoted, word_of, number_text, vote_text, comparison_text}
 use Rattle.std.specs.Int.Digits as Digits
 use Rattle.review_expr_terms.specs.declared.terms.VoteValue.TheVariants as value
@@ -21,23 +21,19 @@ use Rattle.review_expr_terms.specs.declared.terms.Comparison.TheVariants as comp
 abbrev pub lacks : ℕ → List ℕ → Bool
 lacks b = list_all (λ c. not (c == b))
 
-not_false : (x : Bool) → not x ≡ true → x ≡ false
-not_false true e = absurd (cc)
-not_false false e = refl
-
 pub cut_lacking : (b : ℕ) (xs ys : List ℕ) → lacks b xs ≡ true → cut_at b (xs ++ b ∷ ys) ≡ Some (xs, ys)
 unfolding cut_at
 cut_lacking b [] ys h = rw (same b) refl
 cut_lacking b (c ∷ xs) ys h =
-    let p = both (not (c == b)) (lacks b xs) h in
-    rw (not_false (c == b) p.0) (ap (option_map (with_first c)) (cut_lacking b xs ys p.1))
+    let p = and_parts (not (c == b)) (lacks b xs) h in
+    rw (not-true (c == b) p.0) (ap (option_map (with_first c)) (cut_lacking b xs ys p.1))
 
 pub whole_lacking : (b : ℕ) (s : List ℕ) → lacks b s ≡ true → cut_at b s ≡ None
 unfolding cut_at
 whole_lacking b [] h = refl
 whole_lacking b (c ∷ s) h =
-    let p = both (not (c == b)) (lacks b s) h in
-    rw (not_false (c == b) p.0) (ap (option_map (with_first c)) (whole_lacking b s p.1))
+    let p = and_parts (not (c == b)) (lacks b s) h in
+    rw (not-true (c == b) p.0) (ap (option_map (with_first c)) (whole_lacking b s p.1))
 
 -- what is cut off in front lacks the byte
 abbrev LacksFront : ℕ → List ℕ → Option (List ℕ × List ℕ) → Type 0
@@ -118,37 +114,33 @@ lacks_both b xs ys p q = list_all-append _ xs ys ∙ (λ i. p i && q i)
 pub bare_quote : (s : List ℕ) → bare s ≡ true → lacks 34 s ≡ true
 bare_quote [] h = refl
 bare_quote (c ∷ s) h =
-    let p = both (not (c == 34) && not (c == 44)) (bare s) h in
-    let q = both (not (c == 34)) (not (c == 44)) p.0 in
+    let p = and_parts (not (c == 34) && not (c == 44)) (bare s) h in
+    let q = and_parts (not (c == 34)) (not (c == 44)) p.0 in
     (λ i. q.0 i && bare_quote s p.1 i)
 
 pub bare_comma : (s : List ℕ) → bare s ≡ true → lacks 44 s ≡ true
 bare_comma [] h = refl
 bare_comma (c ∷ s) h =
-    let p = both (not (c == 34) && not (c == 44)) (bare s) h in
-    let q = both (not (c == 34)) (not (c == 44)) p.0 in
+    let p = and_parts (not (c == 34) && not (c == 44)) (bare s) h in
+    let q = and_parts (not (c == 34)) (not (c == 44)) p.0 in
     (λ i. q.1 i && bare_comma s p.1 i)
 
 -- ==== written words stand as one word in an expression; and words with a minus in front are no terms
-
-neither : (a b : Bool) → a || b ≡ false → (a ≡ false) × (b ≡ false)
-neither false b e = (refl, e)
-neither true b e = absurd (cc)
 
 -- within quotes anything runs on to the closing quote
 within : (s : List ℕ) → lacks 34 s ≡ true → runs true (s ++ codes "\"") ≡ true
 within [] h = refl
 within (c ∷ s) h =
-    let p = both (not (c == 34)) (lacks 34 s) h in
-    ap (λ b. runs (not b) (s ++ codes "\"")) (not_false (c == 34) p.0) ∙ within s p.1
+    let p = and_parts (not (c == 34)) (lacks 34 s) h in
+    ap (λ b. runs (not b) (s ++ codes "\"")) (not-true (c == 34) p.0) ∙ within s p.1
 
 -- without white space, parentheses and quotes a text runs on
 plainly : (s : List ℕ) → lacks 34 s ≡ true → list_any is_end s ≡ false → runs false s ≡ true
 plainly [] h free = refl
 plainly (c ∷ s) h free =
-    let p = both (not (c == 34)) (lacks 34 s) h in
-    let q = neither (is_end c) (list_any is_end s) free in
-    ap (λ b. not b && runs (c == 34) s) q.0 ∙ (ap (λ b. runs b s) (not_false (c == 34) p.0) ∙ plainly s p.1 q.1)
+    let p = and_parts (not (c == 34)) (lacks 34 s) h in
+    let q = or_parts (is_end c) (list_any is_end s) free in
+    ap (λ b. not b && runs (c == 34) s) q.0 ∙ (ap (λ b. runs b s) (not-true (c == 34) p.0) ∙ plainly s p.1 q.1)
 
 quoted_by : (b : Bool) (s : List ℕ) → list_any is_end s ≡ b → lacks 34 s ≡ true → runs false (cond b (codes "\"" ++ (s ++ codes "\"")) s) ≡ true
 quoted_by true s free h = within s h
@@ -181,7 +173,7 @@ in_numeral n = in_shown (Digits.digits_of 10 n) (all_below_base_digits_of 10 n (
 
 wider : (s : List ℕ) → all_in 48 s ≡ true → all_in 45 s ≡ true
 wider [] h = refl
-wider (c ∷ s) h = let p = both (is_in 48 c) (all_in 48 s) h in let q = p.0 in let t : is_in 45 c ≡ true = grind (arith, nat_tests, q) in (λ i. t i && wider s p.1 i)
+wider (c ∷ s) h = let p = and_parts (is_in 48 c) (all_in 48 s) h in let q = p.0 in let t : is_in 45 c ≡ true = grind (arith, nat_tests, q) in (λ i. t i && wider s p.1 i)
 
 in_number : (z : ℤ) → all_in 45 (number_text z) ≡ true
 unfolding number_text
@@ -191,7 +183,7 @@ in_number (negsuc n) = wider (numeral (suc n)) (in_numeral (suc n))
 pub bare_in : (s : List ℕ) → all_in 45 s ≡ true → bare s ≡ true
 bare_in [] h = refl
 bare_in (c ∷ s) h =
-    let p = both (is_in 45 c) (all_in 45 s) h in
+    let p = and_parts (is_in 45 c) (all_in 45 s) h in
     let q = p.0 in
     let t : (not (c == 34) && not (c == 44)) ≡ true = grind (arith, nat_tests, q) in
     (λ i. t i && bare_in s p.1 i)
@@ -204,19 +196,15 @@ pub behind_in : (low f : ℕ) (fs s : List ℕ) → is_in low f ≡ false → al
 unfolding behind
 behind_in low f fs [] e h = refl
 behind_in low f fs (c ∷ s) e h =
-    let p = (both (is_in low c) (all_in low s) h).0 in
+    let p = (and_parts (is_in low c) (all_in low s) h).0 in
     let t : (f == c) ≡ false = grind (arith, nat_tests, p, e) in
     rw t refl
 
-not_true : (b : Bool) → (b ≡ true → ⊥) → b ≡ false
-not_true true h = absurd (h refl)
-not_true false h = refl
-
 -- and is no word that does
 pub differs : (low c : ℕ) (cs s : List ℕ) → is_in low c ≡ false → all_in low s ≡ true → bytes_eq s (c ∷ cs) ≡ false
-differs low c cs s e h = not_true (bytes_eq s (c ∷ cs)) (λ t.
+differs low c cs s e h = false_from_ne_true (bytes_eq s (c ∷ cs)) (λ t.
     let same : all_in low (c ∷ cs) ≡ true = subst (λ x. all_in low x ≡ true) ((bytes_eq-Decides s (c ∷ cs)).0 t) h in
-    let p = (both (is_in low c) (all_in low cs) same).0 in
+    let p = (and_parts (is_in low c) (all_in low cs) same).0 in
     let never : false ≡ true = sym e ∙ p in
     cc)
 

@@ -1,6 +1,9 @@
--- How an expression is written, where a term's word is known.
+-- How an expression is written, and the text that it is printed as.
 use Rattle.std.specs.Prelude.{[], ℕ, List, ◌++◌, codes}
 use Rattle.review_expr_terms.specs.Grammar.{Tree, Term, Neg, All, Any, Trees, End, With}
+use Rattle.{review_expr_terms.specs.Views.view, review_expr.specs.declared.expr.Expr.Expr}
+use Rattle.review_expr_printing.specs.Written.{requirement_word, copy_word}
+use Rattle.review_expr.specs.declared.expr.Expr.TheVariants as expr
 
 -- a tree as a member: a list stands in parentheses
 abbrev mutual
@@ -26,3 +29,8 @@ printed word (Term a) = word a
 printed word (Neg t) = member_text word (Neg t)
 printed word (All ts) = joined_text word (codes " AND ") ts
 printed word (Any ts) = joined_text word (codes " OR ") ts
+
+-- the text of an expression
+abbrev pub expr_text : Expr → List ℕ
+expr_text (expr.Requirement e) = printed requirement_word (view e.node)
+expr_text (expr.Copy e) = printed copy_word (view e.node)

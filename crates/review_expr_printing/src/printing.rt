@@ -1,6 +1,6 @@
 //! Expressions printed.
 ghost use Rattle.std.specs.Prelude.{◌≡◌, ◌≤◌, IfOk, length, string_bytes};
-ghost use Rattle.{review_expr.specs.Exprs.IsTextOf, review_expr_printing.specs.Texts.expr_text};
+ghost use Rattle.{review_expr.specs.Exprs.IsTextOf, review_expr_printing.specs.Printed.expr_text};
 
 use crate::printer::print_expression;
 use review_expr::Expr;

@@ -1,6 +1,6 @@
 -- Texts that are the numbers of accounts.
-use Rattle.std.proofs.Common.{◌≡◌, ℕ, ◌≤◌, List, Bool, true, false, cond, Option, None, Some, refl, sym, ap, ◌∙◌, arith}
-use Rattle.std.proofs.lemmas.Bool.Decides.{nat_tests}
+use Rattle.std.proofs.Common.{◌≡◌, ℕ, ◌≤◌, List, true, false, cond, Option, None, Some, refl, sym, ap, ◌∙◌, arith}
+use Rattle.std.proofs.lemmas.Bool.{false_from_ne_true, Decides.nat_tests}
 use Rattle.review_names.{proofs.Numerals.number_back, proofs.Numerals.number_shown, specs.Names.is_account_number}
 use Rattle.review_names.specs.Numerals.{numeral, account_of, number_of, ◌>>=◌}
 
@@ -24,10 +24,6 @@ none_by : (o : Option ℕ) → ((n : ℕ) → o ≡ Some n → is_account_number
 none_by None h = refl
 none_by (Some n) h = ap (λ b. cond b (Some n) None) (h n refl)
 
-not_true : (b : Bool) → (b ≡ true → ⊥) → b ≡ false
-not_true true h = absurd (h refl)
-not_true false h = refl
-
 pub account_no : (text : List ℕ) → ((n : ℕ) → is_account_number n ≡ true → numeral n ≡ text → ⊥) → account_of text ≡ None
 unfolding account_of
-account_no text h = none_by (number_of text) (λ n read. not_true (is_account_number n) (λ e. h n e (number_shown n text read)))
+account_no text h = none_by (number_of text) (λ n read. false_from_ne_true (is_account_number n) (λ e. h n e (number_shown n text read)))

@@ -2,7 +2,7 @@
 use Rattle.std.proofs.Common.{◌≡◌, ◌≢◌, ℕ, suc, ◌<◌, ◌==◌, List, [], ◌∷◌, ◌++◌, length, drop, get_or, Bool, true, false, cond, Option, None, Some, option_map, MatchOption, Bor, refl, sym, ap, ◌∙◌, arith}
 use Rattle.std.proofs.lemmas.{Bool.Decides.nat_tests, Str.Pattern.IsSplitOnceResult, Str.Pattern.split_parts}
 use Rattle.std.specs.Str.Pattern.{FindsTextPrefix, StripsPrefix}
-use Rattle.review_expr_spelling.specs.Cuts.{behind, cut_at, with_first}
+use Rattle.review_expr_spelling.specs.Values.{behind, cut_at, with_first}
 
 pub same : (c : ℕ) → (c == c) ≡ true
 same c = grind (arith, nat_tests)

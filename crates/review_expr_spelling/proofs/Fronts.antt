@@ -1,31 +1,22 @@
 -- Fronts of texts that are names of labels.
 use Rattle.std.proofs.Common.{◌≡◌, ℕ, zero, suc, ◌-◌, ◌<◌, ◌≤◌, ◌==◌, List, [], ◌∷◌, length, take, drop, get_or, Bool, true, false, Option, None, Some, refl, sym, ap, subst, ◌∙◌, arith, add-one}
-use Rattle.std.proofs.lemmas.{Bool.Decides.nat_tests, List.length-take, List.get_or-take}
-use Rattle.std.proofs.lemmas.Str.{IsCharBoundary-after_ascii}
+use Rattle.std.proofs.{Math.Bool.and-false, lemmas.Bool.and_parts, lemmas.Bool.Decides.nat_tests}
+use Rattle.std.proofs.lemmas.{List.length-take, List.get_or-take, Str.IsCharBoundary-after_ascii}
 use Rattle.std.specs.Char.{is_ascii_alphabetic, is_ascii_alphanumeric}
 use Rattle.std.specs.{Prelude.◌&&◌, Prelude.◌||◌, Prelude.nat_le, Str.IsUtf8, Str.IsCharBoundary}
 use Rattle.review_names.specs.Forms.{is_label, goes_on}
 use Rattle.review_expr_spelling.specs.Labels.{longest_label}
 
-pub both : (a b : Bool) → a && b ≡ true → (a ≡ true) × (b ≡ true)
-both true true e = (refl, refl)
-both true false e = absurd (cc)
-both false b e = absurd (cc)
-
-and_false : (b : Bool) → b && false ≡ false
-and_false true = refl
-and_false false = refl
-
 pub goes_ascii : (letter : Bool) (s : List ℕ) → goes_on letter s ≡ true → (i : ℕ) → i < length s → get_or s i 0 < 128
 goes_ascii letter [] e i lt = absurd (omega arith)
-goes_ascii true (c ∷ cs) e zero lt = let t : is_ascii_alphabetic c ≡ true = (both (is_ascii_alphabetic c) (goes_on false cs) e).0 in grind (arith, nat_tests, t)
-goes_ascii true (c ∷ cs) e (suc i) lt = goes_ascii false cs (both (is_ascii_alphabetic c) (goes_on false cs) e).1 i (omega arith)
-goes_ascii false (c ∷ cs) e zero lt = let t : is_ascii_alphanumeric c || c == 45 ≡ true = (both (is_ascii_alphanumeric c || c == 45) (goes_on (c == 45) cs) e).0 in grind (arith, nat_tests, t)
-goes_ascii false (c ∷ cs) e (suc i) lt = goes_ascii (c == 45) cs (both (is_ascii_alphanumeric c || c == 45) (goes_on (c == 45) cs) e).1 i (omega arith)
+goes_ascii true (c ∷ cs) e zero lt = let t : is_ascii_alphabetic c ≡ true = (and_parts (is_ascii_alphabetic c) (goes_on false cs) e).0 in grind (arith, nat_tests, t)
+goes_ascii true (c ∷ cs) e (suc i) lt = goes_ascii false cs (and_parts (is_ascii_alphabetic c) (goes_on false cs) e).1 i (omega arith)
+goes_ascii false (c ∷ cs) e zero lt = let t : is_ascii_alphanumeric c || c == 45 ≡ true = (and_parts (is_ascii_alphanumeric c || c == 45) (goes_on (c == 45) cs) e).0 in grind (arith, nat_tests, t)
+goes_ascii false (c ∷ cs) e (suc i) lt = goes_ascii (c == 45) cs (and_parts (is_ascii_alphanumeric c || c == 45) (goes_on (c == 45) cs) e).1 i (omega arith)
 
 pub label_goes : (s : List ℕ) → is_label s ≡ true → goes_on true s ≡ true
 unfolding is_label
-label_goes s e = (both (nat_le (length s) 40) (goes_on true s) e).1
+label_goes s e = (and_parts (nat_le (length s) 40) (goes_on true s) e).1
 
 -- a front that is a label's name ends where the text may be cut
 front_byte : (text : List ℕ) (n : ℕ) → suc n ≤ length text → is_label (take (suc n) text) ≡ true → get_or text n 0 < 128
@@ -38,7 +29,7 @@ front_end : (text : List ℕ) (n : ℕ) → IsUtf8 text → suc n ≤ length tex
 front_end text n utf8 fits e =
     subst (IsCharBoundary text) (add-one n) (IsCharBoundary-after_ascii text n utf8 (omega arith) (front_byte text n fits e))
 
-skip : (n : ℕ) (text : List ℕ) → (nat_le (suc n) (length text) && is_label (take (suc n) text)) ≡ false → longest_label (suc n) text ≡ longest_label n text
+pub skip : (n : ℕ) (text : List ℕ) → (nat_le (suc n) (length text) && is_label (take (suc n) text)) ≡ false → longest_label (suc n) text ≡ longest_label n text
 unfolding longest_label
 skip n text e = rw e refl
 
@@ -47,7 +38,7 @@ pub passed_over : (n : ℕ) (text : List ℕ) → 0 < n → is_label (take n tex
 passed_over zero text some e = absurd (omega arith)
 passed_over (suc n) text some e =
     let less : suc n - 1 ≡ n = omega arith in
-    skip n text (ap (λ b. nat_le (suc n) (length text) && b) e ∙ and_false _) ∙ ap (λ m. longest_label m text) (sym less)
+    skip n text (ap (λ b. nat_le (suc n) (length text) && b) e ∙ and-false _) ∙ ap (λ m. longest_label m text) (sym less)
 
 no_front : (b x : Bool) → (b ≡ true → x ≡ true → ⊥) → b && x ≡ false
 no_front true true h = absurd (h refl refl)

@@ -3,8 +3,7 @@ use Rattle.std.specs.Prelude.{ℕ, zero, suc, List, ◌&&◌, nat_le, if◌then�
 use Rattle.std.specs.Str.{bytes_eq}
 use Rattle.review_names.specs.{Forms.is_label, Names.is_word, Numerals.◌>>=◌, Numerals.account_of}
 use Rattle.review_expr_terms.specs.declared.terms.{Count.Count, LabelTerm.LabelTerm, Voters.Voters}
-use Rattle.review_expr_spelling.specs.Cuts.{behind, cut_at}
-use Rattle.review_expr_spelling.specs.Values.{by_front, comparison_in, digits_in}
+use Rattle.review_expr_spelling.specs.Values.{behind, cut_at, by_front, comparison_in, digits_in}
 use Rattle.review_expr_terms.specs.declared.terms.Voters.TheVariants as voters
 use Rattle.review_expr_terms.specs.declared.terms.Count.TheVariants as count
 

@@ -1,19 +1,46 @@
--- What a word is read as.
-use Rattle.std.specs.Prelude.{ℕ, List, ◌&&◌, Bool, true, false, if◌then◌else◌, codes, Option, Some, None, option_map, IsSomeAnd}
+-- What a word is read as: readings one after the other.
+use Rattle.std.specs.Prelude.{◌≡◌, Option, Some, None, Bool, if◌then◌else◌, ℕ, List, ◌&&◌, true, false, codes, option_map, IsSomeAnd}
 use Rattle.std.specs.Str.{bytes_eq}
 use Rattle.review_names.specs.{Forms.is_slashed_name, Forms.is_path, Kinds.kind_named, Names.is_word}
 use Rattle.review_expr_terms.specs.Patterns.{is_pattern, IsDeepPattern, IsEnginePattern}
-use Rattle.review_expr_terms.specs.Words.{Reading, Good, Bad}
+use Rattle.review_expr_terms.specs.Words.{NoTerm, NoValue, Zero, Reading, Good, Bad}
 use Rattle.review_expr_terms.specs.declared.terms.{CopyTerm.CopyTerm, RequirementTerm.RequirementTerm}
-use Rattle.review_expr_spelling.specs.{Cuts.behind, Cuts.cut_at, Cuts.key_and_value, Labels.label_in}
-use Rattle.review_expr_spelling.specs.Readings.{◌>>=◌, in_term, in_value, unless_zero}
-use Rattle.review_expr_spelling.specs.Values.{vote_in, is_met_by_zero}
+use Rattle.{review_expr_terms.specs.declared.word.WordFault.WordFault, review_expr_spelling.specs.Labels.label_in}
+use Rattle.review_expr_spelling.specs.Values.{behind, cut_at, key_and_value, vote_in, is_met_by_zero}
 use Rattle.review_expr_spelling.specs.declared.keys.{CopyKey.CopyKey, RequirementKey.RequirementKey}
+use Rattle.review_expr_terms.specs.declared.word.WordFault.TheVariants as fault
 use Rattle.review_expr_terms.specs.declared.terms.Comparison.TheVariants as comparison
 use Rattle.review_expr_terms.specs.declared.terms.RequirementTerm.TheVariants as requirement
 use Rattle.review_expr_terms.specs.declared.terms.CopyTerm.TheVariants as copy
 use Rattle.review_expr_spelling.specs.declared.keys.RequirementKey.TheVariants as of_requirement
 use Rattle.review_expr_spelling.specs.declared.keys.CopyKey.TheVariants as of_copy
+
+-- a reading, and a second one of what the first gave; a flaw of the first is that of the whole
+infixl 10 ◌>>=◌
+-- a reading, and what is read further where it is good
+abbrev pub ◌>>=◌ : {A B : Type 0} → Reading A → (A → Reading B) → Reading B
+(Good x) >>= f = f x
+(Bad flaw) >>= f = Bad flaw
+
+-- a part without which there is no term
+abbrev pub in_term : {A : Type 0} → Option A → Reading A
+in_term (Some x) = Good x
+in_term None = Bad NoTerm
+
+-- a part without which there is no value
+abbrev pub in_value : {A : Type 0} → Option A → Reading A
+in_value (Some x) = Good x
+in_value None = Bad NoValue
+
+-- a term that is wanted only where a comparison is not met by 0
+abbrev pub unless_zero : {A : Type 0} → Bool → A → Reading A
+unless_zero met term = if met then Bad Zero else Good term
+
+-- The fault may be given for a value that is read so: it is none, or memory ran out.
+abbrev pub IsUnread : {A : Type 0} → Option A → WordFault → Type 0
+IsUnread read fault.BadValue = read ≡ None
+IsUnread read fault.Memory = Unit {0}
+IsUnread read _ = ⊥
 
 -- a text that is of a form
 abbrev pub formed : (List ℕ → Bool) → List ℕ → Option (List ℕ)

@@ -1,6 +1,6 @@
 //! Parts of a word.
 ghost use Rattle.std.specs.Prelude.{◌≡◌, ◌<◌, option_map, Some};
-ghost use Rattle.review_expr_spelling.specs.Cuts.{behind, cut_at, key_and_value, unquoted};
+ghost use Rattle.review_expr_spelling.specs.Values.{behind, cut_at, key_and_value, unquoted};
 
 /// What follows a front, where the text begins with it.
 pub fn behind<'a>(text: &'a str, front: &str) -> Option<&'a str>
@@ -18,7 +18,7 @@ pub fn cut_at(text: &str, mark: char) -> Option<(&str, &str)>
 }
 
 /// A value without its quotes, which stand round the whole of it if there are any.
-#[tactic(auto, unfolding(crate::specs::Cuts::unquoted))]
+#[tactic(auto, unfolding(crate::specs::Values::unquoted))]
 fn unquoted(text: &str) -> Option<&str>
     ensures { option_map (λ x. x.now) result ≡ unquoted text.now }
 {
@@ -33,7 +33,7 @@ fn unquoted(text: &str) -> Option<&str>
 }
 
 /// The key and the value of a word.
-#[tactic(auto, unfolding(crate::specs::Cuts::key_and_value))]
+#[tactic(auto, unfolding(crate::specs::Values::key_and_value))]
 pub fn key_and_value(word: &str) -> Option<(&str, &str)>
     ensures { option_map (λ x. (x.0.now, x.1.now)) result ≡ key_and_value word.now }
 {

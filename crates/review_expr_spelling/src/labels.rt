@@ -2,7 +2,7 @@
 ghost use Rattle.std.specs.Prelude.{◌≡◌, ◌<◌, ◌-◌, true, IfOk, IfErr, IfNone, IfSome, Some, option_map};
 ghost use Rattle.review_names.specs.{Forms.is_label, Numerals.account_of};
 ghost use Rattle.review_expr_spelling.specs.Labels.{accounts_in, count_in, label_in, longest_label, one_part, parts_in, two_parts, user_in, voters_in};
-ghost use Rattle.review_expr_spelling.specs.{Readings.IsUnread, inner.Words.text_behind};
+ghost use Rattle.review_expr_spelling.specs.{Words.IsUnread, inner.Words.text_behind};
 
 use crate::cuts::{behind, cut_at};
 use crate::names::read_name;

@@ -2,7 +2,7 @@
 ghost use Rattle.std.specs.Prelude.{◌≡◌, IfOk, IfErr, Some};
 ghost use Rattle.review_expr_terms.specs.Patterns.{is_pattern, IsDeepPattern, IsEnginePattern};
 ghost use Rattle.review_expr_terms.specs.Words.{IsWordFault};
-ghost use Rattle.review_expr_spelling.specs.{Readings.in_value, Readings.IsUnread, Words.formed};
+ghost use Rattle.review_expr_spelling.specs.Words.{in_value, IsUnread, formed};
 
 use review_expr_terms::{Pattern, PatternFault, WordFault};
 use review_names::{BadName, Form, Name};

@@ -1,8 +1,7 @@
 //! Values that stand in words: numbers, votes, kinds of change.
 ghost use Rattle.std.specs.Prelude.{◌≡◌, ◌≤◌, ◌∷◌, [], ℕ, None, codes, option_map, pos, IfSome};
 ghost use Rattle.review_expr_terms.specs.declared.terms.Comparison.TheVariants.{AtMost, Below};
-ghost use Rattle.review_expr_spelling.specs.Cuts.{behind};
-ghost use Rattle.review_expr_spelling.specs.Values.{by_front, comparison_in, digits_in, equal_to, is_met_by_zero, negative, number_in, vote_in};
+ghost use Rattle.review_expr_spelling.specs.Values.{behind, by_front, comparison_in, digits_in, equal_to, is_met_by_zero, negative, number_in, vote_in};
 
 use crate::cuts::behind;
 use review_expr_terms::{Comparison, VoteValue};

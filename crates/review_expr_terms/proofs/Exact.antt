@@ -1,6 +1,6 @@
 -- Scanning gives exactly the lexemes of which the text is made.
-use Rattle.std.proofs.Common.{◌≡◌, ℕ, ◌+◌, Bool, true, false, not, ◌&&◌, ◌||◌, ◌==◌, List, [], ◌∷◌, ◌++◌, length, Option, Some, None, IfSome, IsTrue, refl, sym, ap, ap₂, ◌∙◌, subst, arith, append_assoc}
-use Rattle.std.proofs.lemmas.{Bool.Decides.nat_tests, List.append-nil}
+use Rattle.std.proofs.Common.{◌≡◌, ℕ, ◌+◌, Bool, true, false, not, ◌||◌, ◌==◌, List, [], ◌∷◌, ◌++◌, length, Option, Some, None, IfSome, IsTrue, refl, sym, ap, ap₂, ◌∙◌, subst, arith, append_assoc}
+use Rattle.std.proofs.lemmas.{Bool.or_parts, Bool.not-true, Bool.and_parts, Bool.Decides.nat_tests, List.append-nil}
 use Rattle.review_expr_terms.specs.Lexemes.{Lexeme, Word, Open, Close, is_blank, is_end, runs, all_blank, ends, IsCut}
 use Rattle.review_expr_terms.specs.inner.Scan.{Mode, Between, Within, begins, begins_by, step_by, step, finish, put, scan}
 
@@ -98,41 +98,21 @@ pub put_put : (a b : List Lexeme) (r : Option (List Lexeme)) → put (a ++ b) r 
 put_put a b None = refl
 put_put a b (Some ls) = ap Some (append_assoc a b ls)
 
-and_left : (a b : Bool) → a && b ≡ true → a ≡ true
-and_left true b h = refl
-and_left false b h = h
-
-and_right : (a b : Bool) → a && b ≡ true → b ≡ true
-and_right true b h = h
-and_right false b h = cc
-
-not_true : (a : Bool) → not a ≡ true → a ≡ false
-not_true true h = sym h
-not_true false h = refl
-
 begins_blank : (at c : ℕ) → is_blank c ≡ true → begins at c ≡ ([], Between)
 begins_blank at c e = ap (λ b. begins_by b (c == 40) (c == 41) at c) e
 
-or_false_left : (a b : Bool) → a || b ≡ false → a ≡ false
-or_false_left true b h = h
-or_false_left false b h = refl
-
-or_false_right : (a b : Bool) → a || b ≡ false → b ≡ false
-or_false_right true b h = cc
-or_false_right false b h = h
-
 begins_word : (at c : ℕ) → is_end c ≡ false → begins at c ≡ ([], Within at (c ∷ []) (c == 34))
 begins_word at c e =
-    let first = or_false_left (is_blank c || c == 40) (c == 41) e in
-    ap (λ b. begins_by b (c == 40) (c == 41) at c) (or_false_left (is_blank c) (c == 40) first)
-    ∙ ap (λ b. begins_by false b (c == 41) at c) (or_false_right (is_blank c) (c == 40) first)
-    ∙ ap (λ b. begins_by false false b at c) (or_false_right (is_blank c || c == 40) (c == 41) e)
+    let first = (or_parts (is_blank c || c == 40) (c == 41) e).0 in
+    ap (λ b. begins_by b (c == 40) (c == 41) at c) (or_parts (is_blank c) (c == 40) first).0
+    ∙ ap (λ b. begins_by false b (c == 41) at c) (or_parts (is_blank c) (c == 40) first).1
+    ∙ ap (λ b. begins_by false false b at c) (or_parts (is_blank c || c == 40) (c == 41) e).1
 
 scan_blank : (blank text : List ℕ) (at : ℕ) → IsTrue (all_blank blank) → scan Between at (blank ++ text) ≡ scan Between (at + length blank) text
 scan_blank [] text at h = ap (λ n. scan Between n text) (omega arith)
 scan_blank (c ∷ cs) text at h =
-    ap (λ (x : List Lexeme × Mode). put x.0 (scan x.1 (at + 1) (cs ++ text))) (begins_blank at c (and_left _ _ h))
-    ∙ put_none _ ∙ scan_blank cs text (at + 1) (and_right _ _ h) ∙ ap (λ n. scan Between n text) (omega arith)
+    ap (λ (x : List Lexeme × Mode). put x.0 (scan x.1 (at + 1) (cs ++ text))) (begins_blank at c (and_parts _ _ h).0)
+    ∙ put_none _ ∙ scan_blank cs text (at + 1) (and_parts _ _ h).1 ∙ ap (λ n. scan Between n text) (omega arith)
 
 word_on : (m : Mode) (at c : ℕ) (cs rest : List ℕ) (place : ℕ) (w : List ℕ) (next : Bool) →
     step m at c ≡ ([], Within place (w ++ c ∷ []) next) →
@@ -153,8 +133,8 @@ scan_word [] (c ∷ cs) place w false at h e =
 scan_word (c ∷ cs) rest place w true at h e =
     word_on (Within place w true) at c cs rest place w (not (c == 34)) refl (scan_word cs rest place (w ++ c ∷ []) (not (c == 34)) (at + 1) h e)
 scan_word (c ∷ cs) rest place w false at h e =
-    word_on (Within place w false) at c cs rest place w (c == 34) (ap (λ b. step_by b place w at c) (not_true _ (and_left _ _ h)))
-    (scan_word cs rest place (w ++ c ∷ []) (c == 34) (at + 1) (and_right _ _ h) e)
+    word_on (Within place w false) at c cs rest place w (c == 34) (ap (λ b. step_by b place w at c) (not-true _ (and_parts _ _ h).0))
+    (scan_word cs rest place (w ++ c ∷ []) (c == 34) (at + 1) (and_parts _ _ h).1 e)
 
 pub scan_again : (ls : List Lexeme) (at : ℕ) (text : List ℕ) → IsCut at ls text → scan Between at text ≡ Some ls
 scan_again [] at text h = ap (scan Between at) (sym (append-nil text)) ∙ scan_blank text [] at h
@@ -169,7 +149,7 @@ scan_again (Word place w ∷ ls) at text h =
     let t = h.9 ∙ ap (λ xs. h.0 ++ (xs ++ h.3)) h.5 in
     let n = at + length h.0 in
     ap (scan Between at) t ∙ scan_blank h.0 (h.1 ∷ (h.2 ++ h.3)) at h.4
-    ∙ word_on Between n h.1 h.2 h.3 n [] (h.1 == 34) (begins_word n h.1 (not_true _ (and_left _ _ r)))
-    (scan_word h.2 h.3 n (h.1 ∷ []) (h.1 == 34) (n + 1) (and_right _ _ r) h.7)
+    ∙ word_on Between n h.1 h.2 h.3 n [] (h.1 == 34) (begins_word n h.1 (not-true _ (and_parts _ _ r).0))
+    (scan_word h.2 h.3 n (h.1 ∷ []) (h.1 == 34) (n + 1) (and_parts _ _ r).1 h.7)
     ∙ ap₂ (λ p xs. put (Word p xs ∷ []) (scan Between (p + length xs) h.3)) (sym h.8) (sym h.5)
     ∙ ap (put (Word place w ∷ [])) (scan_again ls (place + length w) h.3 h.10)

@@ -1,6 +1,6 @@
 -- What is read, and what is refused.
-use Rattle.std.proofs.Common.{◌≡◌, inl, inr, ◌&&◌, ℕ, ◌<◌, ◌≤◌, List, Bool, true, false, Option, Some, None, IfSome, IsSomeAnd, refl, ap, ◌∙◌, arith}
-use Rattle.std.{proofs.lemmas.Bool.Decides.nat_tests, specs.Prelude.nat_le, specs.Str.chars}
+use Rattle.std.proofs.Common.{◌≡◌, inl, inr, ◌&&◌, ℕ, ◌<◌, ◌≤◌, List, true, false, Option, Some, None, IfSome, IsSomeAnd, refl, ap, ◌∙◌, arith}
+use Rattle.std.{proofs.Math.Bool.and-false, proofs.lemmas.Bool.Decides.nat_tests, specs.Prelude.nat_le, specs.Str.chars}
 use Rattle.regex.specs.{Failures.IsPattern, Names.names_of, declared.string.regex.Regex.Regex}
 use Rattle.{regex_hir.specs.Re.Re, regex_syntax.specs.Brackets.Nested}
 use Rattle.regex_syntax.specs.{Grammar.Names, Grammar.read, Verdict.Reads, Verdict.Refuses, Verdict.default_config}
@@ -53,10 +53,6 @@ pub both_read : (re : List ℕ) → is_read re ≡ true → is_read (anchored re
 unfolding is_pattern
 both_read re alone whole = rw (alone, whole) refl
 
-and_false : (b : Bool) → b && false ≡ false
-and_false true = refl
-and_false false = refl
-
 -- one of the two texts is refused
 pub alone_refused : (re : List ℕ) → is_read re ≡ false → is_pattern re ≡ false
 unfolding is_pattern
@@ -64,7 +60,7 @@ alone_refused re none = ap (λ b. b && is_read (anchored re)) none
 
 pub whole_refused : (re : List ℕ) → is_read (anchored re) ≡ false → is_pattern re ≡ false
 unfolding is_pattern
-whole_refused re none = ap (λ b. is_read re && b) none ∙ and_false (is_read re)
+whole_refused re none = ap (λ b. is_read re && b) none ∙ and-false (is_read re)
 
 -- a text that nests too deep is not read
 deep_unread : (source : List ℕ) → NestsTooDeep source → is_read source ≡ false

@@ -1,6 +1,6 @@
 -- One step of reading, as the code sees it.
-use Rattle.std.proofs.Common.{◌≡◌, ◌≢◌, ℕ, zero, suc, ◌+◌, ◌-◌, max, Bool, true, false, ◌||◌, List, [], ◌∷◌, length, Option, Some, None, option_map, refl, sym, ap, ◌∙◌, subst, arith, append_assoc}
-use Rattle.std.proofs.lemmas.Option.{same_Some}
+use Rattle.std.proofs.Common.{◌≡◌, ◌≢◌, ℕ, zero, suc, ◌+◌, ◌-◌, max, Bool, true, false, List, [], ◌∷◌, length, Option, Some, None, option_map, refl, sym, ap, ◌∙◌, subst, arith, append_assoc}
+use Rattle.std.proofs.{Math.Bool.or_assoc, Math.Bool.or-false, lemmas.Option.same_Some}
 use Rattle.review_expr_terms.specs.Grammar.{Tok, Word, Open, Close, Join, Unary, Members, Group, One, Next, Tree, Neg, listed, many, tree_of, trees_of, depth, all_depth, is_mixed, any_mixed, has_and, has_or, is_and, is_or}
 use Rattle.review_expr_terms.specs.Reading.{Read, not_read, closed, primary, followed, members_of, unary, members, joint, by_joint, NoSign, NotSign, MinusSign, sign, by_sign}
 use Rattle.review_expr_terms.specs.{Views.Summary, Views.Sums, declared.parser.Refusal.Refusal}
@@ -79,16 +79,8 @@ fails_map f refusal.Grammar read h = ap (option_map f) h
 
 -- ---- members
 
-or_assoc : (a b c : Bool) → (a || b) || c ≡ a || (b || c)
-or_assoc true b c = refl
-or_assoc false b c = refl
-
 last_member : {A : Type 0} → (s : Sums A) (u : Unary A) → with_part s (summary u) ≡ with_members s (One u)
-last_member s u = simp or_false
-  where
-    or_false : (b : Bool) → b || false ≡ b
-    or_false true = refl
-    or_false false = refl
+last_member s u = simp or-false
 
 depths : (d a b : ℕ) → max (max d (capped a)) (capped b) ≡ max d (capped (max a b))
 depths d a b = omega arith

@@ -16,33 +16,34 @@ use review_expr::ParseFault;
 use review_file_document::document::{copied_text, text_at};
 use review_file_document::keys::{has_unknown_key, lacks_key};
 use review_file_document::limits::{MOST_BYTES, is_past_limits};
-use review_file_document::names::{has_bad_name, project_name};
+use review_file_document::names::{has_bad_name, name_of};
 use review_file_document::values::{has_bad_values, has_value_twice};
 use review_file_rules::ReadFault;
+use review_names::places::OfProject;
 use review_words::{FileFault, FileText, ProjectName};
 use std::alloc::{AllocError, Global};
 use toml::Value;
 
 /// The first fault of a document but those of its expressions and its limits.
-fn first_fault(alloc: Global, file: &Value) -> Result<Option<FileFault>, AllocError>
-    ensures { IfOk result (λ fault. fault ≡ first_fault (view file.now)) }
+fn first_fault(file: &Value) -> Option<FileFault>
+    ensures { result ≡ first_fault (view file.now) }
 {
     if has_unknown_key(file) {
-        return Ok(Some(FileFault::UnknownKey));
+        return Some(FileFault::UnknownKey);
     }
     if lacks_key(file) {
-        return Ok(Some(FileFault::Missing));
+        return Some(FileFault::Missing);
     }
-    if has_bad_name(alloc, file)? {
-        return Ok(Some(FileFault::BadName));
+    if has_bad_name(file) {
+        return Some(FileFault::BadName);
     }
     if has_value_twice(file) {
-        return Ok(Some(FileFault::Twice));
+        return Some(FileFault::Twice);
     }
     if has_bad_values(file) {
-        return Ok(Some(FileFault::BadValues));
+        return Some(FileFault::BadValues);
     }
-    Ok(None)
+    None
 }
 
 /// The parent that a document names.
@@ -50,7 +51,7 @@ fn parent_in(alloc: Global, file: &Value) -> Result<Option<ProjectName>, AllocEr
     ensures { IfOk result (λ parent. parent ≡ parent_in (view file.now)) }
 {
     match text_at(file, "parent") {
-        Some(text) => project_name(alloc, text),
+        Some(text) => name_of::<OfProject>(alloc, text),
         None => Ok(None),
     }
 }
@@ -79,7 +80,7 @@ fn read_document(alloc: Global, file: &Value) -> Result<Content, ReadFault>
     ensures read { IfOk result (IsFaultless (view file.now)) }
     ensures fault { IfErr result (IsDocumentFault (view file.now)) }
 {
-    if let Some(fault) = first_fault(alloc, file)? {
+    if let Some(fault) = first_fault(file) {
         return Err(ReadFault::File(fault));
     }
     let content = content_in(alloc, file)?;

@@ -4,7 +4,8 @@ ghost use Rattle.toml.specs.{Data.get, View.array_view, View.table_view, View.vi
 ghost use Rattle.review_file_document.specs.Document.{is_no_array_of, is_no_table_of, members, values};
 ghost use Rattle.review_file_document.specs.Keys.{are_no_ends, has_unknown_key, is_no_integer, is_no_pair, is_no_text, is_right, is_text_key, is_wrong, is_wrong_in_access, is_wrong_in_label, is_wrong_in_requirement, lacks_key, some_lacks};
 
-use crate::document::table_at;
+use crate::document::{MemberTest, is_no_table_of, table_at};
+use std::marker::PhantomData;
 use toml::value::Array;
 use toml::{Table, Value};
 
@@ -41,32 +42,26 @@ fn is_right(key: &str) -> bool
     key == "create" || key == "upload" || key == "submit" || key == "abandon"
 }
 
-fn is_wrong_in_access(key: &str, value: &Value) -> bool
-    ensures { result ≡ is_wrong_in_access (key.now, view value.now) }
-{
-    !is_right(key) || is_no_list(value)
+/// No right of `access`, or a value that is no list of texts.
+struct WrongInAccess;
+
+impl MemberTest for WrongInAccess {
+    ghost is_met = { is_wrong_in_access };
+
+    fn is_met(key: &str, value: &Value) -> bool {
+        !is_right(key) || is_no_list(value)
+    }
 }
 
-fn is_wrong_access(access: &Table) -> bool
-    ensures { result ≡ list_any is_wrong_in_access (members (table_view access.now)) }
-{
-    for (key, value) in access {
-        if is_wrong_in_access(key.as_str(), value) {
-            return true;
-        }
-    }
-    false
-}
+/// A value that is no text.
+struct NoText;
 
-fn has_no_text(texts: &Table) -> bool
-    ensures { result ≡ list_any (λ v. is_no_text v.1) (members (table_view texts.now)) }
-{
-    for (_, text) in texts {
-        if is_no_text(text) {
-            return true;
-        }
+impl MemberTest for NoText {
+    ghost is_met = { λ m. is_no_text m.1 };
+
+    fn is_met(_key: &str, value: &Value) -> bool {
+        is_no_text(value)
     }
-    false
 }
 
 fn is_no_integer(value: &Value) -> bool
@@ -103,63 +98,31 @@ fn are_no_ends(ends: &Array) -> bool
     ends.len() != 2 || lists_no_integer(ends)
 }
 
-fn has_no_pair(grants: &Table) -> bool
-    ensures { result ≡ list_any (λ g. is_no_pair g.1) (members (table_view grants.now)) }
-{
-    for (_, range) in grants {
-        if is_no_pair(range) {
-            return true;
+/// A value that is no list of two whole numbers.
+struct NoPair;
+
+impl MemberTest for NoPair {
+    ghost is_met = { λ m. is_no_pair m.1 };
+
+    fn is_met(_key: &str, value: &Value) -> bool {
+        is_no_pair(value)
+    }
+}
+
+/// What a label may not have.
+struct WrongInLabel;
+
+impl MemberTest for WrongInLabel {
+    ghost is_met = { is_wrong_in_label };
+
+    fn is_met(key: &str, value: &Value) -> bool {
+        match key {
+            "copyCondition" => is_no_text(value),
+            "values" => is_no_table_of::<NoText>(value),
+            "grant" => is_no_table_of::<NoPair>(value),
+            _ => true,
         }
     }
-    false
-}
-
-fn is_wrong_in_label(key: &str, value: &Value) -> bool
-    ensures { result ≡ is_wrong_in_label (key.now, view value.now) }
-{
-    match key {
-        "copyCondition" => is_no_text(value),
-        "values" => match value.as_table() {
-            Some(values) => has_no_text(values),
-            None => true,
-        },
-        "grant" => match value.as_table() {
-            Some(grants) => has_no_pair(grants),
-            None => true,
-        },
-        _ => true,
-    }
-}
-
-fn has_wrong_in_label(label: &Table) -> bool
-    ensures { result ≡ list_any is_wrong_in_label (members (table_view label.now)) }
-{
-    for (key, value) in label {
-        if is_wrong_in_label(key.as_str(), value) {
-            return true;
-        }
-    }
-    false
-}
-
-fn is_wrong_label(label: &Value) -> bool
-    ensures { result ≡ is_no_table_of is_wrong_in_label (view label.now) }
-{
-    match label.as_table() {
-        Some(keys) => has_wrong_in_label(keys),
-        None => true,
-    }
-}
-
-fn has_wrong_label(labels: &Table) -> bool
-    ensures { result ≡ list_any (λ l. is_no_table_of is_wrong_in_label l.1) (members (table_view labels.now)) }
-{
-    for (_, label) in labels {
-        if is_wrong_label(label) {
-            return true;
-        }
-    }
-    false
 }
 
 fn is_text_key(key: &str) -> bool
@@ -168,90 +131,57 @@ fn is_text_key(key: &str) -> bool
     key == "description" || key == "applicableIf" || key == "submittableIf" || key == "overrideIf"
 }
 
-fn is_wrong_in_requirement(key: &str, value: &Value) -> bool
-    ensures { result ≡ is_wrong_in_requirement (key.now, view value.now) }
-{
-    if is_text_key(key) {
-        is_no_text(value)
-    } else if key == "canOverrideInChildProjects" {
-        value.as_bool().is_none()
-    } else {
-        true
-    }
-}
+/// What a submit requirement may not have.
+struct WrongInRequirement;
 
-fn has_wrong_in_requirement(requirement: &Table) -> bool
-    ensures { result ≡ list_any is_wrong_in_requirement (members (table_view requirement.now)) }
-{
-    for (key, value) in requirement {
-        if is_wrong_in_requirement(key.as_str(), value) {
-            return true;
+impl MemberTest for WrongInRequirement {
+    ghost is_met = { is_wrong_in_requirement };
+
+    fn is_met(key: &str, value: &Value) -> bool {
+        if is_text_key(key) {
+            is_no_text(value)
+        } else if key == "canOverrideInChildProjects" {
+            value.as_bool().is_none()
+        } else {
+            true
         }
     }
-    false
 }
 
-fn is_wrong_requirement(requirement: &Value) -> bool
-    ensures { result ≡ is_no_table_of is_wrong_in_requirement (view requirement.now) }
-{
-    match requirement.as_table() {
-        Some(keys) => has_wrong_in_requirement(keys),
-        None => true,
+/// A value that is no table, or one of which some member meets a test.
+struct NoTableOf<T: MemberTest>(PhantomData<T>);
+
+impl<T: MemberTest> MemberTest for NoTableOf<T> {
+    ghost is_met = { λ m. is_no_table_of T.is_met m.1 };
+
+    fn is_met(_key: &str, value: &Value) -> bool {
+        is_no_table_of::<T>(value)
     }
 }
 
-fn has_wrong_requirement(requirements: &Table) -> bool
-    ensures { result ≡ list_any (λ r. is_no_table_of is_wrong_in_requirement r.1) (members (table_view requirements.now)) }
-{
-    for (_, requirement) in requirements {
-        if is_wrong_requirement(requirement) {
-            return true;
+/// What a file may not have.
+struct Wrong;
+
+impl MemberTest for Wrong {
+    ghost is_met = { is_wrong };
+
+    fn is_met(key: &str, value: &Value) -> bool {
+        match key {
+            "description" => is_no_text(value),
+            "parent" => is_no_text(value),
+            "access" => is_no_table_of::<WrongInAccess>(value),
+            "label" => is_no_table_of::<NoTableOf<WrongInLabel>>(value),
+            "submit-requirement" => is_no_table_of::<NoTableOf<WrongInRequirement>>(value),
+            _ => true,
         }
     }
-    false
-}
-
-fn is_wrong(key: &str, value: &Value) -> bool
-    ensures { result ≡ is_wrong (key.now, view value.now) }
-{
-    match key {
-        "description" => is_no_text(value),
-        "parent" => is_no_text(value),
-        "access" => match value.as_table() {
-            Some(access) => is_wrong_access(access),
-            None => true,
-        },
-        "label" => match value.as_table() {
-            Some(labels) => has_wrong_label(labels),
-            None => true,
-        },
-        "submit-requirement" => match value.as_table() {
-            Some(requirements) => has_wrong_requirement(requirements),
-            None => true,
-        },
-        _ => true,
-    }
-}
-
-fn has_wrong(file: &Table) -> bool
-    ensures { result ≡ list_any is_wrong (members (table_view file.now)) }
-{
-    for (key, value) in file {
-        if is_wrong(key.as_str(), value) {
-            return true;
-        }
-    }
-    false
 }
 
 /// Whether a key of the file isn't known, or has a value of another type.
 pub fn has_unknown_key(file: &Value) -> bool
     ensures { result ≡ has_unknown_key (view file.now) }
 {
-    match file.as_table() {
-        Some(keys) => has_wrong(keys),
-        None => true,
-    }
+    is_no_table_of::<Wrong>(file)
 }
 
 fn some_lacks(section: &Table, key: &str) -> bool

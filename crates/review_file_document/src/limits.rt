@@ -4,8 +4,8 @@ ghost use Rattle.toml.specs.View.{table_view, view};
 ghost use Rattle.review_file_document.specs.Document.{members, members_at, text_of};
 ghost use Rattle.review_file_document.specs.Limits.{has_long_description, has_long_text, is_past_limits, most_parts};
 
-use crate::document::{table_at, text_at, text_of};
-use toml::{Table, Value};
+use crate::document::{MemberTest, some_member_at, table_at, text_at, text_of};
+use toml::Value;
 
 /// The most bytes of a project file.
 pub const MOST_BYTES: usize = 65_536;
@@ -38,63 +38,36 @@ fn has_long_description(part: &Value) -> bool
     }
 }
 
-fn some_long_description(requirements: &Table) -> bool
-    ensures { result ≡ list_any (λ m. has_long_description m.1) (members (table_view requirements.now)) }
-{
-    for (_, requirement) in requirements {
-        if has_long_description(requirement) {
-            return true;
-        }
-    }
-    false
-}
+/// A value with too long a description.
+struct LongDescription;
 
-fn has_long_requirement(file: &Value) -> bool
-    ensures { result ≡ list_any (λ m. has_long_description m.1) (members_at (codes "submit-requirement") (view file.now)) }
-{
-    match table_at(file, "submit-requirement") {
-        Some(requirements) => some_long_description(requirements),
-        None => false,
+impl MemberTest for LongDescription {
+    ghost is_met = { λ m. has_long_description m.1 };
+
+    fn is_met(_key: &str, value: &Value) -> bool {
+        has_long_description(value)
     }
 }
 
-fn some_long_text(values: &Table) -> bool
-    ensures { result ≡ list_any (λ m. nat_lt 256 (length (text_of m.1))) (members (table_view values.now)) }
-{
-    for (_, text) in values {
-        if text_of(text).len() > MOST_TEXT {
-            return true;
-        }
-    }
-    false
-}
+/// Too long a text.
+struct LongText;
 
-fn has_long_text(label: &Value) -> bool
-    ensures { result ≡ has_long_text (view label.now) }
-{
-    match table_at(label, "values") {
-        Some(values) => some_long_text(values),
-        None => false,
+impl MemberTest for LongText {
+    ghost is_met = { λ m. nat_lt 256 (length (text_of m.1)) };
+
+    fn is_met(_key: &str, text: &Value) -> bool {
+        text_of(text).len() > MOST_TEXT
     }
 }
 
-fn some_long_label(labels: &Table) -> bool
-    ensures { result ≡ list_any (λ m. has_long_text m.1) (members (table_view labels.now)) }
-{
-    for (_, label) in labels {
-        if has_long_text(label) {
-            return true;
-        }
-    }
-    false
-}
+/// A label with too long a text of a value.
+struct LongLabel;
 
-fn has_long_label(file: &Value) -> bool
-    ensures { result ≡ list_any (λ m. has_long_text m.1) (members_at (codes "label") (view file.now)) }
-{
-    match table_at(file, "label") {
-        Some(labels) => some_long_label(labels),
-        None => false,
+impl MemberTest for LongLabel {
+    ghost is_met = { λ m. has_long_text m.1 };
+
+    fn is_met(_key: &str, label: &Value) -> bool {
+        some_member_at::<LongText>(label, "values")
     }
 }
 
@@ -106,6 +79,6 @@ pub fn is_past_limits(file: &Value) -> bool
     has_too_many(file, "label")
         || has_too_many(file, "submit-requirement")
         || has_long_description(file)
-        || has_long_requirement(file)
-        || has_long_label(file)
+        || some_member_at::<LongDescription>(file, "submit-requirement")
+        || some_member_at::<LongLabel>(file, "label")
 }

@@ -4,7 +4,7 @@ ghost use Rattle.{std.specs.Str.bytes_eq, toml.specs.View.table_view, toml.specs
 ghost use Rattle.review_file_document.specs.Document.{members, members_at};
 ghost use Rattle.review_file_document.specs.Values.{digits, end_at, has_bad_values, has_double, has_twice, has_value, has_value_twice, is_bad_grant, is_bad_key, is_bad_label, is_bad_value, is_no_run, spells, towards_zero, value_of};
 
-use crate::document::table_at;
+use crate::document::{MemberTest, some_member_at, table_at};
 use toml::{Table, Value};
 
 fn digits(bytes: &[u8]) -> Option<i8>
@@ -91,34 +91,25 @@ fn has_twice(values: &Table) -> bool
     false
 }
 
-fn has_value_twice_in(label: &Value) -> bool
-    ensures { result ≡ has_twice (members_at (codes "values") (view label.now)) }
-{
-    match table_at(label, "values") {
-        Some(values) => has_twice(values),
-        None => false,
-    }
-}
+/// A label with a value under two keys.
+struct ValueTwice;
 
-fn some_value_twice(labels: &Table) -> bool
-    ensures { result ≡ list_any (λ m. has_twice (members_at (codes "values") m.1)) (members (table_view labels.now)) }
-{
-    for (_, label) in labels {
-        if has_value_twice_in(label) {
-            return true;
+impl MemberTest for ValueTwice {
+    ghost is_met = { λ m. has_twice (members_at (codes "values") m.1) };
+
+    fn is_met(_key: &str, label: &Value) -> bool {
+        match table_at(label, "values") {
+            Some(values) => has_twice(values),
+            None => false,
         }
     }
-    false
 }
 
 /// Whether a value of a label stands under two keys.
 pub fn has_value_twice(file: &Value) -> bool
     ensures { result ≡ has_value_twice (view file.now) }
 {
-    match table_at(file, "label") {
-        Some(labels) => some_value_twice(labels),
-        None => false,
-    }
+    some_member_at::<ValueTwice>(file, "label")
 }
 
 fn towards_zero(value: i64) -> i64
@@ -206,32 +197,23 @@ fn has_bad_grant(values: &Table, label: &Value) -> bool
     }
 }
 
-fn is_bad_label(label: &Value) -> bool
-    ensures { result ≡ is_bad_label (view label.now) }
-{
-    match table_at(label, "values") {
-        Some(values) => is_no_run(values) || has_bad_grant(values, label),
-        None => true,
-    }
-}
+/// A label with bad values, or with a grant whose ends aren't values in order.
+struct BadLabel;
 
-fn has_bad_label(labels: &Table) -> bool
-    ensures { result ≡ list_any (λ m. is_bad_label m.1) (members (table_view labels.now)) }
-{
-    for (_, label) in labels {
-        if is_bad_label(label) {
-            return true;
+impl MemberTest for BadLabel {
+    ghost is_met = { λ m. is_bad_label m.1 };
+
+    fn is_met(_key: &str, label: &Value) -> bool {
+        match table_at(label, "values") {
+            Some(values) => is_no_run(values) || has_bad_grant(values, label),
+            None => true,
         }
     }
-    false
 }
 
 /// Whether a label has bad values, or a grant whose ends aren't values in order.
 pub fn has_bad_values(file: &Value) -> bool
     ensures { result ≡ has_bad_values (view file.now) }
 {
-    match table_at(file, "label") {
-        Some(labels) => has_bad_label(labels),
-        None => false,
-    }
+    some_member_at::<BadLabel>(file, "label")
 }

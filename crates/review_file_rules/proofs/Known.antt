@@ -1,6 +1,6 @@
 -- What an inherited file keeps and names.
 use Rattle.std.proofs.Common.{◌≡◌, ℕ, ℤ, Bool, true, false, cond, Less, nat_cmp, is_eq, List, [], ◌∷◌, ◌++◌, map, Option, Some, None, refl, ap, sym, subst, ◌∙◌, int_eq, ◌&&◌, ◌||◌, bytes_eq, filter, not, is_some}
-use Rattle.std.proofs.lemmas.Bool.Decides.{Decides-int_eq}
+use Rattle.std.proofs.{Math.Bool.or-false, Math.Bool.or-true, lemmas.Bool.Decides.Decides-int_eq}
 use Rattle.std.proofs.lemmas.List.Elements.{All-from_recursion, recursion_from_All}
 use Rattle.std.{proofs.lemmas.Map.Text.is_eq-slice_cmp, specs.Cmp.Lexicographic.slice_cmp}
 use Rattle.std.specs.List.{AllByRecursion, list_any, Sorted.IsStrictlySortedBy}
@@ -35,12 +35,8 @@ has_value vs v = list_any (λ w. int_eq w.0 v) vs
 value_itself : (v : ℤ) → int_eq v v ≡ true
 value_itself v = (Decides-int_eq v v).1 refl
 
-or_true : (a : Bool) → (a || true) ≡ true
-or_true true = refl
-or_true false = refl
-
 value_later : (w : ℤ × List ℕ) (vs : Values) (v : ℤ) → has_value vs v ≡ true → has_value (w ∷ vs) v ≡ true
-value_later w vs v h = ap (λ b. int_eq w.0 v || b) h ∙ or_true (int_eq w.0 v)
+value_later w vs v h = ap (λ b. int_eq w.0 v || b) h ∙ or-true (int_eq w.0 v)
 
 each_later : (w : ℤ × List ℕ) (vs us : Values) → AllByRecursion (λ u. has_value vs u.0 ≡ true) us → AllByRecursion (λ u. has_value (w ∷ vs) u.0 ≡ true) us
 each_later w vs [] all = tt
@@ -104,13 +100,9 @@ unfolding IsStrictlySortedBy
 covered_is [] old s = refl
 covered_is (l ∷ ls) old s = by (bytes_eq l.name old.name) refl (covered_is ls old s.1)
   where
-    or_false : (a : Bool) → (a || false) ≡ a
-    or_false true = refl
-    or_false false = refl
-
     by : (b : Bool) → bytes_eq l.name old.name ≡ b → is_covered ls old ≡ option_map_or (λ x. has_values x.values old.values) (named label_name old.name ls) false →
         ((b && has_values l.values old.values) || is_covered ls old) ≡ option_map_or (λ x. has_values x.values old.values) (cond b (Some l) (named label_name old.name ls)) false
-    by true h later = ap (λ c. has_values l.values old.values || c) (none_covers l.name ls old s.0 h) ∙ or_false (has_values l.values old.values)
+    by true h later = ap (λ c. has_values l.values old.values || c) (none_covers l.name ls old s.0 h) ∙ or-false (has_values l.values old.values)
     by false h later = later
 
 found_has : (o : Option Label) (vs : Values) → option_map_or (λ l. has_values l.values vs) o false ≡ true → (l : Label) × (o ≡ Some l) × (has_values l.values vs ≡ true)

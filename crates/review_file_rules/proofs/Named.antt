@@ -1,5 +1,6 @@
 -- Things by their names: what is found among them, that their names ascend, and what stays true of each of them.
 use Rattle.std.proofs.Common.{◌≡◌, ℕ, Bool, true, false, cond, Less, Equal, Greater, nat_cmp, is_eq, List, [], ◌∷◌, ◌++◌, map, filter, Option, Some, None, refl, ap, sym, subst, ◌∙◌, find, fold, ◌&&◌, ◌||◌, bytes_eq}
+use Rattle.std.proofs.lemmas.Bool.{cond_both, and_parts, or_parts}
 use Rattle.std.proofs.lemmas.{Cmp.nat_list_cmp_total, Map.Text.is_eq-slice_cmp, Slice.Eq.bytes_eq-Decides}
 use Rattle.std.specs.{Cmp.Lexicographic.slice_cmp, List.AllByRecursion, List.list_all, List.list_any}
 use Rattle.std.specs.{List.Sorted.IsStrictlySortedBy, Option.option_or}
@@ -134,11 +135,8 @@ module _ {X : Type 0} (name : X → List ℕ) where
 
   pub each_kept : (P : X → Type 0) (p : X → Bool) (xs : List X) → AllByRecursion P xs → AllByRecursion P (filter p xs)
   each_kept P p [] all = tt
-  each_kept P p (x ∷ xs) all = by (p x) (each_kept P p xs all.1)
-    where
-      by : (b : Bool) → AllByRecursion P (filter p xs) → AllByRecursion P (cond b (x ∷ filter p xs) (filter p xs))
-      by true later = (all.0, later)
-      by false later = later
+  each_kept P p (x ∷ xs) all =
+      let later = each_kept P p xs all.1 in cond_both (p x) (x ∷ filter p xs) (filter p xs) (AllByRecursion P) (λ t. (all.0, later)) (λ f. later)
 
   -- ---- order
 
@@ -176,20 +174,15 @@ module _ {X : Type 0} (name : X → List ℕ) where
 
   names_kept : (P : List ℕ → Type 0) (p : X → Bool) (xs : List X) → AllByRecursion P (map name xs) → AllByRecursion P (map name (filter p xs))
   names_kept P p [] all = tt
-  names_kept P p (x ∷ xs) all = by (p x) (names_kept P p xs all.1)
-    where
-      by : (b : Bool) → AllByRecursion P (map name (filter p xs)) → AllByRecursion P (map name (cond b (x ∷ filter p xs) (filter p xs)))
-      by true later = (all.0, later)
-      by false later = later
+  names_kept P p (x ∷ xs) all =
+      let later = names_kept P p xs all.1 in cond_both (p x) (x ∷ filter p xs) (filter p xs) (λ l. AllByRecursion P (map name l)) (λ t. (all.0, later)) (λ f. later)
 
   pub sorted_kept : (p : X → Bool) (xs : List X) → Sorted (map name xs) → Sorted (map name (filter p xs))
   unfolding IsStrictlySortedBy
   sorted_kept p [] s = tt
-  sorted_kept p (x ∷ xs) s = by (p x) (sorted_kept p xs s.1)
-    where
-      by : (b : Bool) → Sorted (map name (filter p xs)) → Sorted (map name (cond b (x ∷ filter p xs) (filter p xs)))
-      by true later = (names_kept (λ n. slice_cmp nat_cmp (name x) n ≡ Less) p xs s.0, later)
-      by false later = later
+  sorted_kept p (x ∷ xs) s =
+      let later = sorted_kept p xs s.1 in
+      cond_both (p x) (x ∷ filter p xs) (filter p xs) (λ l. Sorted (map name l)) (λ t. (names_kept (λ n. slice_cmp nat_cmp (name x) n ≡ Less) p xs s.0, later)) (λ f. later)
 
   -- ---- tests
 
@@ -228,11 +221,7 @@ module _ {X : Type 0} (name : X → List ℕ) where
 
 pub all_true : {X : Type 0} (p : X → Bool) (xs : List X) → list_all p xs ≡ true → AllByRecursion (λ x. p x ≡ true) xs
 all_true p [] h = tt
-all_true p (x ∷ xs) h = by (p x) refl (λ rest. all_true p xs rest) h
-  where
-    by : (b : Bool) → p x ≡ b → (list_all p xs ≡ true → AllByRecursion (λ y. p y ≡ true) xs) → (b && list_all p xs) ≡ true → (p x ≡ true) × AllByRecursion (λ y. p y ≡ true) xs
-    by true is later h = (is, later h)
-    by false is later h = absurd (let none : false ≡ true = h in cc)
+all_true p (x ∷ xs) h = let t = and_parts (p x) (list_all p xs) h in (t.0, all_true p xs t.1)
 
 pub true_all : {X : Type 0} (p : X → Bool) (xs : List X) → AllByRecursion (λ x. p x ≡ true) xs → list_all p xs ≡ true
 true_all p [] all = refl
@@ -240,11 +229,7 @@ true_all p (x ∷ xs) all = ap (λ b. b && list_all p xs) all.0 ∙ true_all p x
 
 pub none_true : {X : Type 0} (p : X → Bool) (xs : List X) → list_any p xs ≡ false → AllByRecursion (λ x. p x ≡ false) xs
 none_true p [] h = tt
-none_true p (x ∷ xs) h = by (p x) refl (λ rest. none_true p xs rest) h
-  where
-    by : (b : Bool) → p x ≡ b → (list_any p xs ≡ false → AllByRecursion (λ y. p y ≡ false) xs) → (b || list_any p xs) ≡ false → (p x ≡ false) × AllByRecursion (λ y. p y ≡ false) xs
-    by true is later h = absurd (let none : true ≡ false = h in cc)
-    by false is later h = (is, later h)
+none_true p (x ∷ xs) h = let t = or_parts (p x) (list_any p xs) h in (t.0, none_true p xs t.1)
 
 pub true_none : {X : Type 0} (p : X → Bool) (xs : List X) → AllByRecursion (λ x. p x ≡ false) xs → list_any p xs ≡ false
 true_none p [] all = refl

@@ -14,12 +14,12 @@ use Rattle.review_file_document.specs.Values.{has_value_twice, has_bad_values}
 use Rattle.review_words.specs.declared.faults.{ExprCode.TheVariants.BadValue, ExprFault.ExprFault, FileFault.FileFault}
 use Rattle.review_words.specs.declared.faults.FileFault.TheVariants.{Toml, UnknownKey, Missing, BadName, Twice, BadValues, UnknownLabel, Limit, Expr as Faulty}
 use Rattle.review_expr_judging.specs.Labels.{labels}
-use Rattle.review_expr_spelling.specs.{Cuts.behind, Cuts.cut_at, Cuts.key_and_value, Readings.◌>>=◌, Readings.in_value}
-use Rattle.review_expr_spelling.specs.Words.{pattern_or, pattern_of, pattern_in, keyed, requirement_value, requirement_reading, IsDeep, IsPattern, copy_reading}
+use Rattle.review_expr_spelling.specs.Values.{behind, cut_at, key_and_value}
+use Rattle.review_expr_spelling.specs.Words.{◌>>=◌, in_value, pattern_or, pattern_of, pattern_in, keyed, requirement_value, requirement_reading, IsDeep, IsPattern, copy_reading}
 use Rattle.review_expr_spelling.specs.declared.keys.RequirementKey.{RequirementKey}
 use Rattle.review_expr.proofs.{Excluded.no_flaw, Excluded.bad_value, Excluded.one_tree, OneFault.one_fault}
-use Rattle.review_expr.specs.{Expressions.HasExpr, Exprs.IsCopyOf, Exprs.IsRequirementOf, Exprs.NoWord, Exprs.labels_in}
-use Rattle.review_expr.specs.Faults.{HasWord, IsFault}
+use Rattle.review_expr.specs.Expressions.{HasExpr, HasWord, IsFault}
+use Rattle.review_expr.specs.Exprs.{IsCopyOf, IsRequirementOf, NoWord, labels_in}
 use Rattle.review_expr.specs.Tokens.{operator_by, operator_or, term_token, meaning, is_signed, unsigned, alone, behind_minus, after_minus, opens_at, lexeme_tokens}
 use Rattle.review_expr.specs.declared.expr.Expr.{Expr}
 use Rattle.review_file_rules.specs.Expressions.{EachTo, IfThere, AllRead, IsLabel, IsRequirement, copy_texts, requirement_texts, with_text, FirstFault, IsNoCopy, IsNoRequirement, IsFile, IsStoppedBy, names_other, requires_other, has_unknown_label}

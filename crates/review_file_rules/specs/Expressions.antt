@@ -3,8 +3,9 @@ use Rattle.std.specs.{List.list_any, Option.option_map_or}
 use Rattle.std.specs.Prelude.{◌≡◌, ◌⊎◌, ℕ, List, [], ◌∷◌, Option, Some, None, Bool, false, not, is_none, ◌&&◌, ◌||◌}
 use Rattle.{std.specs.Str.bytes_eq, review_names.specs.Forms.text_set}
 use Rattle.review_expr_spelling.specs.Words.{requirement_reading, copy_reading, IsDeep, IsPattern}
+use Rattle.review_expr.specs.Expressions.{IsParseFault}
 use Rattle.review_expr.specs.Exprs.{IsCopyOf, IsRequirementOf, NoWord, labels_in}
-use Rattle.review_expr.specs.{Faults.IsParseFault, declared.expr.Expr.Expr, declared.fault.ParseFault.ParseFault}
+use Rattle.review_expr.specs.declared.{expr.Expr.Expr, fault.ParseFault.ParseFault}
 use Rattle.review_file_rules.specs.View.{LabelView, RequirementView, FileView}
 
 -- the text is no copy condition, for this cause

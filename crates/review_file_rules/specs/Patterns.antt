@@ -2,7 +2,7 @@
 use Rattle.std.specs.Prelude.{◌≡◌, ◌⊎◌, ℕ, List, [], ◌∷◌, Some}
 use Rattle.toml.specs.{Data.Members, Data.table, Parse.parse_document}
 use Rattle.review_expr_spelling.specs.Words.{requirement_reading, IsDeep, IsPattern}
-use Rattle.review_expr.specs.Faults.{HasWord}
+use Rattle.review_expr.specs.Expressions.{HasWord}
 use Rattle.review_file_rules.specs.{Expressions.requirement_texts, Spelled.spelled}
 
 -- in one of these texts of expressions a word is as said, all words before it in that text being good

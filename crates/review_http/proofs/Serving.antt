@@ -2,7 +2,7 @@
 use Rattle.std.proofs.Common.{ℕ, List, [], Bool, Option, Result, Ok, Err, inr}
 use Rattle.std.{proofs.KnownBytes.Appends-nil, specs.Io.KnownBytes.Appends}
 use Rattle.review_words.specs.declared.{command.Delivery.Delivery, reply.Reply.Reply}
-use Rattle.review_http_requests.specs.{Told.IsTold, Told.WasTold, Wire.CallsFor}
+use Rattle.review_http_requests.specs.{RequestLaws.IsTold, RequestLaws.WasTold, Wire.CallsFor}
 use Rattle.review_http_requests.specs.declared.{fault.RequestFault.RequestFault, http_fault.HttpFault.HttpFault}
 use Rattle.review_machine_rows.specs.Shelf.{Shown}
 use Rattle.review_http.specs.Served.{IsWritten, IsToldOf, IsServedOnWire, WasServed}

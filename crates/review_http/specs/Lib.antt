@@ -1,4 +1,3 @@
 pub mod Served
 pub mod Peers
-pub mod Statuses
 pub mod Responses

@@ -5,7 +5,7 @@ use Rattle.review_words.specs.declared.{command.Delivery.Delivery, reply.Reply.R
 use Rattle.review_http_requests.specs.Bytes.{Gave, IsFirstPart}
 use Rattle.review_http_requests.specs.{Wire.CallsFor, Wire.IsNotWhole, declared.http_fault.HttpFault.HttpFault}
 use Rattle.{review_machine_rows.specs.Shelf.Shown, review_machine_deliveries.specs.Delivered.IsDelivered}
-use Rattle.review_http.specs.{Responses.response, Statuses.status_of, declared.serve.ServeFault.ServeFault}
+use Rattle.review_http.specs.{Responses.response, Responses.status_of, declared.serve.ServeFault.ServeFault}
 use Rattle.review_http.specs.declared.serve.ServeFault.TheVariants.{Read, Reads, Write, Memory}
 use Rattle.review_http.specs.declared.serve.Served.{Served, TheVariants.Answered, TheVariants.Empty}
 

@@ -2,8 +2,7 @@
 ghost use Rattle.std.specs.Prelude.{◌≡◌, ◌++◌, ◌+◌, IfOk, OnOk, codes, decimal, length, string_bytes};
 ghost use Rattle.http.specs.StatusCode.{IsStatusCode};
 ghost use Rattle.serde_json.specs.{View.view, Written.compact_text};
-ghost use Rattle.review_http.specs.Responses.{fault_data, text_of, status_line, allow_line, response_with, response};
-ghost use Rattle.review_http.specs.Statuses.{status_of};
+ghost use Rattle.review_http.specs.Responses.{fault_data, text_of, status_line, allow_line, response_with, response, status_of};
 
 use crate::status::{fault_name, status_of};
 use http::StatusCode;

@@ -1,7 +1,7 @@
 //! The statuses of responses, and the names of faults.
 ghost use Rattle.std.specs.Prelude.{◌≡◌};
 ghost use Rattle.http.specs.StatusCode.{IsStatusCode};
-ghost use Rattle.review_http.specs.Statuses.{reply_status, fault_status, fault_name, status_of};
+ghost use Rattle.review_http.specs.Responses.{reply_status, fault_status, fault_name, status_of};
 
 use review_http_requests::HttpFault;
 use review_words::Reply;

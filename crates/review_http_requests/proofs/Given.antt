@@ -1,12 +1,12 @@
 -- Bytes and segments, one after the other.
-use Rattle.std.proofs.Common.{◌++◌, ℕ, List, [], Bool, false, Option, true≢false, sym, ◌≡◌, ◌+◌, ◌≤◌, ◌==◌, take, drop, length, subst, arith, length-take-le, take-append-drop, if◌then◌else◌, ◌<◌, zero, suc, ◌∷◌, refl, ap₂, ◌∙◌, add-one, slice_index_or, ◌-◌, ◌*◌, true, min, Some, None, option_map, ap}
+use Rattle.std.proofs.Common.{◌++◌, ℕ, List, [], Bool, false, Option, true≢false, sym, ◌≡◌, ◌+◌, ◌≤◌, ◌==◌, take, drop, length, subst, arith, take-append-drop, if◌then◌else◌, ◌<◌, zero, suc, ◌∷◌, refl, ap₂, ◌∙◌, add-one, slice_index_or, ◌-◌, ◌*◌, true, min, Some, None, option_map, ap}
 use Rattle.std.proofs.KnownBytes.{Consumes-nil, Consumes-trans, Appends-trans}
-use Rattle.std.proofs.{Math.Seq.take-append-add, lemmas.Bool.Decides.nat_tests}
+use Rattle.std.proofs.{Math.Seq.take-add, lemmas.Bool.Decides.nat_tests}
 use Rattle.std.specs.{Char.is_ascii_digit, Io.KnownBytes.Appends, List.position_or_len}
 use Rattle.review_names.proofs.Components.{is_slash, components_split, components_whole, Splits}
 use Rattle.review_names.specs.Forms.{components}
 use Rattle.review_http_requests.specs.Bytes.{Gave, IsFirstPart}
-use Rattle.review_http_requests.specs.{Counts.one_more, Fields.digits_after, Fields.most, Segments.segment}
+use Rattle.review_http_requests.specs.{Counts.one_more, Heads.digits_after, Heads.most, Resources.segment}
 
 -- ==== what reads gave, one after the other
 
@@ -18,16 +18,8 @@ gave_more a b c bs piece e end x y = record { gives = Consumes-trans a b c bs pi
 
 -- ==== bytes that were written in two steps
 
-take_two : (a n : ℕ) (bs : List ℕ) → a ≤ length bs → take (a + n) bs ≡ take a bs ++ take n (drop a bs)
-take_two a n bs within =
-    let len : length (take a bs) ≡ a = length-take-le a bs within in
-    let e : take (length (take a bs) + n) (take a bs ++ drop a bs) ≡ take a bs ++ take n (drop a bs) = take-append-add (take a bs) (drop a bs) n in
-    let P : ℕ → Type 0 = λ m. take (m + n) (take a bs ++ drop a bs) ≡ take a bs ++ take n (drop a bs) in
-    let Q : List ℕ → Type 0 = λ l. take (a + n) l ≡ take a bs ++ take n (drop a bs) in
-    subst Q (take-append-drop a bs) (subst P len e)
-
 pub wrote_more : (x y z : Option (List ℕ)) (a n : ℕ) (bs : List ℕ) → a ≤ length bs → Appends x y (take a bs) → Appends y z (take n (drop a bs)) → Appends x z (take (a + n) bs)
-wrote_more x y z a n bs within before more = subst (λ (l : List ℕ). Appends x z l) (sym (take_two a n bs within)) (Appends-trans x y z _ _ before more)
+wrote_more x y z a n bs within before more = subst (λ (l : List ℕ). Appends x z l) (sym (take-add a n bs)) (Appends-trans x y z _ _ before more)
 
 pub took_some : (n f : ℕ) → (n ≡ 0 → ⊥) → (if n == 0 then one_more f else f) ≡ f
 took_some n f some = grind (arith, nat_tests)
@@ -52,8 +44,7 @@ drop_suc (suc k) (y ∷ xs) x ys h = drop_suc k xs x ys h
 
 pub next : (index : ℕ) (path rest front more : List ℕ) → IsLeft index path rest → Splits rest front more → IsLeft (index + 1) path more
 next index path rest front more left h =
-    let P : ℕ → Type 0 = λ k. drop k (components path) ≡ components more in
-    subst P (sym (add-one index)) (drop_suc index (components path) front (components more) (left ∙ split rest front more h))
+    subst (λ (k : ℕ). drop k (components path) ≡ components more) (sym (add-one index)) (drop_suc index (components path) front (components more) (left ∙ split rest front more h))
 
 at_front : (k : ℕ) (xs : List (List ℕ)) (x : List ℕ) (ys : List (List ℕ)) → drop k xs ≡ x ∷ ys → slice_index_or xs k [] ≡ x
 at_front zero [] x ys h = cc

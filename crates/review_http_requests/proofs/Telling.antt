@@ -6,10 +6,9 @@ use Rattle.std.proofs.lemmas.Str.{IsUtf8-from_ascii, Ascii.IsAscii-from_all}
 use Rattle.httparse.proofs.GrammarLemmas.{print_request-append, request_unique}
 use Rattle.httparse.specs.Grammar.{RequestHead, ReadsRequest, HasNoRequest, NeverHasRequest, print_request, MayBecomeRequest, IsRequestHead, crlf, IsField, is_token_byte, is_uri_byte, print_blank, print_version, print_end, print_section, EndsInTarget}
 use Rattle.httparse.specs.Spans.{RequestExceeds, RequestOverflows}
-use Rattle.review_words.specs.declared.command.Delivery.{Delivery}
-use Rattle.review_http_requests.{proofs.Given.gave_more, specs.Bytes.Gave, specs.Bytes.IsBrought}
-use Rattle.review_http_requests.specs.{Counts.greatest, Counts.one_more, Heads.envelope, Judged.Judges, Judged.WaitsFor}
-use Rattle.review_http_requests.specs.{RequestLaws.IsHeadFault, Told.WasTold, Told.IsToldOfInput}
+use Rattle.{review_words.specs.declared.command.Delivery.Delivery, review_http_requests.proofs.Given.gave_more}
+use Rattle.review_http_requests.specs.{Bytes.Gave, Bytes.IsBrought, Counts.greatest, Counts.one_more, Heads.envelope}
+use Rattle.review_http_requests.specs.RequestLaws.{IsHeadFault, WasTold, IsToldOfInput}
 use Rattle.review_http_requests.specs.Wire.{front, HasHead, body_of, Follows, CallsFor, IsBadHead, IsHeadTooLarge, delivery_of, IsNotWhole, HasManyFields}
 use Rattle.review_http_requests.specs.declared.envelope.Envelope.{Envelope}
 use Rattle.review_http_requests.specs.declared.fault.{Refused.Refused, RequestFault.RequestFault}
@@ -17,7 +16,7 @@ use Rattle.review_http_requests.specs.declared.fault.RequestFault.TheVariants.{E
 use Rattle.review_http_requests.specs.declared.http_fault.HttpFault.{HttpFault}
 use Rattle.review_http_requests.specs.declared.http_fault.HttpFault.TheVariants.{BadHead, HeadTooLarge}
 use Rattle.review_http_requests.specs.declared.judge.Look.{Look, TheVariants.Wants, TheVariants.Whole}
-use Rattle.review_http_requests.specs.inner.Words.{Stands, IsFaultOf, Finishes, HeadIs, request_fault}
+use Rattle.review_http_requests.specs.inner.Words.{Judges, WaitsFor, Stands, IsFaultOf, Finishes, HeadIs, request_fault}
 use Rattle.review_http_requests.specs.declared.fault.RequestFault.TheVariants as request
 use Rattle.review_http_requests.specs.declared.fault.Refused.TheVariants as refused
 
@@ -30,8 +29,7 @@ front_long bytes more long = take-append-le 16384 bytes more long
 front_longer : (bytes more : List ℕ) → length bytes < 16384 → front (bytes ++ more) ≡ bytes ++ take (16384 - length bytes) more
 front_longer bytes more short =
     let n : 16384 ≡ length bytes + (16384 - length bytes) = omega arith in
-    let P : ℕ → Type 0 = λ k. take k (bytes ++ more) ≡ bytes ++ take (16384 - length bytes) more in
-    subst P (sym n) (take-append-add bytes more (16384 - length bytes))
+    subst (λ (k : ℕ). take k (bytes ++ more) ≡ bytes ++ take (16384 - length bytes) more) (sym n) (take-append-add bytes more (16384 - length bytes))
 
 abbrev pub IsLonger : List ℕ → List ℕ → Type 0
 IsLonger longer shorter = (rest : List ℕ) × (longer ≡ shorter ++ rest)
@@ -53,16 +51,14 @@ reads_more buf longer h w r =
 
 never_more : (buf longer : List ℕ) → IsLonger longer buf → NeverHasRequest buf → NeverHasRequest longer
 never_more buf longer w never more =
-    let P : List ℕ → Type 0 = HasNoRequest in
-    subst P (sym (ap (λ b. b ++ more) w.1 ∙ append_assoc buf w.0 more)) (never (w.0 ++ more))
+    subst HasNoRequest (sym (ap (λ b. b ++ more) w.1 ∙ append_assoc buf w.0 more)) (never (w.0 ++ more))
 
 exceeds_more : (buf longer : List ℕ) → IsLonger longer buf → RequestExceeds 64 buf → RequestExceeds 64 longer
 exceeds_more buf longer w x = (x.0, x.1 ++ w.0, w.1 ∙ ap (λ b. b ++ w.0) x.2 ∙ append_assoc x.0 x.1 w.0, x.3, x.4, x.5)
 
 overflows_more : (buf longer : List ℕ) → IsLonger longer buf → RequestOverflows 64 buf → RequestOverflows 64 longer
 overflows_more buf longer w many more h rest reads =
-    let P : List ℕ → Type 0 = λ b. ReadsRequest b h rest in
-    many (w.0 ++ more) h rest (subst P (ap (λ b. b ++ more) w.1 ∙ append_assoc buf w.0 more) reads)
+    many (w.0 ++ more) h rest (subst (λ (b : List ℕ). ReadsRequest b h rest) (ap (λ b. b ++ more) w.1 ∙ append_assoc buf w.0 more) reads)
 
 pub within : (bytes : List ℕ) (h : RequestHead) → HasHead bytes h → length (print_request h) ≤ length bytes
 within bytes h has =
@@ -95,8 +91,7 @@ calls_more bytes more ended o (inr (inr w)) = inr (inr (w.0, large w.1))
   where
     large : IsHeadTooLarge bytes → IsHeadTooLarge (bytes ++ more)
     large (inl l) =
-        let P : List ℕ → Type 0 = HasNoRequest in
-        inl (omega (arith, l.0, length-append bytes more), subst P (sym (front_long bytes more l.0)) l.1)
+        inl (omega (arith, l.0, length-append bytes more), subst HasNoRequest (sym (front_long bytes more l.0)) l.1)
     large (inr x) = inr (exceeds_more (front bytes) (front (bytes ++ more)) (front_more bytes more) x.0, overflows_more (front bytes) (front (bytes ++ more)) (front_more bytes more) x.1)
 
 -- what the bytes call for that a reader gave, all its bytes call for
@@ -105,11 +100,9 @@ whole input bytes None ended o g c = absurd g.gives
 whole input bytes (Some rest) true o g c =
     let none : rest ≡ [] = g.end refl in
     let same : input ≡ bytes = g.gives ∙ ap (λ r. bytes ++ r) none ∙ append-nil bytes in
-    let P : List ℕ → Type 0 = λ b. CallsFor b true o in
-    subst P (sym same) c
+    subst (λ (b : List ℕ). CallsFor b true o) (sym same) c
 whole input bytes (Some rest) false o g c =
-    let P : List ℕ → Type 0 = λ b. CallsFor b true o in
-    subst P (sym g.gives) (calls_more bytes rest true o c)
+    subst (λ (b : List ℕ). CallsFor b true o) (sym g.gives) (calls_more bytes rest true o c)
 
 -- ==== from a look at the bytes to what is told of them
 
@@ -145,24 +138,16 @@ stopped a b c bytes piece ended end g h = record { bytes = bytes ++ piece; ended
 pub waits_still : (bytes slice piece new : List ℕ) (end came ended : Bool) (n : ℕ) → slice ≡ bytes → Judges slice ended (Ok (Wants n)) → IsBrought (Ok came) piece end bytes new → WaitsFor n new
 waits_still bytes slice piece new end true ended n e j w =
     let on : WaitsFor n bytes = subst (λ b. WaitsFor n b) e j.2 in
-    let P : List ℕ → Type 0 = λ b. WaitsFor n b in
-    let Q : List ℕ → Type 0 = λ b. length b < n → IsNotWhole b in
-    subst P (sym w.2) (λ more. subst Q (sym (append_assoc bytes piece more)) (on (piece ++ more)))
-waits_still bytes slice piece new end false ended n e j w =
-    let P : List ℕ → Type 0 = λ b. WaitsFor n b in
-    subst P (e ∙ sym w.2) j.2
+    subst (WaitsFor n) (sym w.2) (λ more. subst (λ (b : List ℕ). length b < n → IsNotWhole b) (sym (append_assoc bytes piece more)) (on (piece ++ more)))
+waits_still bytes slice piece new end false ended n e j w = subst (WaitsFor n) (e ∙ sym w.2) j.2
 
 -- what came is put behind what was there
 pub gave_read : (a b c : Option (List ℕ)) (bytes piece new : List ℕ) (ended end came : Bool) → Gave a b bytes ended → Gave b c piece end → IsBrought (Ok came) piece end bytes new → Gave a c new (not came)
 gave_read a b c bytes piece new ended end true g h w =
-    let P : List ℕ → Type 0 = λ x. Gave a c x false in
-    let Q : Bool → Type 0 = λ x. Gave a c (bytes ++ piece) x in
-    subst P (sym w.2) (subst Q w.0 (gave_more a b c bytes piece ended end g h))
+    subst (λ (x : List ℕ). Gave a c x false) (sym w.2) (subst (Gave a c (bytes ++ piece)) w.0 (gave_more a b c bytes piece ended end g h))
 gave_read a b c bytes piece new ended end false g h w =
-    let P : List ℕ → Type 0 = λ x. Gave a c x true in
-    let Q : Bool → Type 0 = λ x. Gave a c (bytes ++ piece) x in
     let same : bytes ++ piece ≡ new = ap (λ x. bytes ++ x) w.1 ∙ (append-nil bytes ∙ sym w.2) in
-    subst P same (subst Q w.0 (gave_more a b c bytes piece ended end g h))
+    subst (λ (x : List ℕ). Gave a c x true) same (subst (Gave a c (bytes ++ piece)) w.0 (gave_more a b c bytes piece ended end g h))
 
 -- each read that ended nothing gave a byte or more
 pub gave_some : (bytes piece new : List ℕ) (end came : Bool) (k : ℕ) → k ≤ length bytes → IsBrought (Ok came) piece end bytes new → not came ≡ false → k + 1 ≤ length new
@@ -224,8 +209,7 @@ head_stands bytes h s = record { reads = s.0; few = s.1 }
 
 follows : (bytes : List ℕ) (h : RequestHead) (q : Result Envelope HttpFault) (ended : Bool) (o : Result Delivery HttpFault) → Stands (front bytes) h → envelope h ≡ q → Follows q (body_of bytes h) ended o → CallsFor bytes ended o
 follows bytes h q ended o s e f =
-    let P : Result Envelope HttpFault → Type 0 = λ r. Follows r (body_of bytes h) ended o in
-    inl (h, head_stands bytes h s, subst P (sym e) f)
+    inl (h, head_stands bytes h s, subst (λ (r : Result Envelope HttpFault). Follows r (body_of bytes h) ended o) (sym e) f)
 
 -- a fault of the front is one of the bytes
 pub judged_fault : (bytes : List ℕ) (ended : Bool) (f : HttpFault) → IsFaultOf (front bytes) f → CallsFor bytes ended (Err f)
@@ -247,16 +231,14 @@ waits bytes h a n ended on s e short wanted =
 -- fewer bytes than are looked at for a head, of which one may become
 pub awaits_head : (bytes : List ℕ) (ended : Bool) → ended ≡ false → length bytes < 16384 → HasNoRequest (front bytes) × MayBecomeRequest (front bytes) → Judges bytes ended (Ok (Wants 0))
 awaits_head bytes ended on short before =
-    let P : List ℕ → Type 0 = λ b. HasNoRequest b × MayBecomeRequest b in
-    let so = subst P (front_short bytes short) before in
+    let so = subst (λ (b : List ℕ). HasNoRequest b × MayBecomeRequest b) (front_short bytes short) before in
     (on, inl (short, so.0, so.1), λ more few. absurd (omega (arith, few)))
 
 -- bytes behind which so many are awaited, and of which there are too few
 pub still_waits : (bytes : List ℕ) (n : ℕ) (ended : Bool) → ended ≡ false → WaitsFor n bytes → length bytes < n → Judges bytes ended (Ok (Wants n))
 still_waits bytes n ended on waiting few =
     let none : bytes ++ [] ≡ bytes = append-nil bytes in
-    let P : List ℕ → Type 0 = λ b. length b < n in
-    (on, subst IsNotWhole none (waiting [] (subst P (sym none) few)), waiting)
+    (on, subst IsNotWhole none (waiting [] (subst (λ (b : List ℕ). length b < n) (sym none) few)), waiting)
 
 pub judged_head : (bytes : List ℕ) (h : RequestHead) (a : Envelope) (ended : Bool) (r : Result Look RequestFault) → Stands (front bytes) h → envelope h ≡ Ok a → Finishes a (length (print_request h)) (body_of bytes h) ended r → Judges bytes ended r
 judged_head bytes h a ended (Ok (Whole d)) s e f = follows bytes h (Ok a) ended (Ok d) s e f
@@ -274,13 +256,11 @@ pub judged_body : (bytes : List ℕ) (n : ℕ) (a : Envelope) (ended : Bool) (r 
     → ((h : RequestHead) × Stands (front bytes) h × (n ≡ length (print_request h)) × (n ≤ length (front bytes)) × (envelope h ≡ Ok a))
     → Finishes a n (drop n bytes) ended r → Judges bytes ended r
 judged_body bytes n a ended r w f =
-    let P : ℕ → Type 0 = λ m. Finishes a m (drop m bytes) ended r in
-    judged_head bytes w.0 a ended r w.1 w.4 (subst P w.2 f)
+    judged_head bytes w.0 a ended r w.1 w.4 (subst (λ (m : ℕ). Finishes a m (drop m bytes) ended r) w.2 f)
 
 pub ended_in_head : (bytes : List ℕ) (ended : Bool) → ended ≡ true → 0 < length bytes → length bytes < 16384 → HasNoRequest (front bytes) → CallsFor bytes ended (Err BadHead)
 ended_in_head bytes ended e some short none =
-    let P : List ℕ → Type 0 = λ b. HasNoRequest b in
-    inr (inl (refl, inr (e, some, short, subst P (front_short bytes short) none)))
+    inr (inl (refl, inr (e, some, short, subst HasNoRequest (front_short bytes short) none)))
 
 pub front_within : (bytes : List ℕ) (n : ℕ) → n ≤ length (front bytes) → n ≤ length bytes
 front_within bytes n h = omega (arith, length-take 16384 bytes)
@@ -359,25 +339,21 @@ heads_one : (bytes : List ℕ) (h k : RequestHead) (ended : Bool) (o p : Result 
     → Follows (envelope h) (body_of bytes h) ended o → Follows (envelope k) (body_of bytes k) ended p → o ≡ p
 heads_one bytes h k ended o p a b x y =
     let same : h ≡ k = (request_unique (front bytes) h k _ _ a.reads b.reads).0 in
-    let P : RequestHead → Type 0 = λ z. Follows (envelope z) (body_of bytes z) ended p in
-    follows_one (envelope h) (body_of bytes h) ended o p x (subst P (sym same) y)
+    follows_one (envelope h) (body_of bytes h) ended o p x (subst (λ (z : RequestHead). Follows (envelope z) (body_of bytes z) ended p) (sym same) y)
 
 -- a head that stands there is no bad one
 pub not_bad : (bytes : List ℕ) (h : RequestHead) (ended : Bool) → HasHead bytes h → IsBadHead bytes ended → ⊥
 not_bad bytes h ended a (inl never) =
-    let P : List ℕ → Type 0 = λ b. ReadsRequest b h (drop (length (print_request h)) (front bytes)) in
-    never [] h _ (subst P (sym (append-nil (front bytes))) a.reads)
+    never [] h _ (subst (λ (b : List ℕ). ReadsRequest b h (drop (length (print_request h)) (front bytes))) (sym (append-nil (front bytes))) a.reads)
 not_bad bytes h ended a (inr x) =
     let same : front bytes ≡ bytes = take_all 16384 bytes (omega (arith, x.2)) in
-    let P : List ℕ → Type 0 = λ b. ReadsRequest b h (drop (length (print_request h)) (front bytes)) in
-    x.3 h _ (subst P same a.reads)
+    x.3 h _ (subst (λ (b : List ℕ). ReadsRequest b h (drop (length (print_request h)) (front bytes))) same a.reads)
 
 -- nor one too large
 pub not_large : (bytes : List ℕ) (h : RequestHead) → HasHead bytes h → IsHeadTooLarge bytes → ⊥
 not_large bytes h a (inl x) = x.1 h _ a.reads
 not_large bytes h a (inr x) =
-    let P : List ℕ → Type 0 = λ b. ReadsRequest b h (drop (length (print_request h)) (front bytes)) in
-    let many : 64 < length h.fields = x.1 [] h _ (subst P (sym (append-nil (front bytes))) a.reads) in
+    let many : 64 < length h.fields = x.1 [] h _ (subst (λ (b : List ℕ). ReadsRequest b h (drop (length (print_request h)) (front bytes))) (sym (append-nil (front bytes))) a.reads) in
     absurd (omega (arith, many, a.few))
 
 pub one : (bytes : List ℕ) (ended : Bool) (o p : Result Delivery HttpFault) → CallsFor bytes ended o → CallsFor bytes ended p → (o ≡ p) ⊎ (IsHeadFault o × IsHeadFault p × IsBadHead bytes ended × IsHeadTooLarge bytes)
@@ -406,12 +382,10 @@ no_follow q a rest o e short f = by_case (subst (λ r. Follows r rest false o) e
 
 head_waits : (bytes : List ℕ) (h : RequestHead) (o : Result Delivery HttpFault) → IsNotWhole bytes → HasHead bytes h → Follows (envelope h) (body_of bytes h) false o → ⊥
 head_waits bytes h o (inl w) has f =
-    let P : List ℕ → Type 0 = λ b. ReadsRequest b h (drop (length (print_request h)) (front bytes)) in
-    w.1 h _ (subst P (front_short bytes w.0) has.reads)
+    w.1 h _ (subst (λ (b : List ℕ). ReadsRequest b h (drop (length (print_request h)) (front bytes))) (front_short bytes w.0) has.reads)
 head_waits bytes h o (inr w) has f =
     let same : h ≡ w.0 = (request_unique (front bytes) h w.0 _ _ has.reads w.1.reads).0 in
-    let P : RequestHead → Type 0 = λ k. Follows (envelope k) (body_of bytes k) false o in
-    no_follow (envelope w.0) w.2 (body_of bytes w.0) o w.3 w.4 (subst P same f)
+    no_follow (envelope w.0) w.2 (body_of bytes w.0) o w.3 w.4 (subst (λ (k : RequestHead). Follows (envelope k) (body_of bytes k) false o) same f)
 
 in_target : (bytes : List ℕ) → NeverHasRequest bytes → MayBecomeRequest bytes → EndsInTarget bytes
 in_target bytes never (inl x) = absurd (never x.0 x.1 [] x.2)

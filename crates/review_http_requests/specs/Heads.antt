@@ -1,16 +1,91 @@
--- What a head asks for, or the first of its faults.
-use Rattle.std.specs.List.{before_first}
-use Rattle.std.specs.Prelude.{ℕ, List, map, Bool, ◌==◌, nat_le, if◌then◌else◌, Option, Some, None, option_and_then, codes, Result, Ok, Err}
-use Rattle.httparse.specs.{Grammar.RequestHead, Spans.name_and_value}
+-- What a head asks for, or the first of its faults, and the fields that a head has.
+use Rattle.std.specs.{Char.is_ascii_digit, Char.to_ascii_lowercase, List.before_first}
+use Rattle.std.specs.Prelude.{◌≡◌, Result, Ok, Err, Option, Some, None, ℕ, ◌+◌, ◌-◌, ◌*◌, List, [], ◌∷◌, map, Bool, if◌then◌else◌, ◌==◌, nat_le, option_and_then, codes}
+use Rattle.{std.specs.Str.bytes_eq, httparse.specs.Grammar.RequestHead, httparse.specs.Spans.name_and_value}
 use Rattle.review_names.specs.{Names.is_word, Numerals.account_of, Numerals.number_of}
-use Rattle.review_json_routes.specs.{Parts.epoch_from, Questions.is_question, Questions.needs_body, Texts.name_of_bytes}
-use Rattle.review_json_routes.specs.declared.route.Route.{Route}
-use Rattle.review_http_requests.specs.Faults.{or_fault, ◌>>=◌}
-use Rattle.review_http_requests.specs.Fields.{Fields, Occurs, absent, once, again, occurs, one_value, number_shown}
-use Rattle.review_http_requests.specs.{Methods.route_of, Resources.resource_of}
-use Rattle.review_http_requests.specs.declared.{envelope.Envelope.Envelope, http_fault.HttpFault.HttpFault}
+use Rattle.review_json_routes.specs.{Commands.is_question, Commands.needs_body, Parts.epoch_from, Parts.name_of_bytes}
+use Rattle.review_json_routes.specs.declared.{fault.BadBody.BadBody, route.Route.Route}
+use Rattle.review_http_requests.specs.{Methods.route_of, Resources.resource_of, declared.envelope.Envelope.Envelope}
+use Rattle.review_http_requests.specs.declared.fault.Refused.{Refused, TheVariants.Http, TheVariants.Memory}
+use Rattle.review_http_requests.specs.declared.http_fault.HttpFault.{HttpFault}
 use Rattle.review_http_requests.specs.declared.http_fault.HttpFault.TheVariants.{BadHead, NoRoute, Method, NoCaller, NoRequestId, BadEpoch, LengthRequired, TooLarge}
 use Rattle.review_http_requests.specs.declared.{methods.Methods.Methods, resources.Resource.Resource}
+use Rattle.review_json_routes.specs.declared.fault.BadBody.TheVariants as bad
+
+-- what was answered is what is expected, unless memory ran out
+abbrev pub Answers : {X : Type 0} → Result X Refused → Result X HttpFault → Type 0
+Answers (Ok x) expected = expected ≡ Ok x
+Answers (Err (Http f)) expected = expected ≡ Err f
+Answers (Err Memory) expected = Unit {0}
+
+-- this fault, unless memory ran out
+abbrev pub unless_memory : BadBody → HttpFault → Refused
+unless_memory bad.Form f = Http f
+unless_memory bad.Memory f = Memory
+
+-- what is there, or a fault
+abbrev pub or_fault : {X : Type 0} → HttpFault → Option X → Result X HttpFault
+or_fault f None = Err f
+or_fault f (Some x) = Ok x
+
+-- what is read further, where nothing was wrong so far: the first fault counts
+infixl 10 ◌>>=◌
+abbrev pub ◌>>=◌ : {A B : Type 0} → Result A HttpFault → (A → Result B HttpFault) → Result B HttpFault
+(Ok x) >>= f = f x
+(Err e) >>= f = Err e
+
+-- names and values, in the order of the head; a value is without the spaces and tabs around it
+abbrev pub Fields : Type 0
+Fields = List (List ℕ × List ℕ)
+
+-- how a field stands in a head: not at all, once with this value, or again
+pub data Occurs : Type 0 where
+  absent : Occurs
+  once : List ℕ → Occurs
+  again : Occurs
+
+-- a field stands once more
+abbrev pub and_again : List ℕ → Occurs → Occurs
+and_again value absent = once value
+and_again value (once first) = again
+and_again value again = again
+
+-- the same name, without regard to ASCII case
+abbrev pub is_named : List ℕ → List ℕ → Bool
+is_named name other = bytes_eq (map to_ascii_lowercase other) (map to_ascii_lowercase name)
+
+-- what was found of a name, and one field more
+abbrev pub with_field : List ℕ → List ℕ × List ℕ → Occurs → Occurs
+with_field name field found = if is_named name field.0 then and_again field.1 found else found
+
+-- what was found of a name, and then the fields of a list
+abbrev pub occurs_from : Occurs → List ℕ → Fields → Occurs
+occurs_from found name [] = found
+occurs_from found name (field ∷ fields) = occurs_from (with_field name field found) name fields
+
+-- how the field of a name stands in a head
+unfoldable pub occurs : List ℕ → Fields → Occurs
+occurs name fields = occurs_from absent name fields
+
+-- the value of a field that stands once
+abbrev pub one_value : Occurs → Option (List ℕ)
+one_value absent = None
+one_value (once value) = Some value
+one_value again = None
+
+-- the number whose digits are those of n and then those of the text
+abbrev pub digits_after : ℕ → List ℕ → Option ℕ
+digits_after n [] = Some n
+digits_after n (c ∷ cs) = if is_ascii_digit c then digits_after (n * 10 + (c - 48)) cs else None
+
+-- the number that one digit or more show in decimal, perhaps with zeros in front
+unfoldable pub number_shown : List ℕ → Option ℕ
+number_shown [] = None
+number_shown (c ∷ cs) = digits_after 0 (c ∷ cs)
+
+-- where a number of digits is cut, above the greatest length of a body
+abbrev pub most : ℕ
+most = 10000000
 
 -- ---- where it goes
 

@@ -17,17 +17,9 @@ methods_text GetAndPut = codes "GET, PUT"
 methods_text Post = codes "POST"
 methods_text Put = codes "PUT"
 
--- a resource that takes GET alone
-abbrev pub by_get : List ℕ → Route → Result Route Methods
-by_get method route = if bytes_eq method (codes "GET") then Ok route else Err Get
-
--- a resource that takes POST alone
-abbrev pub by_post : List ℕ → Route → Result Route Methods
-by_post method route = if bytes_eq method (codes "POST") then Ok route else Err Post
-
--- a resource that takes PUT alone
-abbrev pub by_put : List ℕ → Route → Result Route Methods
-by_put method route = if bytes_eq method (codes "PUT") then Ok route else Err Put
+-- a resource that takes one method alone
+abbrev pub by_one : Methods → List ℕ → Route → Result Route Methods
+by_one only method route = if bytes_eq method (methods_text only) then Ok route else Err only
 
 -- what a method asks of a branch
 abbrev pub of_branch : List ℕ → List ℕ → List ℕ → Result Route Methods
@@ -43,13 +35,13 @@ of_attention method change =
 
 -- what a method asks of a resource, or where it is none of the resource's the methods that are
 abbrev pub route_of : List ℕ → Resource → Result Route Methods
-route_of method Accounts = by_post method route.CreateAccount
-route_of method (Group group) = by_put method (route.PutGroup group)
-route_of method (Project project) = by_put method (route.PutProject project)
+route_of method Accounts = by_one Post method route.CreateAccount
+route_of method (Group group) = by_one Put method (route.PutGroup group)
+route_of method (Project project) = by_one Put method (route.PutProject project)
 route_of method (Branch project branch) = of_branch method project branch
-route_of method Changes = by_post method route.CreateChange
-route_of method (AskChange change query) = by_get method (route.AskChange change query)
-route_of method (OnChange change asked) = by_post method (route.OnChange change asked)
+route_of method Changes = by_one Post method route.CreateChange
+route_of method (AskChange change query) = by_one Get method (route.AskChange change query)
+route_of method (OnChange change asked) = by_one Post method (route.OnChange change asked)
 route_of method (Attention change) = of_attention method change
-route_of method (Submit change) = by_post method (route.Submit change)
-route_of method CloseEpoch = by_post method route.CloseEpoch
+route_of method (Submit change) = by_one Post method (route.Submit change)
+route_of method CloseEpoch = by_one Post method route.CloseEpoch

@@ -1,5 +1,5 @@
 -- The table of paths, as the router's definition has it.
-use Rattle.std.specs.Prelude.{ℕ, List, [], ◌∷◌, ◌++◌, Option, option_map, codes, Result, Ok, Err}
+use Rattle.std.specs.Prelude.{ℕ, List, [], ◌∷◌, ◌++◌, Option, option_map, codes, Result, Ok, Err, ◌≡◌, length}
 use Rattle.matchit.specs.{Order.placed, Route.Scan, Route.parse_route, Router.RouteOf, Router.route_from, Rows.RowsOf}
 use Rattle.matchit.specs.{Seek.first, declared.error.InsertError.InsertError}
 use Rattle.review_http_requests.specs.declared.table.Place.{Place}
@@ -74,3 +74,7 @@ table = with_paths paths []
 -- the place of a path, by the router's definition
 abbrev pub place_of : List ℕ → Option Place
 place_of path = option_map (λ r. r.value) (first table path)
+
+-- no path is left out of the table: each is one that the router reads
+abbrev pub HoldsEachPath : Type 0
+HoldsEachPath = length table ≡ length paths

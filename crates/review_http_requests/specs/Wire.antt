@@ -3,8 +3,8 @@ use Rattle.std.specs.Prelude.{◌≡◌, ◌<◌, ◌≤◌, ◌⊎◌, ℕ, Lis
 use Rattle.httparse.specs.Grammar.{RequestHead, ReadsRequest, HasNoRequest, NeverHasRequest, MayBecomeRequest, print_request}
 use Rattle.httparse.specs.Spans.{RequestExceeds, RequestOverflows}
 use Rattle.review_words.specs.declared.command.Delivery.{Delivery, TheVariants.Write, TheVariants.Read}
-use Rattle.review_json_routes.specs.{Commands.command_of, Questions.query_of, declared.route.Route.Route}
-use Rattle.review_http_requests.specs.{Faults.or_fault, Heads.envelope}
+use Rattle.review_json_routes.specs.{Commands.command_of, Commands.query_of, declared.route.Route.Route}
+use Rattle.review_http_requests.specs.Heads.{or_fault, envelope}
 use Rattle.review_http_requests.specs.declared.{envelope.Envelope.Envelope, http_fault.HttpFault.HttpFault}
 use Rattle.review_http_requests.specs.declared.http_fault.HttpFault.TheVariants.{BadHead, HeadTooLarge, BadBody}
 

@@ -1,6 +1,6 @@
 //! Why no delivery came of a request.
 ghost use Rattle.std.specs.Prelude.{◌≡◌};
-ghost use Rattle.review_http_requests.specs.Faults.{unless_memory};
+ghost use Rattle.review_http_requests.specs.Heads.{unless_memory};
 
 use crate::HttpFault;
 use review_json_routes::BadBody;

@@ -1,8 +1,8 @@
 //! The fields of a head.
 ghost use Rattle.std.specs.Prelude.{◌≡◌, ◌≤◌, length, map, min, option_map, All};
 ghost use Rattle.httparse.specs.Spans.{header_bytes, IsHeaderWithin};
-ghost use Rattle.review_http_requests.specs.Fields.{is_named, and_again, with_field, occurs, one_value, number_shown, most};
-ghost use Rattle.review_http_requests.specs.Seen.{seen};
+ghost use Rattle.review_http_requests.specs.Heads.{is_named, and_again, with_field, occurs, one_value, number_shown, most};
+ghost use Rattle.review_http_requests.specs.inner.Words.{seen};
 
 use httparse::spans::HeaderSpan;
 
@@ -42,7 +42,7 @@ fn with_field<'b>(found: Field<'b>, buf: &'b [u8], header: &HeaderSpan, name: &[
 }
 
 /// The field of a name, without regard to ASCII case.
-#[tactic(auto, unfolding(crate::specs::Fields::occurs))]
+#[tactic(auto, unfolding(crate::specs::Heads::occurs))]
 pub fn find_field<'b>(buf: &'b [u8], headers: &[HeaderSpan], name: &[u8]) -> Field<'b>
     requires { All (IsHeaderWithin (length buf.now)) headers.now }
     ensures { seen result ≡ occurs name.now (map (header_bytes buf.now) headers.now) }
@@ -68,7 +68,7 @@ pub fn one_value<'b>(found: Field<'b>) -> Option<&'b [u8]>
 const MOST: usize = 10_000_000;
 
 /// The number of one digit or more, in decimal and perhaps with zeros in front; 10,000,000 for any greater one.
-#[tactic(auto, unfolding(crate::specs::Fields::number_shown))]
+#[tactic(auto, unfolding(crate::specs::Heads::number_shown))]
 pub fn number_shown(text: &[u8]) -> Option<usize>
     ensures { result ≡ option_map (λ n. min n most) (number_shown text.now) }
 {

@@ -1,9 +1,8 @@
 //! What a head asks for.
 ghost use Rattle.std.specs.Prelude.{◌≡◌, ◌≤◌, length, map, All};
 ghost use Rattle.{std.specs.Str.IsUtf8, httparse.specs.Spans.header_bytes, httparse.specs.Spans.IsHeaderWithin};
-ghost use Rattle.review_http_requests.specs.Faults.{Answers};
-ghost use Rattle.review_http_requests.specs.Heads.{caller_of, id_of, epoch_shown, epoch_named, epoch_of, capped, length_from, length_of, path_of, routed, routed_by, question_by, request_by, envelope_by};
-ghost use Rattle.review_http_requests.specs.Seen.{seen};
+ghost use Rattle.review_http_requests.specs.Heads.{Answers, caller_of, id_of, epoch_shown, epoch_named, epoch_of, capped, length_from, length_of, path_of, routed, routed_by, question_by, request_by, envelope_by};
+ghost use Rattle.review_http_requests.specs.inner.Words.{seen};
 
 use crate::envelope::Envelope;
 use crate::fault::{Refused, unless_memory};

@@ -2,9 +2,8 @@
 ghost use Rattle.std.specs.Prelude.{◌≡◌, ◌<◌, ◌≤◌, length, drop, take, Ok, option_map, Some, None, Err, IfOk};
 ghost use Rattle.httparse.specs.Grammar.{HasNoRequest, MayBecomeRequest};
 ghost use Rattle.review_json_routes.specs.Parts.{Gives};
-ghost use Rattle.review_http_requests.specs.{Faults.Answers, Judged.Judges, Judged.WaitsFor};
-ghost use Rattle.review_http_requests.specs.Wire.{delivered, delivery_of, front};
-ghost use Rattle.review_http_requests.specs.inner.Words.{HeadIs, Finishes, request_fault};
+ghost use Rattle.review_http_requests.specs.{Heads.Answers, Wire.delivered, Wire.delivery_of, Wire.front};
+ghost use Rattle.review_http_requests.specs.inner.Words.{Judges, WaitsFor, HeadIs, Finishes, request_fault};
 
 use crate::envelope::Envelope;
 use crate::fault::{Refused, RequestFault, unless_memory};

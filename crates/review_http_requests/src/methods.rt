@@ -1,6 +1,6 @@
 //! What methods ask of a resource.
 ghost use Rattle.std.specs.Prelude.{◌≡◌};
-ghost use Rattle.review_http_requests.specs.Methods.{methods_text, by_get, by_post, by_put, of_branch, of_attention, route_of};
+ghost use Rattle.review_http_requests.specs.Methods.{methods_text, by_one, of_branch, of_attention, route_of};
 
 use crate::resources::Resource;
 use review_json_routes::{ChangeRoute, Route};
@@ -31,33 +31,14 @@ impl Methods {
     }
 }
 
-fn by_get(method: &[u8], route: Route) -> Result<Route, Methods>
-    ensures { result ≡ by_get method.now route }
+fn by_one(only: Methods, method: &[u8], route: Route) -> Result<Route, Methods>
+    ensures { result ≡ by_one only method.now route }
 {
-    if method == b"GET".as_slice() {
+    let name = only.text();
+    if method == name.as_bytes() {
         Ok(route)
     } else {
-        Err(Methods::Get)
-    }
-}
-
-fn by_post(method: &[u8], route: Route) -> Result<Route, Methods>
-    ensures { result ≡ by_post method.now route }
-{
-    if method == b"POST".as_slice() {
-        Ok(route)
-    } else {
-        Err(Methods::Post)
-    }
-}
-
-fn by_put(method: &[u8], route: Route) -> Result<Route, Methods>
-    ensures { result ≡ by_put method.now route }
-{
-    if method == b"PUT".as_slice() {
-        Ok(route)
-    } else {
-        Err(Methods::Put)
+        Err(only)
     }
 }
 
@@ -92,15 +73,27 @@ pub fn route_of(method: &[u8], resource: Resource) -> Result<Route, Methods>
     ensures { result ≡ route_of method.now resource }
 {
     match resource {
-        Resource::Accounts => by_post(method, Route::CreateAccount),
-        Resource::Group { group } => by_put(method, Route::PutGroup { group }),
-        Resource::Project { project } => by_put(method, Route::PutProject { project }),
+        Resource::Accounts => by_one(Methods::Post, method, Route::CreateAccount),
+        Resource::Group { group } => by_one(Methods::Put, method, Route::PutGroup { group }),
+        Resource::Project { project } => by_one(
+            Methods::Put,
+            method,
+            Route::PutProject { project },
+        ),
         Resource::Branch { project, branch } => of_branch(method, project, branch),
-        Resource::Changes => by_post(method, Route::CreateChange),
-        Resource::AskChange { change, query } => by_get(method, Route::AskChange { change, query }),
-        Resource::OnChange { change, asked } => by_post(method, Route::OnChange { change, asked }),
+        Resource::Changes => by_one(Methods::Post, method, Route::CreateChange),
+        Resource::AskChange { change, query } => by_one(
+            Methods::Get,
+            method,
+            Route::AskChange { change, query },
+        ),
+        Resource::OnChange { change, asked } => by_one(
+            Methods::Post,
+            method,
+            Route::OnChange { change, asked },
+        ),
         Resource::Attention { change } => of_attention(method, change),
-        Resource::Submit { change } => by_post(method, Route::Submit { change }),
-        Resource::CloseEpoch => by_post(method, Route::CloseEpoch),
+        Resource::Submit { change } => by_one(Methods::Post, method, Route::Submit { change }),
+        Resource::CloseEpoch => by_one(Methods::Post, method, Route::CloseEpoch),
     }
 }

@@ -1,8 +1,8 @@
 //! A request, read.
 ghost use Rattle.std.specs.Prelude.{◌≡◌, ◌+◌, ◌≤◌, length, Err, IfSome, min};
 ghost use Rattle.review_http_requests.specs.Counts.{greatest, one_more};
+ghost use Rattle.review_http_requests.specs.RequestLaws.{WasTold, IsToldOfInput};
 ghost use Rattle.review_http_requests.specs.Shown.{inner_of, reads_of, faults_of};
-ghost use Rattle.review_http_requests.specs.Told.{WasTold, IsToldOfInput};
 
 use crate::fault::RequestFault;
 use crate::judge::{Look, judge, judge_enough};

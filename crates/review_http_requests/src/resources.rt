@@ -3,8 +3,7 @@ ghost use Rattle.std.specs.Prelude.{◌≡◌, option_map};
 ghost use Rattle.review_names.specs.{Forms.is_slashed_name, Names.is_word};
 ghost use Rattle.review_json_routes.specs.Parts.{Gives};
 ghost use Rattle.review_json_routes.specs.declared.route.ChangeRoute.TheVariants.{RemoveReviewer, RemoveAttention};
-ghost use Rattle.review_http_requests.specs.Resources.{branch_at, told_at, asked_at, review_at, about_at, resource_at, resource_of};
-ghost use Rattle.review_http_requests.specs.Segments.{segment, name_in, change_in};
+ghost use Rattle.review_http_requests.specs.Resources.{branch_at, told_at, asked_at, review_at, about_at, resource_at, resource_of, segment, name_in, change_in};
 ghost use Rattle.review_http_requests.specs.declared.resources.Resource.TheVariants.{Group, Project, Attention, Submit};
 
 use crate::segments::{account_in, change_in, name_in, patch_in, segment};

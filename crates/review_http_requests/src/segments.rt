@@ -1,7 +1,7 @@
 //! The segments of a path, and the names and numbers that they are once decoded.
 ghost use Rattle.std.specs.Prelude.{◌≡◌, IfOk};
 ghost use Rattle.{percent_encoding.specs.Percent.percent_decode, review_json_routes.specs.Parts.Gives};
-ghost use Rattle.review_http_requests.specs.Segments.{segment, name_in, account_in, change_shown, change_in, patch_numbered, patch_shown, patch_in};
+ghost use Rattle.review_http_requests.specs.Resources.{segment, name_in, account_in, change_shown, change_in, patch_numbered, patch_shown, patch_in};
 
 use percent_encoding::percent_decode;
 use review_json_routes::{BadBody, name_of_bytes};
@@ -35,7 +35,7 @@ fn decoded(alloc: Global, segment: &str) -> Result<Vec<u8>, AllocError>
 }
 
 /// The name that a segment is once decoded: Form where the decoded bytes aren't a text in UTF-8 of the name's form.
-#[tactic(auto, unfolding(crate::specs::Segments::name_in))]
+#[tactic(auto, unfolding(crate::specs::Resources::name_in))]
 pub fn name_in<F: Form>(alloc: Global, segment: &str) -> Result<Name<F>, BadBody>
     ensures { Gives result (name_in F.is_form segment.now) }
 {
@@ -44,7 +44,7 @@ pub fn name_in<F: Form>(alloc: Global, segment: &str) -> Result<Name<F>, BadBody
 }
 
 /// The account whose number a segment is once decoded, in decimal without leading zeros.
-#[tactic(auto, unfolding(crate::specs::Segments::account_in))]
+#[tactic(auto, unfolding(crate::specs::Resources::account_in))]
 pub fn account_in(alloc: Global, segment: &str) -> Result<AccountNo, BadBody>
     ensures { Gives result (account_in segment.now) }
 {
@@ -59,7 +59,7 @@ fn change_shown(bytes: &[u8]) -> Option<ChangeNo>
 }
 
 /// The change whose number a segment is once decoded, in decimal without leading zeros.
-#[tactic(auto, unfolding(crate::specs::Segments::change_in))]
+#[tactic(auto, unfolding(crate::specs::Resources::change_in))]
 pub fn change_in(alloc: Global, segment: &str) -> Result<ChangeNo, BadBody>
     ensures { Gives result (change_in segment.now) }
 {
@@ -84,7 +84,7 @@ fn patch_shown(bytes: &[u8]) -> Result<Option<PatchNo>, BadBody>
 }
 
 /// The patch set that a segment means once decoded: its number in decimal without leading zeros, or `current`, for which it is none.
-#[tactic(auto, unfolding(crate::specs::Segments::patch_in))]
+#[tactic(auto, unfolding(crate::specs::Resources::patch_in))]
 pub fn patch_in(alloc: Global, segment: &str) -> Result<Option<PatchNo>, BadBody>
     ensures { Gives result (patch_in segment.now) }
 {

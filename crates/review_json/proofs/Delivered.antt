@@ -11,21 +11,15 @@ use Rattle.review_names.specs.Forms.{is_message, is_place, is_commit, is_line}
 use Rattle.review_names.specs.{Names.is_word, Numerals.◌>>=◌}
 use Rattle.review_words.specs.{Reviews.all_written, declared.changes.NewComment.NewComment}
 use Rattle.review_words.specs.declared.command.{ChangeCommand.ChangeCommand, Command.Command, Delivery.Delivery}
-use Rattle.review_json_routes.specs.Changes.{new_change, new_patch}
-use Rattle.review_json_routes.specs.Commands.{change_command_in, command_in, command_of}
-use Rattle.review_json_routes.specs.Comments.{line_in, answered_in, comment_of, comments_on, comments_at, comments_from, written, comments_of, comments_in}
-use Rattle.review_json_routes.specs.Parts.{formed, or_absent, name_at, flag_at, text_at, members_at, account_at, epoch_at, epoch_or_first}
-use Rattle.review_json_routes.specs.Questions.{query_of, is_question}
-use Rattle.review_json_routes.specs.Reviews.{message_in, has_refused, said}
-use Rattle.review_json_routes.specs.Roles.{account_named_at, role_in}
-use Rattle.review_json_routes.specs.Texts.{text_of, value_spelled, if_object, body_spelled}
-use Rattle.review_json_routes.specs.{Votes.labels_in, declared.route.ChangeRoute.ChangeRoute}
+use Rattle.review_json_routes.specs.Commands.{new_change, new_patch, change_command_in, command_in, command_of, query_of, is_question, account_named_at, role_in}
+use Rattle.review_json_routes.specs.Parts.{formed, or_absent, name_at, flag_at, text_at, members_at, account_at, epoch_at, epoch_or_first, text_of, value_spelled, if_object, body_spelled}
+use Rattle.review_json_routes.specs.Reviews.{line_in, answered_in, comment_of, comments_on, comments_at, comments_from, written, comments_of, comments_in, message_in, has_refused, said, labels_in}
+use Rattle.review_json_routes.specs.declared.route.ChangeRoute.{ChangeRoute}
 use Rattle.review_json_routes.specs.declared.route.ChangeRoute.TheVariants.{Upload, Review, AddReviewer, AddAttention, RemoveAttention}
 use Rattle.review_json_routes.specs.declared.route.Route.{Route}
 use Rattle.review_json_routes.specs.declared.route.Route.TheVariants.{CreateAccount, PutGroup, PutProject, RecordBase, CreateChange, OnChange, CloseEpoch}
 use Rattle.review_json.specs.Laws.{asked_comments, made_comments, delivered_comments, CommentsOfBodiesGoByPlace, CommentsGoByPlace}
-use Rattle.review_json.specs.Line.{body_in, command_in_line, write_in, read_in, delivery_in, delivery_spelled}
-use Rattle.review_json.specs.Routes.{route_named}
+use Rattle.review_json.specs.Line.{body_in, command_in_line, write_in, read_in, delivery_in, delivery_spelled, route_named}
 use Rattle.json.specs.Json as json
 
 -- ==== what a text spells has the members of each object in the order of their keys

@@ -10,8 +10,7 @@ use Rattle.review_words.specs.declared.reply.NotTaken.TheVariants.{Memory, Store
 use Rattle.review_words.specs.declared.reply.Refusal.{Refusal, TheVariants.BadFile, TheVariants.RequirementUnsatisfied}
 use Rattle.review_words.specs.declared.reply.Reply.{Reply}
 use Rattle.review_words.specs.declared.reply.Reply.TheVariants.{Done, Refused, IdentityReused, EpochClosed, NotTaken}
-use Rattle.review_json.specs.Shown.{joined_data, change_data, requirements_data, threads_data, attention_data}
-use Rattle.review_json.specs.Values.{number_data, texts_data, numbers_data}
+use Rattle.review_json.specs.Shown.{joined_data, change_data, requirements_data, threads_data, attention_data, number_data, texts_data, numbers_data}
 
 -- the name of a cause for which a delivery was not taken
 abbrev pub cause_name : Cause → List ℕ

@@ -1,6 +1,4 @@
-pub mod Routes
 pub mod Line
-pub mod Values
 pub mod Shown
 pub mod Answer
 pub mod Tokens

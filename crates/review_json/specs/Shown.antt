@@ -1,12 +1,23 @@
--- The JSON of what questions about a change or a branch are told; the members of an object stand in the order of their keys.
+-- The JSON of numbers and texts, and of what questions about a change or a branch are told; the members of an object stand in the order of their keys.
 use Rattle.std.specs.Prelude.{ℕ, List, map, codes, Option, Some, None}
-use Rattle.serde_json.specs.Data.{Data, boolean, number, string, array, object, Items, Members, no_members, member}
+use Rattle.serde_json.specs.Data.{Data, number, unsigned, string, Items, boolean, array, object, Members, no_members, member}
 use Rattle.serde_json.specs.{Find.of_integer, View.items_of}
 use Rattle.review_words.specs.States.{state_name, status_name}
 use Rattle.review_words.specs.declared.shown.{JoinedChange.JoinedChange, ShownAttentionEntry.ShownAttentionEntry}
 use Rattle.review_words.specs.declared.shown.{ShownChange.ShownChange, ShownComment.ShownComment}
 use Rattle.review_words.specs.declared.shown.{ShownRequirement.ShownRequirement, ShownVote.ShownVote, Thread.Thread}
-use Rattle.review_json.specs.Values.{number_data, numbers_data}
+
+-- a whole number as JSON
+abbrev pub number_data : ℕ → Data
+number_data n = number (unsigned n)
+
+-- texts in their order
+abbrev pub texts_data : List (List ℕ) → Items
+texts_data texts = items_of (map (λ text. string text) texts)
+
+-- numbers in their order
+abbrev pub numbers_data : List ℕ → Items
+numbers_data numbers = items_of (map number_data numbers)
 
 -- a vote
 abbrev pub vote_data : ShownVote → Data

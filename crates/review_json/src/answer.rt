@@ -4,7 +4,7 @@ ghost use Rattle.serde_json.specs.{Data.member, Data.no_members, Data.object, Da
 ghost use Rattle.review_words.specs.{Faults.code_name, declared.faults.FileFault.TheVariants.Expr};
 ghost use Rattle.review_words.specs.declared.reply.Answer.TheVariants.{Branch, Change, Patch};
 ghost use Rattle.review_json.specs.Answer.{cause_name, answer_data, bad_file_data, named_fault_data, refusal_data, reply_data, unsatisfied_data};
-ghost use Rattle.review_json.specs.{Tokens.HasPut, Tokens.value_tokens, Values.number_data};
+ghost use Rattle.review_json.specs.{Shown.number_data, Tokens.HasPut, Tokens.value_tokens};
 
 use crate::text::{JsonText, Written};
 use review_words::{

@@ -4,7 +4,7 @@ ghost use Rattle.json.specs.Print.{print};
 ghost use Rattle.json.specs.Token.{begin_array, begin_object, end_array, end_object, key};
 ghost use Rattle.serde_json.specs.Data.{Data, array, boolean, number, string};
 ghost use Rattle.serde_json.specs.{Find.of_integer, View.items_of};
-ghost use Rattle.review_json.specs.{Tokens.HasPut, Tokens.member_tokens, Tokens.value_tokens, Values.number_data};
+ghost use Rattle.review_json.specs.{Shown.number_data, Tokens.HasPut, Tokens.member_tokens, Tokens.value_tokens};
 
 use json::Writer;
 use std::alloc::{AllocError, Global};

@@ -1,7 +1,7 @@
 //! The values of numbers, names, flags and lists.
 ghost use Rattle.std.specs.Prelude.{map};
 ghost use Rattle.serde_json.specs.{Data.array, Data.boolean, Data.number, Data.string, Find.of_integer, View.items_of};
-ghost use Rattle.review_json.specs.Values.{number_data, numbers_data, texts_data};
+ghost use Rattle.review_json.specs.Shown.{number_data, numbers_data, texts_data};
 
 use crate::text::{JsonText, Written};
 use review_names::{Form, Name};

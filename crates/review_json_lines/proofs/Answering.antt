@@ -1,9 +1,10 @@
 -- The answers to lines, one by one.
-use Rattle.std.proofs.Common.{◌≡◌, ◌<◌, ◌++◌, ◌==◌, ℕ, List, [], ◌∷◌, length, refl, false, Option, Some, None, arith, sym, ap, ◌∙◌, append_assoc, append-nil, inl, inr, subst, suc, ◌&&◌, Bool, true, length-append, Result, Ok, Err, IfOk, OnOk, take, drop, take-append-drop, IfErr, IsErrAnd, ◌+◌, ◌≤◌, length-take-le}
-use Rattle.std.proofs.{KnownBytes.Appends-nil, KnownBytes.Appends-trans, Math.Seq.take-append-add}
-use Rattle.std.{proofs.lemmas.Bool.Decides.nat_tests, specs.Io.KnownBytes.IsAtEnd, specs.Io.KnownBytes.Appends}
-use Rattle.{std.specs.declared.alloc.AllocError.AllocError, review_words.specs.declared.command.Delivery.Delivery}
-use Rattle.{review_words.specs.declared.reply.Reply.Reply, review_machine_rows.specs.Shelf.Shown}
+use Rattle.std.proofs.Common.{◌≡◌, ◌<◌, ◌++◌, ◌==◌, ℕ, List, [], ◌∷◌, length, refl, false, Option, Some, None, arith, sym, ap, ◌∙◌, append_assoc, append-nil, inl, inr, subst, suc, ◌&&◌, Bool, true, length-append, Result, Ok, Err, IfOk, OnOk, take, drop, take-append-drop, IfErr, IsErrAnd, ◌+◌, ◌≤◌}
+use Rattle.std.proofs.KnownBytes.{Appends-nil, Appends-trans}
+use Rattle.std.proofs.{Math.Bool.and_assoc, Math.Bool.and-true, Math.Seq.take-add, lemmas.Bool.Decides.nat_tests}
+use Rattle.std.specs.{Io.KnownBytes.IsAtEnd, Io.KnownBytes.Appends, declared.alloc.AllocError.AllocError}
+use Rattle.review_words.specs.declared.{command.Delivery.Delivery, reply.Reply.Reply}
+use Rattle.review_machine_rows.specs.Shelf.{Shown}
 use Rattle.review_machine_deliveries.{proofs.Ran.ran_none, proofs.Ran.ran-append, specs.Delivered.WasRun}
 use Rattle.review_json_lines.specs.Answers.{lines_of, HasLines, HasFirst, asked, with_asked, deliveries, answered, answers, bad_line, reply_line, is_taken, is_done, all_done, IsPartOf, IsLeftBy}
 use Rattle.review_json_lines.specs.{Lines.HasNoEnd, Lines.GaveLine, Lines.line_feed, declared.apply.Asked.Asked}
@@ -123,11 +124,7 @@ is_done-append Nothing lines more rs qs later count = later rs count
 is_done-append Unreadable lines more rs qs later count = refl
 is_done-append (Asks d) lines more [] qs later count = absurd (omega (arith, count))
 is_done-append (Asks d) lines more (r ∷ rs) qs later count =
-    ap (λ b. is_taken r && b) (later rs (omega (arith, count))) ∙ and_again (is_taken r) (all_done lines rs) (all_done more qs)
-  where
-    and_again : (a b c : Bool) → (a && (b && c)) ≡ ((a && b) && c)
-    and_again true b c = refl
-    and_again false b c = refl
+    ap (λ b. is_taken r && b) (later rs (omega (arith, count))) ∙ sym (and_assoc (is_taken r) (all_done lines rs) (all_done more qs))
 
 all_done-append : (lines more : List (List ℕ)) (qs rs : List Reply) → length rs ≡ length (deliveries lines) → all_done (lines ++ more) (rs ++ qs) ≡ (all_done lines rs && all_done more qs)
 all_done-append [] more qs [] count = refl
@@ -202,11 +199,7 @@ told_bad a text is same = ap (λ x. answered x [] (answers [])) is ∙ (append-n
 
 -- the delivery was taken or not
 pub done_reply : (a : Asked) (d : Delivery) (r : Reply) → a ≡ Asks d → is_done a (r ∷ []) (all_done []) ≡ is_taken r
-done_reply a d r is = ap (λ x. is_done x (r ∷ []) (all_done [])) is ∙ and_true (is_taken r)
-  where
-    and_true : (b : Bool) → (b && true) ≡ b
-    and_true true = refl
-    and_true false = refl
+done_reply a d r is = ap (λ x. is_done x (r ∷ []) (all_done [])) is ∙ and-true (is_taken r)
 
 -- the answer to a delivery
 pub told_reply : (a : Asked) (d : Delivery) (r : Reply) (text : List ℕ) → a ≡ Asks d → text ≡ reply_line r → answered a (r ∷ []) (answers []) ≡ text
@@ -318,13 +311,5 @@ any_left (Err f) lines rs text whole = all_left f lines rs text whole
 
 -- ==== bytes that were written in two steps
 
-take_two : (a n : ℕ) (bs : List ℕ) → a ≤ length bs → take (a + n) bs ≡ take a bs ++ take n (drop a bs)
-take_two a n bs within =
-    let len : length (take a bs) ≡ a = length-take-le a bs within in
-    let e : take (length (take a bs) + n) (take a bs ++ drop a bs) ≡ take a bs ++ take n (drop a bs) = take-append-add (take a bs) (drop a bs) n in
-    let P : ℕ → Type 0 = λ m. take (m + n) (take a bs ++ drop a bs) ≡ take a bs ++ take n (drop a bs) in
-    let Q : List ℕ → Type 0 = λ l. take (a + n) l ≡ take a bs ++ take n (drop a bs) in
-    subst Q (take-append-drop a bs) (subst P len e)
-
 pub wrote_more : (x y z : Option (List ℕ)) (a n : ℕ) (bs : List ℕ) → a ≤ length bs → Appends x y (take a bs) → Appends y z (take n (drop a bs)) → Appends x z (take (a + n) bs)
-wrote_more x y z a n bs within before more = subst (λ (l : List ℕ). Appends x z l) (sym (take_two a n bs within)) (Appends-trans x y z _ _ before more)
+wrote_more x y z a n bs within before more = subst (λ (l : List ℕ). Appends x z l) (sym (take-add a n bs)) (Appends-trans x y z _ _ before more)

@@ -1,7 +1,7 @@
 -- Lines that were begun, in parts.
-use Rattle.std.proofs.Common.{◌≡◌, ◌≢◌, ◌<◌, ◌++◌, ◌==◌, ℕ, List, [], ◌∷◌, length, refl, true, false, Option, Some, None, arith, sym, subst, append-nil, inr, eqb-true, ◌≤◌, ◌+◌, ◌-◌, take, drop, ap, ◌∙◌, slice_range, drop-cons, drop-drop, add-one, length-take, eq-eqb, get_or-take, take-append-drop, is_some}
+use Rattle.std.proofs.Common.{◌≡◌, ◌≢◌, ◌<◌, ◌++◌, ◌==◌, ℕ, List, [], ◌∷◌, length, true, false, Option, Some, None, arith, sym, subst, append-nil, inr, eqb-true, ◌≤◌, ◌+◌, ◌-◌, take, drop, ap, ◌∙◌, slice_range, drop-cons, drop-drop, add-one, length-take, eq-eqb, get_or-take, take-append-drop, is_some}
 use Rattle.std.proofs.{KnownBytes.Consumes-trans, lemmas.Bool.Decides.nat_tests}
-use Rattle.std.proofs.lemmas.List.{get_or_default, drop-take, Elements.All-append}
+use Rattle.std.proofs.lemmas.List.{nil_from_length, get_or_default, drop-take, Elements.All-append}
 use Rattle.std.specs.Io.KnownBytes.{Consumes, IsAtEnd, prepend_known}
 use Rattle.memchr.specs.Find.{IsFirstByte, is_byte}
 use Rattle.review_json_lines.specs.Lines.{IsLineOf, HasNoEnd, IsNext, line_feed, HoldsEnd}
@@ -30,10 +30,6 @@ still a b c line was gave = (was.0, was.1, was.2, subst (Consumes a c) (append-n
 above_zero : (n : ℕ) → false ≡ (n == 0) → 0 < n
 above_zero n some = grind (arith, nat_tests)
 
-length_zero : (bytes : List ℕ) → length bytes ≡ 0 → bytes ≡ []
-length_zero [] none = refl
-length_zero (b ∷ bytes) none = absurd (omega (arith, none))
-
 nothing_given : (a c : Option (List ℕ)) (bytes : List ℕ) → Consumes a c bytes → IsAtEnd c → bytes ≡ [] → IsAtEnd a
 nothing_given None c bytes gave end nothing = tt
 nothing_given (Some xs) None bytes gave end nothing = absurd gave
@@ -50,7 +46,7 @@ last a c line was end some =
 pub none : (a c : Option (List ℕ)) (line : Line) → IsBegun a c line → IsAtEnd c
     → ((bytes : List ℕ) → IsLineOf line bytes → true ≡ (length bytes == 0)) → IsNext a c None
 none a c line was end empty =
-    let nothing : was.0 ≡ [] = length_zero was.0 (eqb-true _ _ (sym (empty was.0 was.1))) in
+    let nothing : was.0 ≡ [] = nil_from_length was.0 (eqb-true _ _ (sym (empty was.0 was.1))) in
     (nothing_given a c was.0 was.3 end nothing, end)
 
 -- a read into an empty piece takes nothing away

@@ -1,17 +1,65 @@
--- The commands that bodies complete routes to.
-use Rattle.std.specs.Prelude.{ℕ, List, if◌then◌else◌, Option, Some, None, option_map, option_and_then, codes}
-use Rattle.serde_json.specs.Data.{Data}
-use Rattle.review_names.specs.{Forms.is_commit, Forms.is_line, Names.is_word, Numerals.◌>>=◌}
-use Rattle.review_words.specs.declared.command.{ChangeCommand.ChangeCommand, Command.Command}
-use Rattle.review_json_routes.specs.Changes.{new_change, new_patch}
-use Rattle.review_json_routes.specs.Parts.{text_at, name_at, members_at, epoch_at}
-use Rattle.review_json_routes.specs.{Reviews.has_refused, Reviews.said, Roles.account_named_at, Roles.role_in}
-use Rattle.review_json_routes.specs.{Texts.body_spelled, declared.route.ChangeRoute.ChangeRoute}
+-- The commands that bodies complete routes to, which routes are questions, and which need a body.
+use Rattle.std.specs.Prelude.{ℕ, List, Option, Some, None, option_and_then, codes, Bool, false, option_map, unwrap_or, if◌then◌else◌, not, ◌&&◌, is_some, is_none}
+use Rattle.serde_json.specs.{Data.Data, Data.object, Data.no_members, Find.get, Find.as_str}
+use Rattle.review_names.specs.Forms.{is_slashed_name, is_line, is_commit}
+use Rattle.review_names.specs.{Names.is_word, Numerals.◌>>=◌, Numerals.account_of as account_shown}
+use Rattle.review_words.specs.{Texts.role_named, declared.changes.NewChange.NewChange}
+use Rattle.review_words.specs.declared.changes.{NewPatch.NewPatch, Role.Role, Role.TheVariants.Reviewer}
+use Rattle.review_words.specs.declared.command.{ChangeCommand.ChangeCommand, Command.Command, Query.Query}
+use Rattle.review_json_routes.specs.Parts.{account_of, or_absent, name_at, flag_at, kind_at, paths_at, text_at, members_at, epoch_at, body_spelled}
+use Rattle.review_json_routes.specs.{Reviews.has_refused, Reviews.said, declared.route.ChangeRoute.ChangeRoute}
 use Rattle.review_json_routes.specs.declared.route.ChangeRoute.TheVariants.{Upload, Review, AddReviewer, RemoveReviewer, SetWip, SetReady, Abandon, Restore, AddAttention, RemoveAttention}
 use Rattle.review_json_routes.specs.declared.route.Route.{Route}
 use Rattle.review_json_routes.specs.declared.route.Route.TheVariants.{CreateAccount, PutGroup, PutProject, RecordBase, CreateChange, OnChange, Submit, CloseEpoch, Branch, AskChange}
 use Rattle.review_words.specs.declared.command.ChangeCommand.TheVariants as change_command
 use Rattle.review_words.specs.declared.command.Command.TheVariants as command
+use Rattle.review_words.specs.declared.command.Query.TheVariants as query
+
+-- the account whose number a text shows, or without a text the account of a number
+abbrev pub account_by : Option (List ℕ) → Data → Option ℕ
+account_by (Some text) d = account_shown text
+account_by None d = account_of d
+
+-- an account by its number, or by the number's decimal text
+abbrev pub account_named : Data → Option ℕ
+account_named d = account_by (as_str d) d
+
+-- the account that a member names
+unfoldable pub account_named_at : List ℕ → Data → Option ℕ
+account_named_at key d = option_and_then account_named (get key d)
+
+-- a role by its name
+abbrev pub role_of : Data → Option Role
+role_of d = option_and_then role_named (as_str d)
+
+-- the role that a body gives, a reviewer's where nothing is said of it
+unfoldable pub role_in : Data → Option Role
+role_in body = or_absent Reviewer role_of (get (codes "state") body)
+
+-- whether a change is in work in progress, which it isn't where nothing is said of it
+unfoldable pub wip_in : Data → Option Bool
+wip_in body = option_map (λ flag. unwrap_or flag false) (flag_at (codes "work_in_progress") body)
+
+-- the body has all parts of the change and of its first patch set
+unfoldable pub new_change : Data → Option NewChange
+new_change body = do
+  project ← name_at is_slashed_name (codes "project") body
+  branch ← name_at is_slashed_name (codes "branch") body
+  subject ← name_at is_line (codes "subject") body
+  commit ← name_at is_commit (codes "commit") body
+  parent ← name_at is_commit (codes "parent") body
+  paths ← paths_at (codes "paths") body
+  wip ← wip_in body
+  Some (record { project = project; branch = branch; subject = subject; commit = commit; parent = parent; paths = paths; wip = wip })
+
+-- the body has all parts of the patch set
+unfoldable pub new_patch : Data → Option NewPatch
+new_patch body = do
+  commit ← name_at is_commit (codes "commit") body
+  parent ← name_at is_commit (codes "parent") body
+  kind ← kind_at (codes "kind") body
+  paths ← paths_at (codes "paths") body
+  Some (record { commit = commit; parent = parent; kind = kind; paths = paths })
 
 -- what is asked of a change, with what the body says of it
 unfoldable pub change_command_in : ChangeRoute → Data → Option ChangeCommand
@@ -48,3 +96,17 @@ command_in (AskChange change query) body = None
 -- the command that the bytes of a body complete a route to
 unfoldable pub command_of : Route → List ℕ → Option Command
 command_of route bytes = option_and_then (command_in route) (body_spelled bytes)
+
+-- the question that a route is
+abbrev pub query_of : Route → Option Query
+query_of (Branch project branch) = Some (query.Branch project branch)
+query_of (AskChange change asked) = Some (query.OnChange change asked)
+query_of _ = None
+
+-- whether a route is a question
+abbrev pub is_question : Route → Bool
+is_question route = is_some (query_of route)
+
+-- whether a route needs a body: it is a command, and `{}` completes it to none
+abbrev pub needs_body : Route → Bool
+needs_body route = not (is_question route) && is_none (command_in route (object no_members))

@@ -1,10 +1,3 @@
-pub mod Texts
-pub mod Commands
-pub mod Questions
-pub mod Faults
 pub mod Parts
-pub mod Roles
-pub mod Changes
-pub mod Votes
-pub mod Comments
+pub mod Commands
 pub mod Reviews

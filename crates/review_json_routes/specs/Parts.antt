@@ -1,11 +1,20 @@
--- What the members of an object spell.
-use Rattle.std.specs.Prelude.{◌≡◌, ℕ, Bool, List, [], ◌∷◌, length, nat_le, if◌then◌else◌, Option, Some, None, option_map, option_and_then, Result, Ok, Err}
-use Rattle.serde_json.specs.Data.{Data, Items, no_items, item}
-use Rattle.serde_json.specs.Find.{get, as_u64, as_number, as_str, as_bool, as_array}
+-- What bytes spell: names, JSON values, bodies, and the members of objects.
+use Rattle.std.specs.Prelude.{◌≡◌, ℕ, Bool, List, [], ◌∷◌, length, nat_le, if◌then◌else◌, Option, Some, None, option_map, option_and_then, Result, Ok, Err, ◌==◌}
+use Rattle.std.specs.Str.{is_utf8}
+use Rattle.serde_json.specs.Data.{Data, Items, no_items, item, object, no_members}
+use Rattle.serde_json.specs.Find.{get, as_u64, as_number, as_str, as_bool, as_array, as_object}
+use Rattle.serde_json.specs.Read.{read}
 use Rattle.review_names.specs.Forms.{is_within, is_path, text_set, most_changes, most_paths}
 use Rattle.review_names.specs.{Kinds.kind_named, Names.is_account_number, Names.set_of, Names.most_members}
-use Rattle.{review_names.specs.declared.kinds.ChangeKind.ChangeKind, review_words.specs.Epochs.is_epoch}
+use Rattle.review_names.specs.declared.{kinds.ChangeKind.ChangeKind, names.BadName.BadName}
+use Rattle.review_words.specs.Epochs.{is_epoch}
 use Rattle.review_json_routes.specs.declared.fault.BadBody.{BadBody, TheVariants.Form, TheVariants.Memory}
+use Rattle.review_names.specs.declared.names.BadName.TheVariants as names
+
+-- why a name in a body is not read, as the fault of the body
+abbrev pub body_fault : BadName → BadBody
+body_fault names.Form = Form
+body_fault names.Memory = Memory
 
 -- what is spelled was given, and Form exactly where nothing is spelled
 abbrev pub Gives : {X : Type 0} → Result X BadBody → Option X → Type 0
@@ -111,3 +120,23 @@ paths_from paths = if nat_le (length (text_set paths)) most_paths then Some (tex
 -- the paths of a patch set, a list of texts in any order and with doubles
 unfoldable pub paths_at : List ℕ → Data → Option (List (List ℕ))
 paths_at key d = option_and_then paths_from (option_and_then paths_in (option_and_then as_array (get key d)))
+
+-- the bytes, where they are a text in UTF-8
+abbrev pub text_of : List ℕ → Option (List ℕ)
+text_of bytes = if is_utf8 bytes then Some bytes else None
+
+-- the bytes, where they are a text of a form
+unfoldable pub name_of_bytes : (List ℕ → Bool) → List ℕ → Option (List ℕ)
+name_of_bytes is_form bytes = option_and_then (formed is_form) (text_of bytes)
+
+-- the value of a text in UTF-8
+unfoldable pub value_spelled : List ℕ → Option Data
+value_spelled bytes = option_and_then read (text_of bytes)
+
+-- the value, where it is an object
+abbrev pub if_object : Data → Option Data
+if_object d = option_map (λ _. d) (as_object d)
+
+-- the object that a body is, `{}` where it is empty
+unfoldable pub body_spelled : List ℕ → Option Data
+body_spelled bytes = if length bytes == 0 then Some (object no_members) else option_and_then if_object (value_spelled bytes)

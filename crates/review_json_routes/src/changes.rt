@@ -1,7 +1,7 @@
 //! The bodies of new changes and new patch sets.
 ghost use Rattle.std.specs.Prelude.{◌≡◌, Some, None, Err, IfOk};
 ghost use Rattle.serde_json.specs.View.{view, items_view};
-ghost use Rattle.review_json_routes.specs.Changes.{wip_in, new_change, new_patch};
+ghost use Rattle.review_json_routes.specs.Commands.{wip_in, new_change, new_patch};
 ghost use Rattle.review_json_routes.specs.Parts.{Gives, path_of, paths_in, paths_from, paths_at, kind_at};
 
 use crate::fault::BadBody;
@@ -58,7 +58,7 @@ pub fn kind_at(key: &str, value: &Value) -> Result<ChangeKind, BadBody>
 }
 
 /// Whether a change is in work in progress: `work_in_progress`, false where it is absent.
-#[tactic(auto, unfolding(crate::specs::Changes::wip_in))]
+#[tactic(auto, unfolding(crate::specs::Commands::wip_in))]
 pub fn wip_in(body: &Value) -> Result<bool, BadBody>
     ensures { Gives result (wip_in (view body.now)) }
 {
@@ -68,7 +68,7 @@ pub fn wip_in(body: &Value) -> Result<bool, BadBody>
 
 /// The change of a body: `project`, `branch`, `subject`, `commit`, `parent`, `paths`, and
 /// `work_in_progress`, which may be absent.
-#[tactic(auto, unfolding(crate::specs::Changes::new_change))]
+#[tactic(auto, unfolding(crate::specs::Commands::new_change))]
 pub fn new_change(alloc: Global, body: &Value) -> Result<NewChange, BadBody>
     ensures { Gives result (new_change (view body.now)) }
 {
@@ -91,7 +91,7 @@ pub fn new_change(alloc: Global, body: &Value) -> Result<NewChange, BadBody>
 }
 
 /// The patch set of a body: `commit`, `parent`, `kind`, `paths`.
-#[tactic(auto, unfolding(crate::specs::Changes::new_patch))]
+#[tactic(auto, unfolding(crate::specs::Commands::new_patch))]
 pub fn new_patch(alloc: Global, body: &Value) -> Result<NewPatch, BadBody>
     ensures { Gives result (new_patch (view body.now)) }
 {

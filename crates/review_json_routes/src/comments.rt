@@ -2,8 +2,8 @@
 ghost use Rattle.std.specs.Prelude.{◌≡◌, ◌++◌, Some, None, Err, IfOk, OnOk, option_map};
 ghost use Rattle.serde_json.specs.View.{view, items_view, members_view};
 ghost use Rattle.review_names.specs.Forms.{most_comments};
-ghost use Rattle.review_json_routes.specs.Comments.{line_of, line_in, answered_in, comment_of, comments_on, comments_at, comments_from, written, comments_of, comments_in};
 ghost use Rattle.review_json_routes.specs.Parts.{Gives, number_of};
+ghost use Rattle.review_json_routes.specs.Reviews.{line_of, line_in, answered_in, comment_of, comments_on, comments_at, comments_from, written, comments_of, comments_in};
 
 use crate::fault::BadBody;
 use crate::parts::{flag_at, name_at};
@@ -23,7 +23,7 @@ fn line_of(value: &Value) -> Option<u32>
 }
 
 /// The line that is commented on: `line`, a whole number from 0 to 1,000,000,000, 0 where it is absent.
-#[tactic(auto, unfolding(crate::specs::Comments::line_in))]
+#[tactic(auto, unfolding(crate::specs::Reviews::line_in))]
 pub fn line_in(comment: &Value) -> Result<u32, BadBody>
     ensures { Gives result (line_in (view comment.now)) }
 {
@@ -40,7 +40,7 @@ fn number_of(value: &Value) -> Option<CommentNo>
 }
 
 /// The comment that is answered: `in_reply_to`, its number, if it is there.
-#[tactic(auto, unfolding(crate::specs::Comments::answered_in))]
+#[tactic(auto, unfolding(crate::specs::Reviews::answered_in))]
 pub fn answered_in(comment: &Value) -> Result<Option<CommentNo>, BadBody>
     ensures { Gives result (answered_in (view comment.now)) }
 {
@@ -54,7 +54,7 @@ pub fn answered_in(comment: &Value) -> Result<Option<CommentNo>, BadBody>
 }
 
 /// A comment on a place: `message`, and `line`, `unresolved` and `in_reply_to`, which may be absent.
-#[tactic(auto, unfolding(crate::specs::Comments::comment_of))]
+#[tactic(auto, unfolding(crate::specs::Reviews::comment_of))]
 pub fn comment_of(alloc: Global, place: &Place, comment: &Value) -> Result<NewComment, BadBody>
     ensures { Gives result (comment_of place.now (view comment.now)) }
 {
@@ -90,7 +90,7 @@ fn comments_on(
 }
 
 /// Adds the comments of a member, whose key is their place.
-#[tactic(auto, unfolding(crate::specs::Comments::comments_at))]
+#[tactic(auto, unfolding(crate::specs::Reviews::comments_at))]
 fn comments_at(
     alloc: Global,
     comments: &mut Vec<NewComment>,
@@ -124,7 +124,7 @@ fn written(comments: Vec<NewComment>) -> Result<Comments, BadBody>
     Ok(Comments::from_vec(comments)?)
 }
 
-#[tactic(auto, unfolding(crate::specs::Comments::comments_of))]
+#[tactic(auto, unfolding(crate::specs::Reviews::comments_of))]
 fn comments_of(alloc: Global, value: &Value) -> Result<Comments, BadBody>
     ensures { Gives result (comments_of (view value.now)) }
 {
@@ -138,7 +138,7 @@ fn comments_of(alloc: Global, value: &Value) -> Result<Comments, BadBody>
 /// The comments that a review makes: `comments`, an object from places to lists of comments,
 /// which may be absent. They come in the order of the bytes of their places, those of one place
 /// in the order of its list.
-#[tactic(auto, unfolding(crate::specs::Comments::comments_in))]
+#[tactic(auto, unfolding(crate::specs::Reviews::comments_in))]
 pub fn comments_in(alloc: Global, body: &Value) -> Result<Comments, BadBody>
     ensures { Gives result (comments_in (view body.now)) }
 {

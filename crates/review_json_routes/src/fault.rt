@@ -34,7 +34,7 @@ impl<T: Drop> From<AllocFailed<T>> for BadBody {
 }
 
 impl From<BadName> for BadBody {
-    ghost use Rattle.review_json_routes.specs.Faults.{body_fault};
+    ghost use Rattle.review_json_routes.specs.Parts.{body_fault};
 
     ghost from_gives = { λ bad e. e ≡ body_fault bad };
 

@@ -1,8 +1,8 @@
 //! Which routes are questions, and which need a body.
 ghost use Rattle.std.specs.Prelude.{◌≡◌, is_none};
 ghost use Rattle.serde_json.specs.Data.{object, no_members};
-ghost use Rattle.review_json_routes.specs.{Commands.change_command_in, Parts.Gives};
-ghost use Rattle.review_json_routes.specs.Questions.{query_of, is_question, needs_body};
+ghost use Rattle.review_json_routes.specs.Commands.{change_command_in, query_of, is_question, needs_body};
+ghost use Rattle.review_json_routes.specs.Parts.{Gives};
 
 use crate::fault::BadBody;
 use crate::route::{ChangeRoute, Route};
@@ -34,7 +34,7 @@ pub fn is_question(route: &Route) -> bool
     matches!(route, Route::Branch { .. } | Route::AskChange { .. })
 }
 
-#[tactic(auto, unfolding(crate::specs::Commands::change_command_in, crate::specs::Parts::name_at, crate::specs::Parts::text_at, crate::specs::Changes::new_patch, crate::specs::Reviews::has_refused, crate::specs::Reviews::said, crate::specs::Reviews::message_in, crate::specs::Votes::labels_in, crate::specs::Comments::comments_in, crate::specs::Roles::account_named_at))]
+#[tactic(auto, unfolding(crate::specs::Commands::change_command_in, crate::specs::Parts::name_at, crate::specs::Parts::text_at, crate::specs::Commands::new_patch, crate::specs::Reviews::has_refused, crate::specs::Reviews::said, crate::specs::Reviews::message_in, crate::specs::Reviews::labels_in, crate::specs::Reviews::comments_in, crate::specs::Commands::account_named_at))]
 fn needs_members(asked: ChangeRoute) -> bool
     ensures { result ≡ is_none (change_command_in asked (object no_members)) }
 {
@@ -54,7 +54,7 @@ fn needs_members(asked: ChangeRoute) -> bool
 
 /// Whether a route needs a body: it is no question, and an object without members completes it to no command. The body of any
 /// other may be empty or absent.
-#[tactic(auto, unfolding(crate::specs::Commands::command_in, crate::specs::Parts::name_at, crate::specs::Parts::text_at, crate::specs::Parts::members_at, crate::specs::Parts::epoch_at, crate::specs::Changes::new_change))]
+#[tactic(auto, unfolding(crate::specs::Commands::command_in, crate::specs::Parts::name_at, crate::specs::Parts::text_at, crate::specs::Parts::members_at, crate::specs::Parts::epoch_at, crate::specs::Commands::new_change))]
 pub fn needs_body(route: &Route) -> bool
     ensures { result ≡ needs_body route.now }
 {

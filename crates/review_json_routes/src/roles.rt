@@ -1,7 +1,8 @@
 //! The accounts that bodies name, and the roles that they give.
 ghost use Rattle.std.specs.Prelude.{◌≡◌};
-ghost use Rattle.{serde_json.specs.View.view, review_json_routes.specs.Parts.Gives};
-ghost use Rattle.review_json_routes.specs.Roles.{account_named, account_named_at, role_of, role_in};
+ghost use Rattle.serde_json.specs.View.{view};
+ghost use Rattle.review_json_routes.specs.Commands.{account_named, account_named_at, role_of, role_in};
+ghost use Rattle.review_json_routes.specs.Parts.{Gives};
 
 use crate::fault::BadBody;
 use crate::parts::account_of;
@@ -21,7 +22,7 @@ fn account_named(value: &Value) -> Option<AccountNo>
 
 /// The account that the member `key` of a body names, by a whole number or by the number's decimal
 /// text.
-#[tactic(auto, unfolding(crate::specs::Roles::account_named_at))]
+#[tactic(auto, unfolding(crate::specs::Commands::account_named_at))]
 pub fn account_named_at(key: &str, body: &Value) -> Result<AccountNo, BadBody>
     ensures { Gives result (account_named_at key.now (view body.now)) }
 {
@@ -35,7 +36,7 @@ fn role_of(value: &Value) -> Option<Role>
 }
 
 /// The role that a body gives: `state`, the name of one, that of a reviewer where it is absent.
-#[tactic(auto, unfolding(crate::specs::Roles::role_in))]
+#[tactic(auto, unfolding(crate::specs::Commands::role_in))]
 pub fn role_in(body: &Value) -> Result<Role, BadBody>
     ensures { Gives result (role_in (view body.now)) }
 {

@@ -1,7 +1,7 @@
 //! What bytes spell: names, JSON values and bodies.
 ghost use Rattle.std.specs.Prelude.{◌≡◌, Some, None, Err, IfOk, option_map};
-ghost use Rattle.{serde_json.specs.View.view, review_json_routes.specs.Parts.Gives};
-ghost use Rattle.review_json_routes.specs.Texts.{text_of, name_of_bytes, value_spelled, body_spelled};
+ghost use Rattle.serde_json.specs.View.{view};
+ghost use Rattle.review_json_routes.specs.Parts.{Gives, text_of, name_of_bytes, value_spelled, body_spelled};
 
 use crate::fault::BadBody;
 use review_words::{Form, Name};
@@ -18,7 +18,7 @@ fn text_of(bytes: &[u8]) -> Option<&str>
 }
 
 /// The name that bytes are: a text in UTF-8 of the name's form. Form exactly where they are none.
-#[tactic(auto, unfolding(crate::specs::Texts::name_of_bytes))]
+#[tactic(auto, unfolding(crate::specs::Parts::name_of_bytes))]
 pub fn name_of_bytes<F: Form>(alloc: Global, bytes: &[u8]) -> Result<Name<F>, BadBody>
     ensures { Gives result (name_of_bytes F.is_form bytes.now) }
 {
@@ -27,7 +27,7 @@ pub fn name_of_bytes<F: Form>(alloc: Global, bytes: &[u8]) -> Result<Name<F>, Ba
 }
 
 /// The JSON value of a text in UTF-8. Form exactly where the bytes spell none.
-#[tactic(auto, unfolding(crate::specs::Texts::value_spelled))]
+#[tactic(auto, unfolding(crate::specs::Parts::value_spelled))]
 pub fn value_of(alloc: Global, bytes: &[u8]) -> Result<Value, BadBody>
     ensures ok { IfOk result (λ v. value_spelled bytes.now ≡ Some (view v)) }
     ensures form { result ≡ Err BadBody.Form → value_spelled bytes.now ≡ None }
@@ -46,7 +46,7 @@ pub fn value_of(alloc: Global, bytes: &[u8]) -> Result<Value, BadBody>
 }
 
 /// The object that a body is, `{}` where it is empty. Form exactly where it is no object.
-#[tactic(auto, unfolding(crate::specs::Texts::body_spelled))]
+#[tactic(auto, unfolding(crate::specs::Parts::body_spelled))]
 pub fn body_of(alloc: Global, bytes: &[u8]) -> Result<Value, BadBody>
     ensures ok { IfOk result (λ v. body_spelled bytes.now ≡ Some (view v)) }
     ensures form { result ≡ Err BadBody.Form → body_spelled bytes.now ≡ None }

@@ -1,7 +1,7 @@
 //! The values that a review gives on labels.
 ghost use Rattle.std.specs.Prelude.{◌≡◌, Some, None, Err, IfOk};
 ghost use Rattle.{serde_json.specs.View.view, serde_json.specs.View.members_view, review_json_routes.specs.Parts.Gives};
-ghost use Rattle.review_json_routes.specs.Votes.{value_of, given_of, given_in, labels_of, labels_in};
+ghost use Rattle.review_json_routes.specs.Reviews.{value_of, given_of, given_in, labels_of, labels_in};
 
 use crate::fault::BadBody;
 use review_words::{Given, LabelName, Labels};
@@ -9,7 +9,7 @@ use serde_json::{Map, Value};
 use std::alloc::Global;
 
 /// The value on a label that a whole number is, if it is from -99 to 99.
-#[tactic(auto, unfolding(crate::specs::Votes::value_of))]
+#[tactic(auto, unfolding(crate::specs::Reviews::value_of))]
 pub fn value_of(value: &Value) -> Option<i8>
     ensures { result ≡ value_of (view value.now) }
 {
@@ -21,7 +21,7 @@ pub fn value_of(value: &Value) -> Option<i8>
     }
 }
 
-#[tactic(auto, unfolding(crate::specs::Votes::given_of))]
+#[tactic(auto, unfolding(crate::specs::Reviews::given_of))]
 fn given_of(alloc: Global, key: &str, value: &Value) -> Result<Given, BadBody>
     ensures { Gives result (given_of key.now (view value.now)) }
 {
@@ -42,7 +42,7 @@ fn given_in(alloc: Global, members: &Map<String, Value>) -> Result<Vec<Given>, B
     Ok(given)
 }
 
-#[tactic(auto, unfolding(crate::specs::Votes::labels_of))]
+#[tactic(auto, unfolding(crate::specs::Reviews::labels_of))]
 fn labels_of(alloc: Global, value: &Value) -> Result<Labels, BadBody>
     ensures { Gives result (labels_of (view value.now)) }
 {
@@ -55,7 +55,7 @@ fn labels_of(alloc: Global, value: &Value) -> Result<Labels, BadBody>
 
 /// The values that a review gives: `labels`, an object from the names of labels to whole numbers
 /// from -99 to 99, which may be absent.
-#[tactic(auto, unfolding(crate::specs::Votes::labels_in))]
+#[tactic(auto, unfolding(crate::specs::Reviews::labels_in))]
 pub fn labels_in(alloc: Global, body: &Value) -> Result<Labels, BadBody>
     ensures { Gives result (labels_in (view body.now)) }
 {

@@ -1,28 +1,25 @@
 -- Commands that are decided, and what closes epochs.
-use Rattle.std.proofs.Common.{◌≡◌, ℕ, List, refl, ◌+◌, ◌==◌, [], ◌∷◌, ◌++◌, Option, Some, None, Bool, true, false, cond, not, ◌&&◌, sym, ap, ◌∙◌, subst, ⊎_elim, length, map, arith, nat_cmp, is_some, nat_lt, option_map, unwrap_or, MatchOption, bytes_eq, nat_le}
-use Rattle.std.proofs.lemmas.{Bool.cases_Bool, Bool.Decides.nat_tests, Map.Text.is_eq-slice_cmp}
-use Rattle.std.{proofs.lemmas.Slice.Eq.bytes_eq-Decides, specs.BTreeMap.is_at}
-use Rattle.std.specs.{Cmp.unsigned_tied, Cmp.Lexicographic.slice_cmp, List.AllByRecursion, List.list_all}
+use Rattle.std.proofs.Common.{◌≡◌, ℕ, List, refl, ◌+◌, ◌==◌, [], ◌∷◌, ◌++◌, Option, Some, None, Bool, true, false, cond, not, ◌&&◌, sym, ap, ◌∙◌, subst, ⊎_elim, length, map, nat_cmp, is_some, nat_lt, option_map, unwrap_or, MatchOption, bytes_eq, nat_le}
+use Rattle.std.{proofs.lemmas.Slice.Eq.bytes_eq-Decides, specs.List.AllByRecursion, specs.List.list_all}
 use Rattle.review_names.specs.Names.{administrators, registered_users}
 use Rattle.review_table.specs.Rows.{row_edit_of, after_row_edit}
 use Rattle.review_words.specs.History.{Entry, entry_of, account_count, name_of, name_taken, is_account, is_admin, is_listed, listed_members, file_text, is_project, project_count, bases, base_count, least_open}
-use Rattle.review_words.specs.{Texts.IsPlaced, Texts.IsRefusalOf, declared.command.Command.Command}
+use Rattle.review_words.specs.Texts.{IsPlaced, IsRefusalOf}
 use Rattle.review_words.specs.declared.command.Command.TheVariants.{CreateAccount, PutGroup, PutProject, RecordBase, CreateChange, OnChange, Submit, CloseEpoch}
 use Rattle.review_words.specs.declared.faults.{ExprFault.ExprFault, FileFault.FileFault, FileFault.TheVariants.Expr}
-use Rattle.review_words.specs.declared.reply.{Answer.TheVariants.Nothing, Refusal.Refusal}
 use Rattle.review_words.specs.declared.reply.Refusal.TheVariants.{UnknownCaller, NotAdmin, NoProject, NoAccount, SameState, CommitKnown, RequirementUnsatisfied, NameTaken, BadFile, Limit, EpochAhead}
-use Rattle.review_words.specs.declared.reply.Reply.{Reply, TheVariants.Done, TheVariants.Refused}
-use Rattle.review_file_rules.specs.Reading.{named_parent}
-use Rattle.review_machine_rows.proofs.{Asked.all_asked, Joins.placed_more, Joins.place_is_free, Lined.there_is}
+use Rattle.review_machine_rows.proofs.Asked.{all_asked}
+use Rattle.review_machine_rows.proofs.Common.{Command, Delta, Done, File, Nothing, PlaceKey, Refusal, Refused, Reply, Rows, StoredFile, cases_Bool, is_at, is_eq-slice_cmp, named_parent, slice_cmp, unsigned_tied}
+use Rattle.review_machine_rows.proofs.{Joins.placed_more, Joins.place_is_free, Lined.there_is}
 use Rattle.review_machine_rows.proofs.Puts.{at_place_of, no_base, no_base_more, no_file, no_project}
 use Rattle.review_machine_rows.specs.Answer.{IsAnswerBy, IsOutcome, first_refusal, refused_by, checks, IsAnswerAt, epoch_checks, refused_or}
-use Rattle.review_machine_rows.specs.{Changes.Reading, Changes.is_known, Changes.own_of, Changes.placed, Files.File}
+use Rattle.review_machine_rows.specs.Changes.{Reading, is_known, own_of, placed}
 use Rattle.review_machine_rows.specs.Known.{known, Agrees, IsKnown, is_so, is_there, members_of, at_place}
 use Rattle.review_machine_rows.specs.Rows.{Key, AccountKey, MemberKey, FileKey, BaseKey, PartKey, OddKey, Row, AccountRow, FileRow, BaseRow, APart, Count, Projects, BasesOf, ClosedEpochs, member_cmp, account_change, member_change, edited, after, count_after, after_put, count_put, place_cmp, ChangesNothing}
 use Rattle.review_machine_rows.specs.Steps.{OfCommand, command_wants}
 use Rattle.review_machine_rows.specs.View.{view, fact, counted, AreEnough, IsDecided, IsDecidedAt}
-use Rattle.review_machine_rows.specs.declared.rows.{Delta.Delta, PlaceKey.PlaceKey, Rows.Rows, StoredFile.StoredFile}
-use Rattle.review_machine_accounts.proofs.{Members.members_after, Told.account_told, Told.member_told, Told.held_told}
+use Rattle.review_machine_accounts.proofs.Members.{eq_sym, members_after}
+use Rattle.review_machine_accounts.proofs.Told.{account_told, member_told, held_told}
 use Rattle.review_machine_accounts.specs.Decisions.{IsEmpty}
 use Rattle.review_machine_accounts.specs.inner.Words.{added, dropped, is_held, member_of}
 use Rattle.review_words.specs.declared.reply.Answer.TheVariants as made
@@ -160,9 +157,6 @@ account_row_after : (b : Bool) (name : List ℕ) (before : Option (List ℕ)) �
 account_row_after true name before = refl
 account_row_after false name before = refl
 
-eq_sym : (m n : ℕ) → (m == n) ≡ (n == m)
-eq_sym m n = grind (arith, nat_tests)
-
 -- the new account is the only new row
 pub create_decided : {reading : Reading} (h : List Entry) (caller : ℕ) (name : List ℕ) (delta : Delta) (number : ℕ) →
     is_account h caller ≡ true → is_admin h caller ≡ true → name_taken h name ≡ false → nat_lt (account_count h) 1000000 ≡ true → number ≡ account_count h + 1 →
@@ -235,8 +229,7 @@ based_where false commit o = refl
 base_rows : (h : List Entry) (project branch commit : List ℕ) (place : ℕ) (p b : List ℕ) (n : ℕ) → place ≡ length (bases h project branch) + 1 →
     option_map BaseRow (at_place (cond (bytes_eq project p && bytes_eq branch b) (bases h p b ++ commit ∷ []) (bases h p b)) n)
     ≡ cond (bytes_eq project p && (bytes_eq branch b && (place == n))) (Some (BaseRow commit)) (option_map BaseRow (at_place (bases h p b) n))
-base_rows h project branch commit place p b n is =
-    ⊎_elim
+base_rows h project branch commit place p b n is = ⊎_elim
     (λ (t : bytes_eq project p ≡ true). ⊎_elim
     (λ (u : bytes_eq branch b ≡ true).
     let where_is : length (bases h project branch) ≡ length (bases h p b) = λ i. length (bases h ((bytes_eq-Decides project p).0 t i) ((bytes_eq-Decides branch b).0 u i)) in

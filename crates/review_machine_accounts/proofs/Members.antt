@@ -1,15 +1,13 @@
 -- What changes in a group, and the row of a key after it.
-use Rattle.std.proofs.Common.{Bor, ◌≡◌, ℕ, ◌+◌, ◌<◌, ◌==◌, List, [], ◌∷◌, ◌++◌, length, get_or, take, map, Bool, true, false, cond, not, ◌&&◌, ◌||◌, refl, sym, ap, ◌∙◌, ⊎_elim, Option, Some, None, eqb-true, eq-eqb, arith, filter, nat_cmp, is_some, bytes_eq}
-use Rattle.std.proofs.lemmas.Bool.{cases_Bool, and_parts, and_from, Decides.nat_tests}
-use Rattle.std.proofs.lemmas.List.{take_more, map-append, Elements.filter-append}
+use Rattle.std.proofs.Common.{Bor, ◌≡◌, ℕ, ◌+◌, ◌<◌, ◌==◌, List, [], ◌∷◌, ◌++◌, length, get_or, take, map, Bool, true, false, cond, not, ◌&&◌, ◌||◌, refl, sym, ap, ◌∙◌, ⊎_elim, Option, Some, None, eqb-true, eq-eqb, arith, filter, nat_cmp, bytes_eq}
+use Rattle.std.proofs.lemmas.Bool.{and_right, not-true, cases_Bool, and_parts, and_from}
+use Rattle.std.proofs.lemmas.List.Elements.{filter-append}
 use Rattle.std.proofs.lemmas.Map.Keys.{IsDistinct-head, IsDistinct-tail, IsDistinct-from_sorted}
-use Rattle.std.proofs.lemmas.{Map.Made.IsDistinct-keys_filter, Map.Text.is_eq-slice_cmp, Slice.Eq.bytes_eq-Decides}
-use Rattle.std.specs.{BTreeMap.is_at, Cmp.tied_then, Cmp.unsigned_tied, Cmp.Lexicographic.slice_cmp}
+use Rattle.std.{proofs.lemmas.Map.Made.IsDistinct-keys_filter, specs.Cmp.tied_then, specs.Cmp.unsigned_tied}
 use Rattle.std.specs.List.{list_any, AllByRecursion, IsDistinct, Sorted.IsStrictlySortedBy}
-use Rattle.std.specs.{Map.keys_of, Map.Iter.deref_pair, Ordering.eq_by_cmp}
+use Rattle.std.specs.Ordering.{eq_by_cmp}
 use Rattle.review_table.specs.Rows.{NamesOnce, after_row_edit, row_edit_of, row_in}
-use Rattle.review_table.specs.declared.table.RowEdit.{RowEdit}
-use Rattle.review_machine_rows.specs.Rows.{MemberRow, member_change, member_cmp}
+use Rattle.review_machine_rows.proofs.Common.{MemberRow, RowEdit, bytes_eq-Decides, deref_pair, is_at, is_eq-slice_cmp, keys_of, map-append, member_change, member_cmp, nat_tests, slice_cmp, some_or, take_more}
 use Rattle.review_machine_rows.specs.declared.rows.MemberKey.{MemberKey as Member}
 use Rattle.review_machine_accounts.specs.inner.Words.{added, dropped, leaves, is_held, member_of}
 
@@ -55,8 +53,7 @@ member_to j k e = member_tied j k ∙ and_from (bytes_eq j.group k.group) (j.acc
 
 -- and the other way round
 member_sym : (j k : Member) → is_at (member_cmp j) k ≡ is_at (member_cmp k) j
-member_sym j k =
-    ⊎_elim
+member_sym j k = ⊎_elim
     (λ (t : is_at (member_cmp j) k ≡ true). t ∙ sym (member_to k j (sym (member_from j k t))))
     (λ (f : is_at (member_cmp j) k ≡ false). ⊎_elim
     (λ (t : is_at (member_cmp k) j ≡ true). let u = member_to j k (sym (member_from k j t)) in absurd (cc))
@@ -70,8 +67,7 @@ or_else (Some x) other = Some x
 
 row_edit_of-append : (xs ys : List (RowEdit Member (Unit {0}))) (k : Member) → row_edit_of member_cmp (xs ++ ys) k ≡ or_else (row_edit_of member_cmp xs k) (row_edit_of member_cmp ys k)
 row_edit_of-append [] ys k = refl
-row_edit_of-append (x ∷ xs) ys k =
-    ⊎_elim
+row_edit_of-append (x ∷ xs) ys k = ⊎_elim
     (λ (t : is_at (member_cmp x.key) k ≡ true).
     ap (λ b. cond b (Some x.row) (row_edit_of member_cmp (xs ++ ys) k)) t
     ∙ sym (ap (λ b. or_else (cond b (Some x.row) (row_edit_of member_cmp xs k)) (row_edit_of member_cmp ys k)) t))
@@ -119,16 +115,12 @@ row_edit_of-added group held (a ∷ members) k =
     ∙ ap (λ b. where_so (Some tt) (b && q))
     (ap (λ b. b || x) (member_tied (member_of group a) k) ∙ shared (bytes_eq group k.group) (a == k.account) (list_any (λ n. n == k.account) members)))
 
-some_cond : {X : Type 0} (b : Bool) (x : X) (o : Option X) → is_some (cond b (Some x) o) ≡ (b || is_some o)
-some_cond true x o = refl
-some_cond false x o = refl
-
-eq_sym : (m n : ℕ) → (m == n) ≡ (n == m)
+pub eq_sym : (m n : ℕ) → (m == n) ≡ (n == m)
 eq_sym m n = grind (arith, nat_tests)
 
 -- one more member that is held
 held_more : (e : ℕ × Unit {0}) (held : List (ℕ × Unit {0})) (a : ℕ) → is_held (e ∷ held) a ≡ ((e.0 == a) || is_held held a)
-held_more e held a = some_cond (is_at (nat_cmp a) e.0) e.1 (row_in nat_cmp held a) ∙ ap (λ b. b || is_held held a) (unsigned_tied a e.0 ∙ eq_sym a e.0)
+held_more e held a = some_or (is_at (nat_cmp a) e.0) e.1 (row_in nat_cmp held a) ∙ ap (λ b. b || is_held held a) (unsigned_tied a e.0 ∙ eq_sym a e.0)
 
 -- a key is taken away where it is of a member that leaves
 row_edit_of-dropped : (group members : List ℕ) (held : List (ℕ × Unit {0})) (k : Member) →
@@ -187,15 +179,11 @@ none_dropped group members q held f =
     row_edit_of-dropped group members held q
     ∙ (ap (λ b. where_so None ((bytes_eq group q.group && b) && leaves members q.account)) f ∙ off (bytes_eq group q.group) (leaves members q.account))
 
-and_false : (a b : Bool) → b ≡ false → (a && b) ≡ false
-and_false true b f = f
-and_false false b f = refl
-
 -- different accounts of a group
 apart : (group : List ℕ) (a b : ℕ) → eq_by_cmp nat_cmp a b ≡ false → is_at (member_cmp (member_of group b)) (member_of group a) ≡ false
 apart group a b f =
     member_sym (member_of group b) (member_of group a)
-    ∙ (member_tied (member_of group a) (member_of group b) ∙ and_false (bytes_eq group group) (a == b) (sym (unsigned_tied a b) ∙ f))
+    ∙ (member_tied (member_of group a) (member_of group b) ∙ and_right (bytes_eq group group) (a == b) (sym (unsigned_tied a b) ∙ f))
 
 none_of : (group : List ℕ) (a : ℕ) (es : List (ℕ × Unit {0})) → AllByRecursion (λ y. eq_by_cmp nat_cmp a y ≡ false) (keys_of es) →
     row_edit_of member_cmp (map (drop_change group) es) (member_of group a) ≡ None
@@ -224,10 +212,6 @@ add_once : (b : Bool) (group : List ℕ) (m : ℕ) (ms : List ℕ) (ds : List (R
 add_once true group m ms ds none rest = (none refl, rest)
 add_once false group m ms ds none rest = rest
 
-not_true : (b : Bool) → not b ≡ true → b ≡ false
-not_true true e = absurd (cc)
-not_true false e = refl
-
 added_once : (group members : List ℕ) (held : List (ℕ × Unit {0})) (ms : List ℕ) → IsDistinct (eq_by_cmp nat_cmp) ms → NamesOnce member_cmp (dropped group held members) →
     NamesOnce member_cmp (added group held ms ++ dropped group held members)
 added_once group members held [] d once = once
@@ -235,7 +219,7 @@ added_once group members held (m ∷ ms) d once =
     let p : ℕ → Bool = λ n. not (is_held held n) in
     add_once (p m) group m (filter p ms) (dropped group held members)
     (λ t. none_added group p m ms (dropped group held members) (IsDistinct-head (eq_by_cmp nat_cmp) m ms d)
-    (none_dropped group members (member_of group m) held (not_true (is_held held m) t)))
+    (none_dropped group members (member_of group m) held (not-true (is_held held m) t)))
     (added_once group members held ms (IsDistinct-tail (eq_by_cmp nat_cmp) m ms d) once)
 
 pub changes_once : (group members : List ℕ) (held : List (ℕ × Unit {0})) → IsStrictlySortedBy nat_cmp members → IsStrictlySortedBy nat_cmp (keys_of held) →

@@ -1,38 +1,26 @@
 -- What rows that agree with a history tell of it.
 use Rattle.std.proofs.Common.{◌≡◌, ℕ, ◌+◌, ◌<◌, ◌≤◌, ◌==◌, List, [], ◌∷◌, Option, Some, None, Bool, true, false, cond, ◌&&◌, ◌||◌, refl, sym, ap, ◌∙◌, ⊎_elim, arith, eq-eqb, leb-true, is_some, IsSome, nat_le, option_map, bytes_eq, zero, suc, length, ◌⊎◌, nat_cmp, nat_lt, length-append, ◌++◌, subst, MatchOption}
-use Rattle.std.proofs.lemmas.Bool.{cases_Bool, cases_lt, and_parts, Decides.nat_tests}
-use Rattle.std.{proofs.lemmas.Slice.Eq.bytes_eq-Decides, specs.List.list_any}
-use Rattle.{review_names.specs.Names.admin_name, review_table.specs.Rows.row_in}
+use Rattle.std.proofs.{Math.Bool.or-false, lemmas.Bool.cases_Bool, lemmas.Bool.cases_lt, lemmas.Bool.and_parts}
+use Rattle.review_names.specs.Names.{admin_name}
 use Rattle.review_words.specs.History.{Entry, accepted, counted, named, is_named, account_count, name_of, name_taken, is_account, is_listed, is_project, bases, is_base, least_open, base_count, with_base, base_counted}
-use Rattle.review_words.specs.declared.command.Command.{Command}
 use Rattle.review_words.specs.declared.command.Command.TheVariants.{CreateAccount, PutGroup, PutProject, RecordBase, CloseEpoch, CreateChange, OnChange, Submit}
-use Rattle.review_words.specs.declared.{command.Query.Query, reply.Answer.Answer}
-use Rattle.review_words.specs.declared.reply.Refusal.{Refusal, TheVariants.UnknownCaller}
-use Rattle.review_words.specs.declared.reply.Reply.TheVariants.{Done, Refused}
+use Rattle.review_words.specs.declared.command.Query.{Query}
 use Rattle.review_machine_rows.proofs.Asked.{found_of, all_asked}
+use Rattle.review_machine_rows.proofs.Common.{Answer, Base, Command, Done, File, OfQuery, Refusal, Refused, Rows, StoredFile, UnknownCaller, bytes_eq-Decides, first_refusal, nat_tests, row_in, some_mapped, some_or}
 use Rattle.review_machine_rows.proofs.Joins.{past_end, some_at, nothing_at_zero}
-use Rattle.review_machine_rows.{proofs.Lined.there_is, specs.Answer.first_refusal}
-use Rattle.review_machine_rows.specs.{Changes.Reading, Changes.own_of, Changes.is_known, Changes.is_sent, Files.File}
+use Rattle.review_machine_rows.proofs.{Lined.there_is, Looked.based_from}
+use Rattle.review_machine_rows.specs.Changes.{Reading, own_of, is_known, is_sent}
 use Rattle.review_machine_rows.specs.Known.{IsFoundByName, IsLast, known, Agrees, IsKnown, is_so, is_there, number_of, holder_of, members_of, commits_of, at_place, IsBaseOrNot, count_of, most}
 use Rattle.review_machine_rows.specs.Questions.{IsQueryAnswerBy, IsToldTo, query_checks, query_refused_by}
 use Rattle.review_machine_rows.specs.Rows.{AccountKey, AccountRow, MemberRow, FileRow, BaseRow, member_row}
-use Rattle.review_machine_rows.specs.{Steps.OfQuery, View.fact, View.view, View.counted as counted_in, View.AreEnough}
-use Rattle.review_machine_rows.specs.declared.rows.{Base.Base, BranchKey.BranchKey as Branch, Counted.Counted}
-use Rattle.review_machine_rows.specs.declared.rows.{Rows.Rows, StoredFile.StoredFile}
-use Rattle.review_machine_laws.proofs.Sent.{sent_is}
+use Rattle.review_machine_rows.specs.View.{fact, view, counted as counted_in, AreEnough}
+use Rattle.review_machine_rows.specs.declared.rows.{BranchKey.BranchKey as Branch, Counted.Counted}
+use Rattle.review_machine_laws.proofs.{Sent.sent_is, Shown.placed_at, Shown.listed_at}
 use Rattle.review_machine_accounts.specs.{Commits.known_in, inner.Words.is_held, inner.Words.member_of}
 use Rattle.review_machine_rows.specs.declared.rows.Want.TheVariants as want
 use Rattle.review_words.specs.declared.command.Query.TheVariants as asked
 
 -- ==== accounts and their names in a history
-
-some_cond : {X : Type 0} (b : Bool) (x : X) (o : Option X) → is_some (cond b (Some x) o) ≡ (b || is_some o)
-some_cond true x o = refl
-some_cond false x o = refl
-
-or_false : (b : Bool) → (b || false) ≡ b
-or_false true = refl
-or_false false = refl
 
 -- one more account
 one_more : (n c : ℕ) → ((n == c + 1) || (nat_le 1 n && nat_le n c)) ≡ (nat_le 1 n && nat_le n (c + 1))
@@ -43,12 +31,12 @@ first_account n = grind (arith, nat_tests)
 
 named_step : (o : Option Command) (n c : ℕ) (before : Option (List ℕ)) → is_some before ≡ (nat_le 1 n && nat_le n c) →
     is_some (named o n (c + 1) before) ≡ (nat_le 1 n && nat_le n (counted o c))
-named_step (Some (CreateAccount name)) n c before e = some_cond (n == c + 1) name before ∙ (ap (λ b. (n == c + 1) || b) e ∙ one_more n c)
+named_step (Some (CreateAccount name)) n c before e = some_or (n == c + 1) name before ∙ (ap (λ b. (n == c + 1) || b) e ∙ one_more n c)
 named_step _ n c before e = e
 
 -- an account has a name
 pub named_account : (h : List Entry) (n : ℕ) → is_some (name_of h n) ≡ is_account h n
-named_account [] n = some_cond (n == 1) admin_name None ∙ (or_false (n == 1) ∙ first_account n)
+named_account [] n = some_or (n == 1) admin_name None ∙ (or-false (n == 1) ∙ first_account n)
 named_account (e ∷ h) n = named_step (accepted e) n (account_count h) (name_of h n) (named_account h n)
 
 pub some_account : (h : List Entry) → 1 ≤ account_count h
@@ -79,8 +67,7 @@ next_unnamed h n name some =
 -- a name that an account has is taken
 taken_step : (o : Option Command) (n next : ℕ) (name : List ℕ) (before : Option (List ℕ)) (was : Bool) → (before ≡ Some name → was ≡ true) →
     named o n next before ≡ Some name → is_named o name was ≡ true
-taken_step (Some (CreateAccount given)) n next name before was taken some =
-    ⊎_elim
+taken_step (Some (CreateAccount given)) n next name before was taken some = ⊎_elim
     (λ (t : (n == next) ≡ true).
     let is : Some given ≡ Some name = sym (ap (λ b. cond b (Some given) before) t) ∙ some in
     let same : given ≡ name = cc in
@@ -96,8 +83,7 @@ taken_step (Some (CreateAccount given)) n next name before was taken some =
 taken_step _ n next name before was taken some = taken some
 
 pub name_is_taken : (h : List Entry) (n : ℕ) (name : List ℕ) → name_of h n ≡ Some name → name_taken h name ≡ true
-name_is_taken [] n name some =
-    ⊎_elim
+name_is_taken [] n name some = ⊎_elim
     (λ (t : (n == 1) ≡ true).
     let is : Some admin_name ≡ Some name = sym (ap (λ b. cond b (Some admin_name) None) t) ∙ some in
     let same : admin_name ≡ name = cc in
@@ -110,8 +96,7 @@ name_is_taken (e ∷ h) n name some = taken_step (accepted e) n (account_count h
 -- and a taken name is an account's
 free_step : (o : Option Command) (h : List Entry) (name : List ℕ) → (name_taken h name ≡ true → (n : ℕ) × (name_of h n ≡ Some name)) →
     is_named o name (name_taken h name) ≡ true → (n : ℕ) × (named o n (account_count h + 1) (name_of h n) ≡ Some name)
-free_step (Some (CreateAccount given)) h name found taken =
-    ⊎_elim
+free_step (Some (CreateAccount given)) h name found taken = ⊎_elim
     (λ (t : bytes_eq given name ≡ true).
     (account_count h + 1, ap (λ b. cond b (Some given) (name_of h (account_count h + 1))) (eq-eqb (account_count h + 1) (account_count h + 1) refl) ∙ ap Some ((bytes_eq-Decides given name).0 t)))
     (λ (f : bytes_eq given name ≡ false).
@@ -131,15 +116,10 @@ named_from (Some x) name e = let same : x ≡ name = cc in ap Some same
 -- what was found by name tells whether it is taken
 pub found_taken : (reading : Reading) (h : List Entry) (name : List ℕ) (found : Option ℕ) → IsFoundByName (fact reading h) name found → is_some found ≡ name_taken h name
 found_taken reading h name (Some n) is = sym (name_is_taken h n name (named_from (name_of h n) name is))
-found_taken reading h name None none =
-    ⊎_elim
+found_taken reading h name None none = ⊎_elim
     (λ (t : name_taken h name ≡ true). let r = taken_name_is h name t in absurd (none r.0 (ap (option_map AccountRow) r.1)))
     (λ (f : name_taken h name ≡ false). sym f)
     (cases_Bool (name_taken h name))
-
-some_mapped : {X Y : Type 0} (f : X → Y) (o : Option X) → is_some (option_map f o) ≡ is_some o
-some_mapped f None = refl
-some_mapped f (Some x) = refl
 
 account_fact : (reading : Reading) (h : List Entry) (n : ℕ) → is_some (fact reading h (AccountKey n)) ≡ is_account h n
 account_fact reading h n = some_mapped AccountRow (name_of h n) ∙ named_account h n
@@ -149,8 +129,7 @@ pub last_is : (reading : Reading) (h : List Entry) (last : ℕ) → IsLast Accou
 last_is reading h last l =
     let some = some_account h in
     let reached : account_count h ≤ last =
-    ⊎_elim (λ (lt : last < account_count h). absurd (not_above lt)) (λ (ge : account_count h ≤ last). ge) (cases_lt last (account_count h)) in
-    ⊎_elim
+    ⊎_elim (λ (lt : last < account_count h). absurd (not_above lt)) (λ (ge : account_count h ≤ last). ge) (cases_lt last (account_count h)) in ⊎_elim
     (λ (is_zero : last ≡ 0). absurd (omega arith))
     (λ (there : IsSome (fact reading h (AccountKey last))).
     let p = and_parts (nat_le 1 last) (nat_le last (account_count h)) (sym (account_fact reading h last) ∙ there) in
@@ -246,23 +225,18 @@ room_told reading h rows of agree there =
 
 -- ---- the bases of a branch, by place
 
-some_based : (o : Option (List ℕ)) → is_some (option_map BaseRow o) ≡ is_some o
-some_based None = refl
-some_based (Some c) = refl
-
 -- the last place is the number of bases
 pub last_place_is : (bs : List (List ℕ)) (last : ℕ) → ((n : ℕ) → last < n → option_map BaseRow (at_place bs n) ≡ None) →
     (last ≡ 0) ⊎ IsSome (option_map BaseRow (at_place bs last)) → last ≡ length bs
 last_place_is bs last above there =
     let reached : length bs ≤ last = ⊎_elim (λ (lt : last < length bs). absurd (not_above bs last lt above)) (λ (ge : length bs ≤ last). ge) (cases_lt last (length bs)) in
-    let within : last ≤ length bs =
-    ⊎_elim (λ (lt : length bs < last). absurd (too_far lt)) (λ (ge : last ≤ length bs). ge) (cases_lt (length bs) last) in
+    let within : last ≤ length bs = ⊎_elim (λ (lt : length bs < last). absurd (too_far lt)) (λ (ge : last ≤ length bs). ge) (cases_lt (length bs) last) in
     omega arith
   where
     not_above : (bs : List (List ℕ)) (last : ℕ) → last < length bs → ((n : ℕ) → last < n → option_map BaseRow (at_place bs n) ≡ None) → ⊥
     not_above bs last lt above =
         let none = above (length bs) lt in
-        let there : is_some (option_map BaseRow (at_place bs (length bs))) ≡ true = some_based (at_place bs (length bs)) ∙ some_at bs (length bs) (omega arith) (omega arith) in
+        let there : is_some (option_map BaseRow (at_place bs (length bs))) ≡ true = some_mapped BaseRow (at_place bs (length bs)) ∙ some_at bs (length bs) (omega arith) (omega arith) in
         let bad : true ≡ false = sym there ∙ ap is_some none in
         absurd (cc)
 
@@ -277,35 +251,10 @@ place_told reading h rows key agree there =
     let r = found_of (view reading h) rows (want.LastPlace key) agree there in
     ap number_of (r.1 ∙ ap Some r.2.1) ∙ last_place_is (bases h key.project key.branch) r.2.0 r.2.2.above r.2.2.there
 
--- a commit stands at a place just where it is in the list
-listed_at : (bs : List (List ℕ)) (commit : List ℕ) (n : ℕ) → at_place bs n ≡ Some commit → list_any (λ c. bytes_eq c commit) bs ≡ true
-listed_at [] commit n e = absurd (cc)
-listed_at (b ∷ bs) commit zero e = absurd (cc)
-listed_at (b ∷ bs) commit (suc zero) e =
-    let same : b ≡ commit = cc in ap (λ t. t || list_any (λ c. bytes_eq c commit) bs) ((bytes_eq-Decides b commit).1 same)
-listed_at (b ∷ bs) commit (suc (suc n)) e = ap (λ t. bytes_eq b commit || t) (listed_at bs commit (suc n) e) ∙ or_true (bytes_eq b commit)
-  where
-    or_true : (b : Bool) → (b || true) ≡ true
-    or_true true = refl
-    or_true false = refl
-
-placed_at : (bs : List (List ℕ)) (commit : List ℕ) → list_any (λ c. bytes_eq c commit) bs ≡ true → (n : ℕ) × (at_place bs (suc n) ≡ Some commit)
-placed_at [] commit e = absurd (cc)
-placed_at (b ∷ bs) commit e =
-    ⊎_elim
-    (λ (t : bytes_eq b commit ≡ true). (0, ap Some ((bytes_eq-Decides b commit).0 t)))
-    (λ (f : bytes_eq b commit ≡ false). let r = placed_at bs commit (sym (ap (λ t. t || list_any (λ c. bytes_eq c commit) bs) f) ∙ e) in (suc r.0, r.1))
-    (cases_Bool (bytes_eq b commit))
-
-based_from : (o : Option (List ℕ)) (commit : List ℕ) → option_map BaseRow o ≡ Some (BaseRow commit) → o ≡ Some commit
-based_from None commit e = absurd (cc)
-based_from (Some c) commit e = let same : c ≡ commit = cc in ap Some same
-
 base_or_not : (reading : Reading) (h : List Entry) (base : Base) (is : Bool) → IsBaseOrNot (fact reading h) base is → is ≡ is_base h base.project base.branch base.commit
 base_or_not reading h base true there =
-    sym (listed_at (bases h base.project base.branch) base.commit there.0 (based_from (at_place (bases h base.project base.branch) there.0) base.commit there.1))
-base_or_not reading h base false none =
-    ⊎_elim
+    sym (listed_at (bases h base.project base.branch) base.commit there.0 (based_from (at_place (bases h base.project base.branch) there.0) (Some base.commit) there.1))
+base_or_not reading h base false none = ⊎_elim
     (λ (t : is_base h base.project base.branch base.commit ≡ true).
     let r = placed_at (bases h base.project base.branch) base.commit t in absurd (none (suc r.0) (ap (option_map BaseRow) r.1)))
     (λ (f : is_base h base.project base.branch base.commit ≡ false). sym f)

@@ -1,16 +1,13 @@
 -- What an edit makes of a change, row by row.
 use Rattle.std.proofs.Common.{◌≡◌, ℕ, zero, suc, ◌+◌, ◌==◌, ◌≤◌, List, [], ◌∷◌, ◌++◌, length, length-append, Some, None, true, false, cond, refl, sym, ap, ◌∙◌, ⊎_elim, arith, eqb-true, nat_cmp, slice_get, ℤ, Option, option_map}
-use Rattle.std.proofs.lemmas.Bool.{cases_Bool, Decides.nat_tests}
-use Rattle.{std.specs.Cmp.unsigned_tied, std.specs.declared.cmp.Ordering.Ordering, review_table.specs.Edited.edited_row}
+use Rattle.review_table.specs.Edited.{edited_row}
 use Rattle.review_table.specs.Rows.{NamesOnce, after_row_edit, row_edit_of, changed, place_at, row_in, rows_of}
-use Rattle.review_table.specs.declared.{edited.Edited.Edited, table.RowEdit.RowEdit}
-use Rattle.review_core_rules.specs.{Change.of_number, EditedChanges.IsBare, EditedChanges.after_edits}
-use Rattle.review_core_rules.specs.EditedRows.{edited_account}
+use Rattle.review_table.specs.declared.edited.Edited.{Edited}
+use Rattle.review_core_rules.specs.{EditedChanges.IsBare, EditedChanges.after_edits, EditedRows.edited_account}
 use Rattle.review_core_rules.specs.Parts.{Part, TheHeader, PatchOf, VoteOf, RoleOf, CommentOf, AttentionOf, AHeader, APatch, AVote, ARole, AComment, AnAttentionEntry, part_row}
 use Rattle.review_core_rules.specs.Seen.{of_account, seen, value_of, vote_cmp}
-use Rattle.review_core_rules.specs.{Votes.voted, declared.edited_change.EditedChange.EditedChange}
-use Rattle.review_core_rules.specs.declared.rows.{ChangeRows.ChangeRows, VoteKey.VoteKey}
-use Rattle.review_machine_rows.specs.{Rows.part_change, Rows.vote_row, declared.rows.ChangeEdit.ChangeEdit}
+use Rattle.review_core_rules.specs.declared.edited_change.EditedChange.{EditedChange}
+use Rattle.review_machine_rows.proofs.Common.{ChangeEdit, ChangeRows, Ordering, RowEdit, VoteKey, append-nil, cases_Bool, nat_tests, of_number, part_change, unsigned_tied, vote_row, voted}
 use Rattle.review_machine_change_rows.specs.Edits.{puts_after}
 
 -- ==== rows that are put under the next numbers
@@ -29,8 +26,7 @@ get_more (y ∷ ys) x (suc m) = get_more ys x m ∙ sym (ap (λ b. cond b (Some 
 
 number_more : {X : Type 0} (xs : List X) (x : X) (n : ℕ) → (length xs + 1 == n) ≡ false → of_number (xs ++ x ∷ []) n ≡ of_number xs n
 number_more xs x zero other = refl
-number_more xs x (suc m) other =
-    let e : (length xs == m) ≡ false = same (length xs) m other in get_more xs x m ∙ ap (λ b. cond b (Some x) (slice_get xs m)) e
+number_more xs x (suc m) other = let e : (length xs == m) ≡ false = same (length xs) m other in get_more xs x m ∙ ap (λ b. cond b (Some x) (slice_get xs m)) e
   where
     same : (k m : ℕ) → (k + 1 == suc m) ≡ false → (k == m) ≡ false
     same k m other = grind (arith, nat_tests)
@@ -43,13 +39,9 @@ assoc : {X : Type 0} (xs ys : List X) (x : X) → (xs ++ x ∷ []) ++ ys ≡ xs 
 assoc [] ys x = refl
 assoc (y ∷ xs) ys x = ap (λ l. y ∷ l) (assoc xs ys x)
 
-nothing_more : {X : Type 0} (xs : List X) → xs ++ [] ≡ xs
-nothing_more [] = refl
-nothing_more (x ∷ xs) = ap (λ l. x ∷ l) (nothing_more xs)
-
 -- rows that are put under the next numbers
 pub puts_number : {X : Type 0} (old more : List X) (n : ℕ) → changed nat_cmp (puts_after (length old) more) n (of_number old n) ≡ of_number (old ++ more) n
-puts_number old [] n = ap (λ l. of_number l n) (sym (nothing_more old))
+puts_number old [] n = ap (λ l. of_number l n) (sym (append-nil old))
 puts_number old (x ∷ xs) n =
     ap (λ b. after_row_edit (cond b (Some (Some x)) (row_edit_of nat_cmp (puts_after (length old + 1) xs) n)) (of_number old n)) (unsigned_tied (length old + 1) n)
     ∙ ⊎_elim
@@ -91,7 +83,7 @@ has_number most before put x rest xs within is =
 
 -- ==== what an edit makes of a change, row by row
 
-after_mapped : {X Y : Type 0} (f : X → Y) (o : Option (Option X)) (was : Option X) → after_row_edit (option_map (option_map f) o) (option_map f was) ≡ option_map f (after_row_edit o was)
+pub after_mapped : {X Y : Type 0} (f : X → Y) (o : Option (Option X)) (was : Option X) → after_row_edit (option_map (option_map f) o) (option_map f was) ≡ option_map f (after_row_edit o was)
 after_mapped f None was = refl
 after_mapped f (Some now) was = refl
 
@@ -100,7 +92,7 @@ after_vote None was = refl
 after_vote (Some now) was = refl
 
 -- the row of a vote by its value
-vote_is : (r : Option ℤ) → cond (voted (value_of r)) (Some (AVote (value_of r))) None ≡ vote_row r
+pub vote_is : (r : Option ℤ) → cond (voted (value_of r)) (Some (AVote (value_of r))) None ≡ vote_row r
 vote_is None = refl
 vote_is (Some v) = refl
 

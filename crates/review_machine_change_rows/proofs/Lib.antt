@@ -1,3 +1,3 @@
-mod Edited
+pub mod Edited
 pub mod Ordered
 pub mod Shown

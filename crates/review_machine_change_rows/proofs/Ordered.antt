@@ -1,9 +1,7 @@
 -- Rows by their numbers, in order.
 use Rattle.std.proofs.Common.{◌≡◌, ℕ, zero, suc, ◌+◌, ◌<◌, ◌≤◌, ◌==◌, true, false, cond, List, [], ◌∷◌, ◌++◌, length, Some, None, refl, sym, ap, ◌∙◌, subst, ⊎_elim, arith}
-use Rattle.std.proofs.lemmas.{Bool.cases_lt, Bool.Decides.nat_tests, Cmp.ranked}
-use Rattle.std.specs.{Cmp.unsigned_tied, List.AllByRecursion, List.Sorted.IsStrictlySortedBy, Map.keys_of}
-use Rattle.std.specs.{Ordering.nat_cmp, Prelude.slice_get, declared.cmp.Ordering.TheVariants.Less}
-use Rattle.{review_table.specs.Rows.row_in, review_core_rules.specs.Change.of_number}
+use Rattle.std.{proofs.lemmas.Cmp.ranked, specs.List.Sorted.IsStrictlySortedBy, specs.Prelude.slice_get}
+use Rattle.review_machine_rows.proofs.Common.{AllByRecursion, Less, append-nil, cases_lt, keys_of, nat_cmp, nat_tests, of_number, row_in, unsigned_tied}
 use Rattle.review_machine_change_rows.specs.inner.Words.{AreInOrder, numbered}
 
 -- one more row under the next number
@@ -25,17 +23,13 @@ at_number k (x ∷ xs) (suc m) n is =
     let e : (n == k + 1) ≡ false = grind (arith, nat_tests) in
     ap (λ b. cond b (Some x) (row_in nat_cmp (numbered (k + 1) xs) n)) (unsigned_tied n (k + 1) ∙ e) ∙ at_number (k + 1) xs m n (omega (arith, is))
 
-nothing_more : {X : Type 0} (xs : List X) → xs ++ [] ≡ xs
-nothing_more [] = refl
-nothing_more (x ∷ xs) = ap (λ l. x ∷ l) (nothing_more xs)
-
 numbered_is : {X : Type 0} (xs : List X) → AreInOrder (numbered 0 xs) xs
 numbered_is xs zero = before_first 0 xs 0 (omega arith)
 numbered_is xs (suc m) = at_number 0 xs m (suc m) (omega arith)
 
 -- all rows are under their numbers
 pub in_order : {X : Type 0} (rows : List (ℕ × X)) (xs : List X) → numbered 0 xs ++ [] ≡ rows → AreInOrder rows xs
-in_order rows xs is n = ap (λ r. row_in nat_cmp r n) (sym is ∙ nothing_more (numbered 0 xs)) ∙ numbered_is xs n
+in_order rows xs is n = ap (λ r. row_in nat_cmp r n) (sym is ∙ append-nil (numbered 0 xs)) ∙ numbered_is xs n
 
 -- ---- gaps
 
@@ -79,8 +73,7 @@ later_than k (f ∷ front) m x rest s = later_than k front m x rest s.1
 hole : {X : Type 0} (k : ℕ) (xs : List X) (m : ℕ) (x : X) (rest : List (ℕ × X)) → IsStrictlySortedBy nat_cmp (keys_of (numbered k xs ++ (m, x) ∷ rest)) → k < m → (m ≡ k + length xs + 1 → ⊥) →
     IsHole (numbered k xs ++ (m, x) ∷ rest) (k + length xs + 1) m x
 unfolding IsStrictlySortedBy
-hole k [] m x rest s low ne =
-    ⊎_elim
+hole k [] m x rest s low ne = ⊎_elim
     (λ (lt : k + 1 < m).
     let e : (k + 0 + 1 == m) ≡ false = grind (arith, nat_tests) in
     let f : (m == m) ≡ true = grind (arith, nat_tests) in

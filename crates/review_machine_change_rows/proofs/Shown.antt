@@ -1,10 +1,8 @@
 -- The change that tables show.
-use Rattle.std.proofs.Common.{◌≡◌, ℕ, ℤ, cond, Option, Some, None, Result, Ok, Err, refl, sym, ap, subst, ◌∙◌, nat_cmp, IfErr, option_map, IsErr, IsErrAnd}
-use Rattle.{review_table.specs.Rows.row_in, review_table.specs.Rows.rows_of, review_core_rules.specs.Change.of_number}
-use Rattle.review_core_rules.specs.Parts.{Part, TheHeader, PatchOf, VoteOf, RoleOf, CommentOf, AttentionOf, AHeader, APatch, AVote, ARole, AComment, AnAttentionEntry}
-use Rattle.review_core_rules.specs.{Seen.seen, Seen.value_of, Seen.vote_cmp, Votes.voted}
-use Rattle.review_core_rules.specs.declared.rows.{ChangeRows.ChangeRows, CommentRow.CommentRow, PatchRow.PatchRow}
-use Rattle.{review_core_rules.specs.declared.rows.VoteKey.VoteKey, review_machine_rows.specs.Rows.vote_row}
+use Rattle.std.proofs.Common.{◌≡◌, ℕ, Option, Some, None, Result, Ok, Err, refl, sym, ap, subst, ◌∙◌, nat_cmp, IfErr, option_map, IsErr, IsErrAnd}
+use Rattle.review_core_rules.specs.Parts.{Part, TheHeader, PatchOf, VoteOf, RoleOf, CommentOf, AttentionOf, AHeader, APatch, ARole, AComment, AnAttentionEntry}
+use Rattle.review_machine_rows.proofs.Common.{ChangeRows, CommentRow, PatchRow, VoteKey, of_number, row_in, rows_of, seen, vote_cmp, vote_row}
+use Rattle.review_machine_change_rows.proofs.Edited.{vote_is}
 use Rattle.review_machine_change_rows.specs.Tables.{HaveFault, Show, part_in}
 use Rattle.review_machine_change_rows.specs.declared.loading.ChangeFault.{ChangeFault}
 use Rattle.review_machine_change_rows.specs.declared.loading.ChangeFault.TheVariants.{Memory, Gap}
@@ -31,11 +29,6 @@ repeated t s is (AttentionOf u) = ap (option_map AnAttentionEntry) (is.attention
 pub fault_by : (t s : ChangeTables) → ((part : Part) → part_in s part ≡ part_in t part) → (f : ChangeFault) → HaveFault s f → HaveFault t f
 fault_by t s same Memory none = tt
 fault_by t s same Gap none = λ c show. none c (λ part. same part ∙ show part)
-
--- the row of a vote by its value
-vote_is : (r : Option ℤ) → cond (voted (value_of r)) (Some (AVote (value_of r))) None ≡ vote_row r
-vote_is None = refl
-vote_is (Some v) = refl
 
 -- the rows of a change are those of tables
 pub record Reads (t : ChangeTables) (r : ChangeRows) : Type 0 where

@@ -82,22 +82,15 @@ pub fn copied_header(alloc: Global, header: &Header) -> Result<Header, AllocErro
     })
 }
 
-/// A patch set once more. An error where there was no memory for it.
-pub fn copied_patch_row(alloc: Global, patch: &PatchRow) -> Result<PatchRow, AllocError>
-    ensures { IfOk result (λ p. p ≡ patch.now) }
-{
-    Ok(PatchRow {
-        commit: patch.commit.copy(alloc)?,
-        parent: patch.parent.copy(alloc)?,
-        kind: patch.kind,
-        uploader: patch.uploader,
-        paths: patch.paths.copy(alloc)?,
-    })
-}
-
 impl Copied for PatchRow {
     fn copied(&self, alloc: Global) -> Result<PatchRow, AllocError> {
-        copied_patch_row(alloc, self)
+        Ok(PatchRow {
+            commit: self.commit.copy(alloc)?,
+            parent: self.parent.copy(alloc)?,
+            kind: self.kind,
+            uploader: self.uploader,
+            paths: self.paths.copy(alloc)?,
+        })
     }
 }
 

@@ -11,11 +11,11 @@ use review_table::Table;
 use review_words::{CommentNo, PatchNo};
 use std::alloc::{AllocError, Global};
 
-/// Why a change is not given.
+/// Why a change, or the bases of a branch, are not given.
 #[derive(Clone, Copy, PartialEq, Eq, Drop)]
 pub enum ChangeFault {
     Memory,
-    /// The numbers of its patch sets or of its comments aren't 1, 2 and so on.
+    /// The numbers of its patch sets or of its comments, or the places of the bases, aren't 1, 2 and so on.
     Gap,
 }
 

@@ -2,7 +2,7 @@
 ghost use Rattle.std.specs.Prelude.{◌≡◌, IfOk};
 
 use review_core_rules::{AttentionEntry, Vote};
-use review_words::Role;
+use review_words::{AccountName, Role};
 use std::alloc::{AllocError, Global};
 
 /// A row that can be copied exactly.
@@ -30,5 +30,11 @@ impl Copied for AttentionEntry {
             reason: self.reason.copy(alloc)?,
             request: self.request,
         })
+    }
+}
+
+impl Copied for AccountName {
+    fn copied(&self, alloc: Global) -> Result<AccountName, AllocError> {
+        self.copy(alloc)
     }
 }

@@ -1,31 +1,25 @@
 -- What a command on a change that is done makes of the rows.
 use Rattle.std.proofs.Common.{ℕ, Result, IfOk, refl, sym, subst, nat_cmp, ◌≡◌, zero, suc, ◌+◌, ◌==◌, ◌≤◌, ◌<◌, List, [], ◌∷◌, ◌++◌, Option, Some, None, Bool, true, false, cond, ap, ◌∙◌, ⊎_elim, arith, is_some, nat_le, nat_lt, option_map, min, length, eqb-true, unwrap_or}
-use Rattle.std.proofs.lemmas.{Bool.cases_Bool, Bool.Decides.nat_tests, Result.IfOk-weaker}
-use Rattle.std.specs.declared.alloc.AllocError.{AllocError}
 use Rattle.review_names.specs.Forms.{is_within, most_changes, most_comments, most_patches}
 use Rattle.review_table.specs.Rows.{NamesOnce, after_row_edit, row_edit_of}
 use Rattle.review_words.specs.History.{Entry, entry_of, base_count, project_count, least_open}
-use Rattle.review_words.specs.declared.changes.{NewPatch.NewPatch, Review.Review as ReviewOf}
-use Rattle.review_words.specs.declared.command.ChangeCommand.{ChangeCommand}
+use Rattle.review_words.specs.declared.{changes.Review.Review as ReviewOf, command.ChangeCommand.ChangeCommand}
 use Rattle.review_words.specs.declared.command.ChangeCommand.TheVariants.{Review as ReviewCommand, Upload as UploadCommand}
-use Rattle.review_words.specs.declared.command.Command.{Command, TheVariants.OnChange}
-use Rattle.review_words.specs.declared.reply.Answer.{Answer, TheVariants.Patch, TheVariants.Reviewed}
-use Rattle.review_words.specs.declared.reply.{Refusal.Refusal, Reply.Reply, Reply.TheVariants.Done}
+use Rattle.review_words.specs.declared.reply.Answer.TheVariants.{Patch, Reviewed}
 use Rattle.review_core_rules.proofs.Stays.{within_from, within_next, within_parts}
 use Rattle.review_core_rules.specs.Change.{Change, after_copying, after_plain, carried, copying, current, is_lost, said, after as change_after_request}
-use Rattle.review_core_rules.specs.{Counts.AreMany, EditedChanges.Makes, EditedChanges.after_edits}
-use Rattle.review_core_rules.specs.{Parts.Part, Parts.part_row, Seen.seen, Sound.IsSound, Votes.voted}
-use Rattle.review_core_rules.specs.declared.{edited_change.EditedChange.EditedChange, rows.ChangeRows.ChangeRows}
+use Rattle.review_core_rules.specs.EditedChanges.{Makes, after_edits}
+use Rattle.review_core_rules.specs.{Parts.Part, Parts.part_row, declared.edited_change.EditedChange.EditedChange}
 use Rattle.review_machine_rows.proofs.Asked.{requests_are}
+use Rattle.review_machine_rows.proofs.Common.{AllocError, Answer, AreMany, ChangeEdit, ChangeRows, Command, Delta, Done, File, IfOk-weaker, IsSound, NewPatch, OfCommand, OnChange, Refusal, Reply, Rows, cases_Bool, nat_tests, seen, voted}
 use Rattle.review_machine_rows.proofs.Puts.{no_base, no_base_more, no_file, no_project}
 use Rattle.review_machine_rows.specs.Answer.{first_refusal, IsAnswerBy, IsOf, IsUploadAnswer, comment_numbers, most_requests, numbers_after, refused_by}
 use Rattle.review_machine_rows.specs.Changes.{Reading, change, setting_of}
 use Rattle.review_machine_rows.specs.Decisions.{NamesChangesOnce, NamesEachOnce, NamesRowsOnce}
-use Rattle.review_machine_rows.specs.{Files.File, Known.part_of, Known.known, Known.number_of}
+use Rattle.review_machine_rows.specs.Known.{part_of, known, number_of}
 use Rattle.review_machine_rows.specs.Rows.{member_cmp, APart, edited, part_change, Key, Row, AccountKey, MemberKey, FileKey, BaseKey, PartKey, OddKey, Count, Projects, BasesOf, ClosedEpochs, account_change, member_change, after, count_after}
-use Rattle.review_machine_rows.specs.Steps.{OfCommand}
 use Rattle.review_machine_rows.specs.View.{AreEnough, IsDecided, counted, fact, view}
-use Rattle.review_machine_rows.specs.declared.rows.{ChangeEdit.ChangeEdit, Delta.Delta, Rows.Rows}
+use Rattle.review_machine_change_rows.proofs.Edited.{after_mapped}
 use Rattle.review_machine_accounts.proofs.Decided.{outcome_answer}
 use Rattle.review_machine_changes.specs.Facts.{EditsChange, MakesChange, next_request, setting_in}
 use Rattle.review_machine_changes.specs.inner.Facts.{next_numbers, IsReviewed, IsUploaded}
@@ -66,10 +60,6 @@ stored_numbers number last patch n within p = let w = within_parts most_changes 
 pub change_within : (n : ℕ) → nat_lt n most_changes ≡ true → is_within most_changes (n + 1) ≡ true
 change_within n below = within_next n most_changes below
 
-after_mapped : {X Y : Type 0} (f : X → Y) (o : Option (Option X)) (was : Option X) → after_row_edit (option_map (option_map f) o) (option_map f was) ≡ option_map f (after_row_edit o was)
-after_mapped f None was = refl
-after_mapped f (Some now) was = refl
-
 -- an edit turns the rows of its change and no others
 pub edit_turns : (e : ChangeEdit) (n : ℕ) (part : Part) (before : Option Change) (new : Change) (b : Bool) → (e.change == n) ≡ b →
     (b ≡ true → after_row_edit (part_change e part) (part_of before part) ≡ part_row new part) →
@@ -95,8 +85,7 @@ first_of xs ys v b otherwise passes is some = is ∙ (before xs ys (sym (ap is_s
   where
     before : (xs ys : List (Bool × Refusal)) → is_some (first_refusal xs) ≡ true → first_refusal xs ≡ first_refusal (xs ++ ys)
     before [] ys some = absurd (cc)
-    before (c ∷ cs) ys some =
-        ⊎_elim
+    before (c ∷ cs) ys some = ⊎_elim
         (λ (t : c.0 ≡ true).
         ap (λ k. cond k (first_refusal cs) (Some c.1)) t ∙ (before cs ys (sym (ap (λ k. is_some (cond k (first_refusal cs) (Some c.1))) t) ∙ some)
         ∙ sym (ap (λ k. cond k (first_refusal (cs ++ ys)) (Some c.1)) t)))

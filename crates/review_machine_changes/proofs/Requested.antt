@@ -1,41 +1,35 @@
 -- Requests on a change.
 use Rattle.std.proofs.Common.{◌≡◌, ℕ, List, [], ◌∷◌, ◌++◌, Option, Some, None, Bool, true, false, cond, ◌==◌, ◌&&◌, ◌||◌, refl, sym, ap, ◌∙◌, subst, map, filter, find, int_eq, is_some, int_le, bytes_eq, ℤ, nat_cmp, option_map, not, nat_lt, zero, suc, ◌+◌, ◌≤◌, length, arith, nat_le}
-use Rattle.std.proofs.lemmas.Bool.{and_from, and_parts, Decides.nat_tests}
-use Rattle.std.specs.{Cmp.Lexicographic.slice_cmp, List.AllByRecursion, List.list_all, List.list_any}
-use Rattle.std.specs.Option.{option_map_or}
+use Rattle.std.proofs.lemmas.Bool.{and_from, and_parts}
+use Rattle.std.specs.List.{AllByRecursion, list_all, list_any}
 use Rattle.review_names.specs.Forms.{is_within, most_patches, most_comments}
 use Rattle.review_names.specs.{Groups.has_account, Groups.GroupList, Names.registered_users}
-use Rattle.review_table.specs.Rows.{row_in, rows_of}
-use Rattle.review_words.specs.{History.Entry, History.is_account, History.is_admin, Texts.IsCommentNumber}
-use Rattle.review_words.specs.declared.changes.{Given.Given, NewPatch.NewPatch, Review.Review as ReviewOf}
-use Rattle.review_words.specs.declared.command.ChangeCommand.{ChangeCommand}
+use Rattle.review_words.specs.History.{Entry, is_account, is_admin}
+use Rattle.review_words.specs.{Texts.IsCommentNumber, declared.changes.Review.Review as ReviewOf}
 use Rattle.review_words.specs.declared.command.ChangeCommand.TheVariants.{Review as ReviewCommand, Upload, Upload as UploadCommand, AddReviewer, RemoveReviewer, SetWip, SetReady, Abandon, Restore, AddAttention, RemoveAttention}
-use Rattle.review_words.specs.declared.command.Command.TheVariants.{OnChange}
-use Rattle.review_words.specs.declared.reply.{Answer.TheVariants.Nothing, NotTaken.TheVariants.Damaged, Refusal.Refusal}
 use Rattle.review_words.specs.declared.reply.Refusal.TheVariants.{UnknownCaller, NoPatchSet, Closed, StalePatchSet, NoLabel, ValueOut, VoteRestricted, NotAllowed, CommitKnown, UnknownParent, Limit, NoComment, NoAccount, SameState, NotEligible}
-use Rattle.review_words.specs.declared.reply.Reply.{Reply, TheVariants.Done}
 use Rattle.review_expr_judging.specs.{Holds.copy_holds, Holds.holds, declared.facts.VoteFacts.VoteFacts}
-use Rattle.review_expr.specs.{Exprs.holds_for, declared.expr.Expr.Expr}
+use Rattle.review_expr.specs.Exprs.{holds_for}
 use Rattle.review_file_rules.specs.Named.{SameIn, SameInAll, copy_groups, copying_groups, groups_in}
 use Rattle.review_file_rules.specs.Rights.{grants_of, greatest_of, least_of}
 use Rattle.review_file_rules.specs.Trees.{ExprTree, file_trees, label_trees, OfCopy, tree_of}
-use Rattle.review_file_rules.specs.{View.LabelView, declared.parts.Grant.Grant}
+use Rattle.review_file_rules.specs.declared.parts.Grant.{Grant}
 use Rattle.review_core_rules.specs.Change.{Change, current, is_open, label_in, reviewed, Setting, condition_holds, copying, is_copied, vote_facts, said, after, after_plain, eligible}
 use Rattle.review_core_rules.specs.Sound.{fits, answer_stored}
 use Rattle.review_core_tables.{proofs.Accounts.in_table, proofs.Accounts.is_listed, specs.Copies.group_list}
 use Rattle.review_machine_rows.proofs.Asked.{file_asked}
+use Rattle.review_machine_rows.proofs.Common.{ChangeCommand, Damaged, Delta, Done, Expr, File, Given, IsUndecided, LabelView, NewPatch, Nothing, OnChange, Refusal, Reply, Rows, nat_tests, option_map_or, row_in, rows_of, slice_cmp}
 use Rattle.review_machine_rows.specs.Answer.{first_refusal, given_checks, is_in_range, is_value_of, of_change, refused_by, review_checks, upload_checks, IsRequestOutcome, has_role, is_merged, request_checks}
 use Rattle.review_machine_rows.specs.Changes.{Reading, Reads, file_of, groups_of, setting_of, texts_of, change}
-use Rattle.review_machine_rows.specs.{Decisions.IsUndecided, Files.File}
 use Rattle.review_machine_rows.specs.Known.{IsKnown, known, change_in, Members, members_of}
 use Rattle.review_machine_rows.specs.Steps.{HasFile, OfCommand, caller_in, given_wants, granted_groups, has_some, named_in}
 use Rattle.review_machine_rows.specs.View.{AreEnough, IsDecided}
-use Rattle.review_machine_rows.specs.declared.rows.{Delta.Delta, Rows.Rows}
-use Rattle.review_machine_laws.proofs.{Changes.all_pass, Changes.Passes, Grouped.in_group, Histories.same_file}
+use Rattle.review_machine_laws.proofs.{Changes.all_pass, Changes.Passes, Grouped.in_group}
+use Rattle.review_machine_laws.proofs.Histories.{OneEffective, same_file}
 use Rattle.review_machine_accounts.proofs.Decided.{admin_is, asked_beside, outcome_answer}
 use Rattle.review_machine_accounts.proofs.Told.{Agree, member_told, held_told, account_told}
 use Rattle.{review_machine_accounts.specs.inner.Words.is_held, review_machine_changes.proofs.Made.request_decided}
-use Rattle.review_machine_changes.proofs.Told.{OneFile, known_told, right_told, asked_by, change_is, file_is, file_lacking}
+use Rattle.review_machine_changes.proofs.Told.{known_told, right_told, asked_by, change_is, file_is, file_lacking}
 use Rattle.review_machine_changes.specs.Facts.{in_rows, range_in, setting_in, MakesChange, next_request}
 use Rattle.review_machine_changes.specs.Requests.{call_list, is_named, plain_list, runs_in}
 use Rattle.review_machine_changes.specs.inner.Facts.{LacksFile, given_in, review_list, said_checks, upload_list, given_of, next_numbers}
@@ -107,11 +101,11 @@ ranges_told reading h rows project f account (g ∷ gs) agree same all =
     λ i. range_told reading h rows project f account g agree same each.0 i && ranges_told reading h rows project f account gs agree same each.1 i
 
 -- the file that was read has the trees of the one that is read
-pub same_trees : OneFile → (reading : Reading) (h : List Entry) (project : List ℕ) (file : File) → Reads reading h → HasFile (texts_of h project) (Some file) → file_trees file ≡ file_trees (file_of reading h project)
+pub same_trees : OneEffective → (reading : Reading) (h : List Entry) (project : List ℕ) (file : File) → Reads reading h → HasFile (texts_of h project) (Some file) → file_trees file ≡ file_trees (file_of reading h project)
 same_trees one reading h project file reads has = same_file one reading h project file reads has
 
 -- the checks of values
-values_told : OneFile → (reading : Reading) (h : List Entry) (caller n : ℕ) (r : ReviewOf) (f : File) (rows : Rows) (c : Change) (given : List Given) → r.labels ≡ given → change_in (known rows (want.Change n)) ≡ Some c →
+values_told : OneEffective → (reading : Reading) (h : List Entry) (caller n : ℕ) (r : ReviewOf) (f : File) (rows : Rows) (c : Change) (given : List Given) → r.labels ≡ given → change_in (known rows (want.Change n)) ≡ Some c →
     AreEnough reading h caller (OfCommand (OnChange n (ReviewCommand r))) (Some f) rows → given_checks (setting_of reading h c.project) caller r c given ≡ given_in f rows caller r c given
 values_told one reading h caller n r f rows c [] labels found l = refl
 values_told one reading h caller n r f rows c (g ∷ gs) labels found l =
@@ -125,7 +119,7 @@ values_told one reading h caller n r f rows c (g ∷ gs) labels found l =
     sym (λ i. (is_open c.state, Closed) ∷ (reviewed r c == current c, StalePatchSet) ∷ (named i, NoLabel) ∷ (valued i, ValueOut) ∷ (ranged i, VoteRestricted) ∷ [])
 
 -- the checks of a review of a change
-list_told : OneFile → (reading : Reading) (h : List Entry) (caller n : ℕ) (r : ReviewOf) (effective : Option File) (rows : Rows) (c : Change) (given : List Given) → r.labels ≡ given → change_in (known rows (want.Change n)) ≡ Some c →
+list_told : OneEffective → (reading : Reading) (h : List Entry) (caller n : ℕ) (r : ReviewOf) (effective : Option File) (rows : Rows) (c : Change) (given : List Given) → r.labels ≡ given → change_in (known rows (want.Change n)) ≡ Some c →
     AreEnough reading h caller (OfCommand (OnChange n (ReviewCommand r))) effective rows → (LacksFile effective given → is_within (current c) (reviewed r c) ≡ false) →
     first_refusal (review_checks reading h caller r c) ≡ first_refusal (review_list effective rows caller r c)
 list_told one reading h caller n r None rows c [] labels found l lacks =
@@ -138,7 +132,7 @@ list_told one reading h caller n r (Some f) rows c given labels found l lacks =
     (ap (given_checks (setting_of reading h c.project) caller r c) labels ∙ (values_told one reading h caller n r f rows c given labels found l ∙ ap (given_in f rows caller r c) (sym labels)))
 
 -- what refuses a review is what rows tell
-pub review_told : OneFile → (reading : Reading) (h : List Entry) (caller n : ℕ) (r : ReviewOf) (effective : Option File) (rows : Rows) (c : Change) → is_account h caller ≡ true → change_in (known rows (want.Change n)) ≡ Some c →
+pub review_told : OneEffective → (reading : Reading) (h : List Entry) (caller n : ℕ) (r : ReviewOf) (effective : Option File) (rows : Rows) (c : Change) → is_account h caller ≡ true → change_in (known rows (want.Change n)) ≡ Some c →
     AreEnough reading h caller (OfCommand (OnChange n (ReviewCommand r))) effective rows → (LacksFile effective r.labels → is_within (current c) (reviewed r c) ≡ false) →
     refused_by reading h caller (OnChange n (ReviewCommand r)) ≡ first_refusal (review_list effective rows caller r c)
 review_told one reading h caller n r effective rows c account found l lacks =
@@ -158,19 +152,19 @@ pub split_all : {X : Type 0} (P : X → Type 0) (xs ys : List X) → AllByRecurs
 split_all P [] ys all = (tt, all)
 split_all P (x ∷ xs) ys all = let rest = split_all P xs ys all.1 in ((all.0, rest.0), rest.1)
 
-held_in : (o : Option (List (ℕ × Option (Unit {0})))) (account : ℕ) → is_listed o account ≡ is_held (members_of (option_map (λ t. Members (rows_of t)) o)) account
+pub held_in : (o : Option (List (ℕ × Option (Unit {0})))) (account : ℕ) → is_listed o account ≡ is_held (members_of (option_map (λ t. Members (rows_of t)) o)) account
 held_in None account = refl
 held_in (Some t) account = refl
 
 -- a group whose members were asked has those of the history
-same_in : (reading : Reading) (h : List Entry) (rows : Rows) (group : List ℕ) → Agree reading h rows → IsKnown rows (want.Group group) → SameIn (group_list rows.groups) (groups_of h) group
+pub same_in : (reading : Reading) (h : List Entry) (rows : Rows) (group : List ℕ) → Agree reading h rows → IsKnown rows (want.Group group) → SameIn (group_list rows.groups) (groups_of h) group
 same_in reading h rows group agree there account =
     in_table rows.groups group account
     ∙ (ap (λ b. bytes_eq group registered_users || b)
     (held_in (row_in (slice_cmp nat_cmp) (rows_of rows.groups) group) account ∙ held_told reading h rows group account agree there)
     ∙ sym (in_group h group account))
 
-same_in_all : (reading : Reading) (h : List Entry) (rows : Rows) (groups : List (List ℕ)) → Agree reading h rows → AllByRecursion (IsKnown rows) (map want.Group groups) → SameInAll (group_list rows.groups) (groups_of h) groups
+pub same_in_all : (reading : Reading) (h : List Entry) (rows : Rows) (groups : List (List ℕ)) → Agree reading h rows → AllByRecursion (IsKnown rows) (map want.Group groups) → SameInAll (group_list rows.groups) (groups_of h) groups
 same_in_all reading h rows [] agree all = tt
 same_in_all reading h rows (g ∷ gs) agree all = (same_in reading h rows g agree all.0, same_in_all reading h rows gs agree all.1)
 
@@ -261,7 +255,7 @@ has_file : (reading : Reading) (h : List Entry) (caller n : ℕ) (p : NewPatch) 
 has_file reading h caller n p f rows c found l = file_is reading h caller n (UploadCommand p) (Some f) rows c found refl (asked_by reading h caller n (UploadCommand p) (Some f) rows c found l).0 l
 
 -- what refuses a new patch set is what rows tell
-pub upload_told : OneFile → (reading : Reading) (h : List Entry) (caller n : ℕ) (p : NewPatch) (f : File) (rows : Rows) (c : Change) → is_account h caller ≡ true → change_in (known rows (want.Change n)) ≡ Some c →
+pub upload_told : OneEffective → (reading : Reading) (h : List Entry) (caller n : ℕ) (p : NewPatch) (f : File) (rows : Rows) (c : Change) → is_account h caller ≡ true → change_in (known rows (want.Change n)) ≡ Some c →
     AreEnough reading h caller (OfCommand (OnChange n (UploadCommand p))) (Some f) rows → refused_by reading h caller (OnChange n (UploadCommand p)) ≡ first_refusal (upload_list f rows caller p c)
 upload_told one reading h caller n p f rows c account found l =
     let told = change_is reading h caller n (UploadCommand p) (Some f) rows c found l in
@@ -273,7 +267,7 @@ upload_told one reading h caller n p f rows c account found l =
     ∙ sym (λ i. first_refusal (((caller == c.owner) || allowed i, NotAllowed) ∷ (is_open c.state, Closed) ∷ (not (sent i), CommitKnown) ∷ (parent i, UnknownParent) ∷ (nat_lt (current c) most_patches, Limit) ∷ []))
 
 -- and it copies the votes that the history says
-pub copied_told : OneFile → GroupsSuffice → (reading : Reading) (h : List Entry) (caller n : ℕ) (p : NewPatch) (f : File) (rows : Rows) (c : Change) → change_in (known rows (want.Change n)) ≡ Some c →
+pub copied_told : OneEffective → GroupsSuffice → (reading : Reading) (h : List Entry) (caller n : ℕ) (p : NewPatch) (f : File) (rows : Rows) (c : Change) → change_in (known rows (want.Change n)) ≡ Some c →
     AreEnough reading h caller (OfCommand (OnChange n (UploadCommand p))) (Some f) rows → copying (setting_in f rows) (UploadCommand p) caller c ≡ copying (setting_of reading h c.project) (UploadCommand p) caller c
 copied_told one law reading h caller n p f rows c found l =
     copying_told law reading h rows f p caller c l.agree (same_trees one reading h c.project f l.reads (has_file reading h caller n p f rows c found l)) (asked_of_groups reading h caller n p f rows l).1
@@ -326,7 +320,7 @@ named_told reading h caller n request effective rows account names l =
     (subst (λ ns. AllByRecursion (IsKnown rows) (want.Change n ∷ map want.Account ns)) names (asked_beside h caller (OnChange n request) rows l)).1.0
 
 -- the checks of such a request are those that rows tell
-checks_told : OneFile → (reading : Reading) (h : List Entry) (caller n : ℕ) (request : ChangeCommand) (effective : Option File) (rows : Rows) (c : Change) → change_in (known rows (want.Change n)) ≡ Some c →
+checks_told : OneEffective → (reading : Reading) (h : List Entry) (caller n : ℕ) (request : ChangeCommand) (effective : Option File) (rows : Rows) (c : Change) → change_in (known rows (want.Change n)) ≡ Some c →
     AreEnough reading h caller (OfCommand (OnChange n request)) effective rows → is_plain request ≡ true → lacks_file effective request ≡ false →
     first_refusal (request_checks reading h caller request c) ≡ first_refusal (plain_list effective rows caller request c)
 checks_told one reading h caller n (AddReviewer account role) effective rows c found l plain lacks =
@@ -365,7 +359,7 @@ checks_told one reading h caller n (RemoveAttention account reason) effective ro
 checks_told one reading h caller n _ effective rows c found l plain lacks = absurd (cc)
 
 -- what refuses such a request is what rows tell
-pub plain_told : OneFile → (reading : Reading) (h : List Entry) (caller n : ℕ) (request : ChangeCommand) (effective : Option File) (rows : Rows) (c : Change) → is_account h caller ≡ true →
+pub plain_told : OneEffective → (reading : Reading) (h : List Entry) (caller n : ℕ) (request : ChangeCommand) (effective : Option File) (rows : Rows) (c : Change) → is_account h caller ≡ true →
     change_in (known rows (want.Change n)) ≡ Some c → AreEnough reading h caller (OfCommand (OnChange n request)) effective rows → is_plain request ≡ true → lacks_file effective request ≡ false →
     refused_by reading h caller (OnChange n request) ≡ first_refusal (plain_list effective rows caller request c)
 plain_told one reading h caller n request effective rows c account found l plain lacks =

@@ -1,33 +1,26 @@
 -- What rows tell of changes: of a new one, and of one whose command isn't decided.
 use Rattle.std.proofs.Common.{◌≡◌, ℕ, List, [], ◌∷◌, Some, ◌||◌, refl, sym, ap, ◌∙◌, nat_le, bytes_eq, ◌+◌, ◌==◌, length, Option, None, Bool, true, false, cond, not, subst, eqb-true, arith, nat_cmp, is_some, nat_lt, option_map, unwrap_or, ◌⊎◌, inl, inr, ⊎_elim, option_and_then, IfErr, Result, IsErr, IsErrAnd}
-use Rattle.std.proofs.lemmas.{Bool.Decides.nat_tests, Result.err_from_is_err_and}
-use Rattle.std.specs.List.{AllByRecursion, list_any}
-use Rattle.review_names.specs.{Forms.most_changes, Groups.has_account, Names.registered_users}
+use Rattle.std.{proofs.lemmas.Result.err_from_is_err_and, specs.List.AllByRecursion, specs.List.list_any}
+use Rattle.review_names.specs.Names.{registered_users}
 use Rattle.review_table.specs.Rows.{after_row_edit, row_edit_of}
 use Rattle.review_words.specs.History.{Entry, is_branch, entry_of, base_count, is_account, is_project, project_count, least_open}
-use Rattle.review_words.specs.declared.changes.{Given.Given, NewChange.NewChange, NewPatch.NewPatch}
-use Rattle.review_words.specs.declared.{changes.Review.Review as ReviewOf, command.ChangeCommand.ChangeCommand}
+use Rattle.review_words.specs.declared.changes.Review.{Review as ReviewOf}
 use Rattle.review_words.specs.declared.command.ChangeCommand.TheVariants.{Review as ReviewCommand, Upload as UploadCommand}
 use Rattle.review_words.specs.declared.command.Command.TheVariants.{CreateChange, OnChange}
 use Rattle.review_words.specs.declared.reply.NotTaken.{NotTaken as Cause, TheVariants.Damaged, TheVariants.Memory}
-use Rattle.review_words.specs.declared.reply.Refusal.{Refusal}
 use Rattle.review_words.specs.declared.reply.Refusal.TheVariants.{UnknownCaller, NoProject, NoBranch, NotAllowed, CommitKnown, UnknownParent, Limit, NoChange}
-use Rattle.review_words.specs.declared.reply.Reply.TheVariants.{Done}
 use Rattle.review_file_rules.specs.{Rights.groups_of as right_groups, declared.parts.Right.Right}
-use Rattle.review_core_rules.specs.{Change.Change, Change.begun, Parts.Part, Parts.part_row, Sound.IsSound}
 use Rattle.review_machine_rows.proofs.Asked.{found_of, file_asked, line_asked, change_asked}
+use Rattle.review_machine_rows.proofs.Common.{Change, ChangeCommand, ChangeEdit, Delta, Done, File, Given, IsSound, IsUndecided, NewChange, NewPatch, Part, Refusal, Rows, StoredFile, begun, has_account, most_changes, nat_tests, part_row}
 use Rattle.review_machine_rows.proofs.Lined.{texts_told, there_is}
 use Rattle.review_machine_rows.proofs.Puts.{no_base, no_base_more, no_file, no_project}
 use Rattle.review_machine_rows.specs.Answer.{has_right, first_refusal, refused_by, IsHistory, of_change, request_checks}
 use Rattle.review_machine_rows.specs.Changes.{Reading, Reads, change, change_count, file_of, groups_of, texts_of, is_known, own_of}
-use Rattle.review_machine_rows.specs.{Decisions.IsUndecided, Files.File}
 use Rattle.review_machine_rows.specs.Known.{known, IsKnown, change_in, number_of, part_of}
 use Rattle.review_machine_rows.specs.Lines.{line_of, with_above, most_depth}
 use Rattle.review_machine_rows.specs.Rows.{Key, AccountKey, MemberKey, FileKey, BaseKey, PartKey, OddKey, APart, Count, Projects, BasesOf, ClosedEpochs, account_change, member_change, edited, after, count_after, part_change, member_cmp}
 use Rattle.review_machine_rows.specs.Steps.{HasFile, caller_in, OfCommand, command_wants, file_wants, given_wants, has_some, line_steps, needs_file, known_parent, project_for, request_wants, texts_in, unknown, wants_by}
 use Rattle.review_machine_rows.specs.View.{view, AreEnough, IsDecided, counted, fact}
-use Rattle.review_machine_rows.specs.declared.rows.{ChangeEdit.ChangeEdit, Delta.Delta, Rows.Rows}
-use Rattle.review_machine_rows.specs.declared.rows.StoredFile.{StoredFile}
 use Rattle.review_machine_laws.proofs.Changes.{last_change_is, all_pass, change_there, is_up_to}
 use Rattle.review_machine_laws.proofs.{Grouped.in_group, Histories.OneEffective, Histories.same_file, Rows.rows_tell}
 use Rattle.review_machine_laws.proofs.SoundProjects.{has_project}
@@ -42,10 +35,6 @@ use Rattle.review_words.specs.declared.reply.Answer.TheVariants as made
 use Rattle.review_file_rules.specs.declared.parts.Right.TheVariants as right
 
 -- ==== what rows that agree with a history tell of its changes
-
--- the files that a text spells have the same trees
-abbrev pub OneFile : Type 0
-OneFile = OneEffective
 
 -- a change
 pub change_told : (reading : Reading) (h : List Entry) (rows : Rows) (n : ℕ) → Agree reading h rows → IsKnown rows (want.Change n) → change_in (known rows (want.Change n)) ≡ change reading h n
@@ -72,12 +61,12 @@ each_group reading h rows account (g ∷ gs) agree all =
     λ i. ((ap (λ b. bytes_eq g registered_users || b) (member_told reading h rows g account agree all.0)) ∙ sym (in_group h g account)) i || each_group reading h rows account gs agree all.1 i
 
 -- the file that was read has the groups of the one that is read right
-same_groups : OneFile → (reading : Reading) (h : List Entry) (project : List ℕ) (file : File) (right : Right) → Reads reading h → HasFile (texts_of h project) (Some file) →
+same_groups : OneEffective → (reading : Reading) (h : List Entry) (project : List ℕ) (file : File) (right : Right) → Reads reading h → HasFile (texts_of h project) (Some file) →
     right_groups right file.access ≡ right_groups right (file_of reading h project).access
 same_groups one reading h project file right reads has = ap (λ t. right_groups right t.access) (same_file one reading h project file reads has)
 
 -- whether an account has a right
-pub right_told : OneFile → (reading : Reading) (h : List Entry) (rows : Rows) (project : List ℕ) (file : File) (right : Right) (account : ℕ) → Reads reading h → Agree reading h rows →
+pub right_told : OneEffective → (reading : Reading) (h : List Entry) (rows : Rows) (project : List ℕ) (file : File) (right : Right) (account : ℕ) → Reads reading h → Agree reading h rows →
     HasFile (texts_of h project) (Some file) → AllByRecursion (IsKnown rows) (caller_in account (right_groups right file.access)) → right_in rows file right account ≡ has_right reading h project right account
 right_told one reading h rows project file right account reads agree has all =
     each_group reading h rows account (right_groups right file.access) agree all
@@ -124,7 +113,7 @@ some_project h project f has = texts_there h project ∙ by (texts_of h project)
     by [] has = absurd (let none : Some f ≡ None = has in cc)
     by (t ∷ ts) has = refl
 
-refused_at : OneFile → (reading : Reading) (h : List Entry) (caller : ℕ) (new : NewChange) (effective o : Option File) (rows : Rows) → is_account h caller ≡ true → AreEnough reading h caller (OfCommand (CreateChange new)) effective rows →
+refused_at : OneEffective → (reading : Reading) (h : List Entry) (caller : ℕ) (new : NewChange) (effective o : Option File) (rows : Rows) → is_account h caller ≡ true → AreEnough reading h caller (OfCommand (CreateChange new)) effective rows →
     HasFile (texts_of h new.project) o → AllByRecursion (IsKnown rows) (command_wants (CreateChange new)) → AllByRecursion (IsKnown rows) (file_wants o caller (OfCommand (CreateChange new))) →
     refused_by reading h caller (CreateChange new) ≡ first_refusal (create_checks o rows caller new)
 refused_at one reading h caller new effective None rows account l has all asked =
@@ -142,7 +131,7 @@ refused_at one reading h caller new effective (Some f) rows account l has all as
     (sym (ap (λ n. nat_lt n most_changes) (last_change_told reading h rows l.agree all.1.0)))
 
 -- what refuses a new change is what rows tell
-pub refused_told : OneFile → (reading : Reading) (h : List Entry) (caller : ℕ) (new : NewChange) (effective : Option File) (rows : Rows) → is_account h caller ≡ true → AreEnough reading h caller (OfCommand (CreateChange new)) effective rows →
+pub refused_told : OneEffective → (reading : Reading) (h : List Entry) (caller : ℕ) (new : NewChange) (effective : Option File) (rows : Rows) → is_account h caller ≡ true → AreEnough reading h caller (OfCommand (CreateChange new)) effective rows →
     refused_by reading h caller (CreateChange new) ≡ first_refusal (create_checks effective rows caller new)
 refused_told one reading h caller new effective rows account l =
     let all = asked_beside h caller (CreateChange new) rows l in

@@ -1,29 +1,25 @@
 -- How many votes a change of a history has: they are counted, accounts gave them, and there is a most.
 use Rattle.std.proofs.Common.{◌≡◌, ℕ, ◌+◌, ◌==◌, ◌≤◌, List, [], ◌∷◌, length, Bool, true, false, cond, ◌&&◌, ◌||◌, refl, sym, ap, ◌∙◌, ⊎_elim, arith, eqb-true, eq-eqb, bytes_eq, ℤ, pos, Option, Some, None, subst, leb-true, le-leb, nat_le, option_map, zero, suc, ◌*◌, ◌<◌, ◌++◌, not, Less, Equal, Greater, nat_cmp, length-append, ltb-true, ltb-false, int_eq, is_some, nat_lt, find, filter, fold, codes}
-use Rattle.std.proofs.lemmas.{Bool.and_parts, Bool.and_from, Bool.cases_Bool, Bool.cases_lt, List.length-map}
-use Rattle.std.{proofs.lemmas.Slice.Eq.bytes_eq-Decides, specs.Cmp.Lexicographic.slice_cmp}
-use Rattle.std.specs.{List.list_any, Option.option_map_or, Ordering.match_ordering, declared.cmp.Ordering.Ordering}
-use Rattle.{toml.specs.Data.Data, toml.specs.Data.table, review_names.specs.Forms.is_label}
+use Rattle.std.proofs.lemmas.Bool.{or_parts, or_left, or_right, and_parts, and_from, cases_Bool, cases_lt}
+use Rattle.std.{proofs.lemmas.List.length-map, proofs.lemmas.Slice.Eq.bytes_eq-Decides, specs.Ordering.match_ordering}
+use Rattle.toml.specs.Data.{Data, table}
 use Rattle.review_file_document.specs.{Document.members_at, Limits.most_parts}
 use Rattle.review_words.specs.History.{Entry, accepted, if_done, account_count, counted, is_account}
-use Rattle.review_words.specs.declared.changes.{Given.Given, NewPatch.NewPatch, Review.Review as ReviewOf}
-use Rattle.review_words.specs.declared.command.{ChangeCommand.ChangeCommand, Command.Command}
+use Rattle.review_words.specs.declared.changes.Review.{Review as ReviewOf}
 use Rattle.review_words.specs.declared.command.Command.TheVariants.{CreateAccount, CreateChange, OnChange}
-use Rattle.review_words.specs.declared.reply.{Answer.Answer, Refusal.TheVariants.UnknownCaller, Reply.Reply}
-use Rattle.{review_words.specs.declared.reply.Reply.TheVariants.Done, review_expr.specs.declared.expr.Expr.Expr}
 use Rattle.review_file_rules.specs.Expressions.{EachTo, IsLabel}
 use Rattle.review_file_rules.specs.Inherited.{inherited_labels, put_by}
 use Rattle.review_file_rules.specs.{Spelled.label_in, Spelled.named, Spelled.spelled, View.FileView, View.LabelView}
+use Rattle.review_core_rules.proofs.Stays.{removed_on}
 use Rattle.review_core_rules.specs.Change.{Change, Copying, Setting, after, begun, carried, copying, current, given_or, reviewed, is_lost}
 use Rattle.review_core_rules.specs.Counts.{AreApart, AreMany, has_vote}
-use Rattle.review_core_rules.specs.{Votes.voted, declared.rows.VoteKey.VoteKey}
+use Rattle.review_machine_rows.proofs.Common.{Answer, ChangeCommand, Command, Done, Expr, Given, IsRead, NewPatch, Ordering, Reply, StoredFile, UnknownCaller, VoteKey, is_label, list_any, option_map_or, slice_cmp, voted}
 use Rattle.review_machine_rows.proofs.Readings.{IsDoneBy, done_of}
 use Rattle.review_machine_rows.specs.Answer.{IsAnswerBy, IsHistory, checks, IsUploadAnswer, is_value_of}
 use Rattle.review_machine_rows.specs.Changes.{Reading, Reads, change, change_by, change_count, setting_of, submitted, effective_of, file_of, own_of, texts_of}
-use Rattle.review_machine_rows.specs.{Files.IsRead, Lines.line_of, Lines.most_depth, Lines.with_above}
-use Rattle.review_machine_rows.specs.declared.rows.StoredFile.{StoredFile}
+use Rattle.review_machine_rows.specs.Lines.{line_of, most_depth, with_above}
 use Rattle.review_machine_laws.proofs.Changes.{joining_keeps, all_pass, done_passes}
-use Rattle.review_machine_laws.proofs.{Histories.line_read, SoundProjects.votes_stand}
+use Rattle.review_machine_laws.proofs.{Histories.line_read, Rows.made_holds, SoundProjects.votes_stand}
 use Rattle.review_machine_deliveries.proofs.Files.{AreReadRight, spelled_once}
 use Rattle.review_words.specs.declared.command.ChangeCommand.TheVariants as on
 
@@ -40,8 +36,7 @@ without u l (k ∷ ks) = cond (is_vote k u l) ks (k ∷ without u l ks)
 
 without_long : (u : ℕ) (l : List ℕ) (ks : List VoteKey) → has_vote ks u l ≡ true → length (without u l ks) + 1 ≡ length ks
 without_long u l [] there = absurd (cc)
-without_long u l (k ∷ ks) there =
-    ⊎_elim
+without_long u l (k ∷ ks) there = ⊎_elim
     (λ (t : is_vote k u l ≡ true).
     let now : length (without u l (k ∷ ks)) ≡ length ks = ap (λ b. length (cond b ks (k ∷ without u l ks))) t in omega arith)
     (λ (f : is_vote k u l ≡ false).
@@ -50,10 +45,6 @@ without_long u l (k ∷ ks) there =
     let now : length (without u l (k ∷ ks)) ≡ length (k ∷ without u l ks) = ap (λ b. length (cond b ks (k ∷ without u l ks))) f in
     omega arith)
     (cases_Bool (is_vote k u l))
-
-or_or : (b c : Bool) → c ≡ true → (b || c) ≡ true
-or_or true c t = refl
-or_or false c t = t
 
 -- two votes of one key
 same_vote : (k : VoteKey) (u v : ℕ) (l m : List ℕ) → is_vote k u l ≡ true → is_vote k v m ≡ true → (u ≡ v) × (l ≡ m)
@@ -65,8 +56,7 @@ same_vote k u v l m one other =
 -- another vote stays
 without_other : (u v : ℕ) (l m : List ℕ) (ks : List VoteKey) → ((u ≡ v) × (l ≡ m) → ⊥) → has_vote ks v m ≡ true → has_vote (without u l ks) v m ≡ true
 without_other u v l m [] other there = there
-without_other u v l m (k ∷ ks) other there =
-    ⊎_elim
+without_other u v l m (k ∷ ks) other there = ⊎_elim
     (λ (t : is_vote k u l ≡ true).
     let not_here : is_vote k v m ≡ false =
     ⊎_elim (λ (s : is_vote k v m ≡ true). absurd (other (same_vote k u v l m t s))) (λ (f : is_vote k v m ≡ false). f) (cases_Bool (is_vote k v m)) in
@@ -76,7 +66,7 @@ without_other u v l m (k ∷ ks) other there =
     ∙ ⊎_elim
     (λ (s : is_vote k v m ≡ true). ap (λ b. b || has_vote (without u l ks) v m) s)
     (λ (n : is_vote k v m ≡ false).
-    or_or (is_vote k v m) (has_vote (without u l ks) v m) (without_other u v l m ks other (sym (ap (λ b. b || has_vote ks v m) n) ∙ there)))
+    or_right (is_vote k v m) (has_vote (without u l ks) v m) (without_other u v l m ks other (sym (ap (λ b. b || has_vote ks v m) n) ∙ there)))
     (cases_Bool (is_vote k v m)))
     (cases_Bool (is_vote k u l))
 
@@ -91,7 +81,7 @@ no_more (k ∷ ks) js apart within =
     let rest = no_more ks (without k.account k.label js) apart.1 (λ u l there.
     without_other k.account u k.label l js (λ same.
     let bad : true ≡ false = sym there ∙ ((λ i. has_vote ks (sym same.0 i) (sym same.1 i)) ∙ apart.0) in absurd (cc))
-    (within u l (or_or (is_vote k u l) (has_vote ks u l) there))) in
+    (within u l (or_right (is_vote k u l) (has_vote ks u l) there))) in
     let long = without_long k.account k.label js here in
     omega arith
 
@@ -149,16 +139,11 @@ was_reviewed : (h : List Entry) (s : Setting) (caller request : ℕ) (r : Review
 was_reviewed h s caller request r c account has n l u is =
     review_voter (reviewed r c == n) (caller == u) (given_or r.labels l (c.vote n l u)) (c.vote n l u) (λ same. subst (λ x. is_account h x ≡ true) (eqb-true caller u same) account) (has n l u) is
 
--- a vote that wasn't taken away was there before
-left_vote : (b : Bool) (v : ℤ) → voted (cond b (pos 0) v) ≡ true → voted v ≡ true
-left_vote true v is = absurd (cc)
-left_vote false v is = is
-
 -- after a request of an account on a change accounts voted on it: but for an Upload and a Review each vote was there before
 voters_after : (h : List Entry) (s : Setting) (caller request : ℕ) (command : ChangeCommand) (c : Change) → is_account h caller ≡ true → HasVoters h c → HasVoters h (after s command caller request c)
 voters_after h s caller request (on.Upload patch) c account has n l u is = uploaded h s patch caller request c has n l u is
 voters_after h s caller request (on.Review review) c account has n l u is = was_reviewed h s caller request review c account has n l u is
-voters_after h s caller request (on.RemoveReviewer v) c account has n l u is = has n l u (left_vote ((current c == n) && (v == u)) (c.vote n l u) is)
+voters_after h s caller request (on.RemoveReviewer v) c account has n l u is = has n l u (removed_on ((current c == n) && (v == u)) (c.vote n l u) is)
 voters_after h s caller request _ c account has n l u is = has n l u is
 
 -- what becomes of a change that a request names, or that is made
@@ -167,14 +152,10 @@ by_choice Is true None f c before then is = absurd (cc)
 by_choice Is true (Some x) f c before then is = let same : f x ≡ c = cc in subst Is same (then x (before x refl))
 by_choice Is false o f c before then is = before c is
 
-by_making : (Is : Change → Type 0) (b : Bool) (o : Option Change) (new c : Change) → ((x : Change) → o ≡ Some x → Is x) → Is new → cond b (Some new) o ≡ Some c → Is c
-by_making Is true o new c before begins is = let same : new ≡ c = cc in subst Is same begins
-by_making Is false o new c before begins is = before c is
-
 voters_done : (reading : Reading) (h : List Entry) (caller n : ℕ) (c : Change) (command : Command) (a : Answer) → IsAnswerBy reading h caller command (Done a) →
     ((x : Change) → change reading h n ≡ Some x → HasVoters h x) → change_by reading h caller (Some command) n (change reading h n) ≡ Some c → HasVoters h c
 voters_done reading h caller n c (CreateChange new) a answer before is =
-    by_making (HasVoters h) (change_count h + 1 == n) (change reading h n) (begun new caller (length h + 1)) c before (λ m l u none. absurd (cc)) is
+    made_holds (HasVoters h) (change_count h + 1 == n) (change reading h n) (begun new caller (length h + 1)) c before (λ m l u none. absurd (cc)) is
 voters_done reading h caller n c (OnChange m command) a answer before is =
     let account = (all_pass ((is_account h caller, UnknownCaller) ∷ checks reading h caller (OnChange m command)) (done_passes reading h caller (OnChange m command) a answer)).0 in
     by_choice (HasVoters h) (m == n) (change reading h n) (λ x. after (setting_of reading h x.project) command caller (length h + 1) x) c before
@@ -228,18 +209,9 @@ in_both (k ∷ ks) js u l = ap (λ b. (bytes_eq k.label l && (k.account == u)) |
     or_assoc true b c = refl
     or_assoc false b c = refl
 
-or_left : (a b : Bool) → a ≡ true → (a || b) ≡ true
-or_left true b is = refl
-or_left false b is = absurd (cc)
-
-or_right : (a b : Bool) → b ≡ true → (a || b) ≡ true
-or_right true b is = refl
-or_right false b is = is
-
 votes_on_there : (m l : List ℕ) (n u : ℕ) → bytes_eq m l ≡ true → 1 ≤ u → u ≤ n → has_vote (votes_on m n) u l ≡ true
 votes_on_there m l zero u same low high = absurd (omega arith)
-votes_on_there m l (suc n) u same low high =
-    ⊎_elim
+votes_on_there m l (suc n) u same low high = ⊎_elim
     (λ (t : (suc n == u) ≡ true). or_left (bytes_eq m l && (suc n == u)) (has_vote (votes_on m n) u l) (and_from (bytes_eq m l) (suc n == u) same t))
     (λ (f : (suc n == u) ≡ false).
     let other : (suc n ≡ u) → ⊥ = λ e. let t = eq-eqb (suc n) u e in absurd (cc) in
@@ -282,20 +254,15 @@ same_long R (x ∷ xs) (y ∷ ys) each = ap suc (same_long R xs ys each.1)
 filter_long : {X : Type 0} (p : X → Bool) (xs : List X) → length (filter p xs) ≤ length xs
 filter_long p [] = omega arith
 filter_long p (x ∷ xs) =
-    let rest = filter_long p xs in
-    ⊎_elim
+    let rest = filter_long p xs in ⊎_elim
     (λ (t : p x ≡ true). let e : length (filter p (x ∷ xs)) ≡ length (x ∷ filter p xs) = ap (λ b. length (cond b (x ∷ filter p xs) (filter p xs))) t in omega arith)
     (λ (f : p x ≡ false). let e : length (filter p (x ∷ xs)) ≡ length (filter p xs) = ap (λ b. length (cond b (x ∷ filter p xs) (filter p xs))) f in omega arith)
     (cases_Bool (p x))
 
-first_false : (a b : Bool) → (a || b) ≡ false → a ≡ false
-first_false true b is = absurd (cc)
-first_false false b is = refl
-
 labels_bound : (text : List ℕ) (f : FileView Expr) → IsRead text f → length f.labels ≤ 64
 labels_bound text f (short, (ms, parsed, good)) =
     let members = members_at (codes "label") (table ms) in
-    let within : nat_lt most_parts (length members) ≡ false = first_false (nat_lt most_parts (length members)) _ good.2 in
+    let within : nat_lt most_parts (length members) ≡ false = (or_parts (nat_lt most_parts (length members)) _ good.2).0 in
     let few : length members ≤ 64 = ltb-false most_parts (length members) within in
     let spelled_long : length (spelled (table ms)).labels ≡ length (named members) = length-map (named members) label_in in
     let named_long = filter_long (λ (m : List ℕ × Data). is_label m.0) members in

@@ -1,27 +1,23 @@
 -- What was decided of a command.
 use Rattle.std.proofs.Common.{◌≡◌, ◌⊎◌, inl, inr, ℕ, List, [], ◌∷◌, Option, Some, None, true, false, cond, refl, sym, ap, ◌∙◌, subst, is_some, ◌≤◌, ◌<◌, ◌+◌, length, arith, Result, Ok, Err, IfOk, IfErr, nat_lt}
-use Rattle.std.specs.{List.AllByRecursion, Option.option_map_or}
-use Rattle.review_words.specs.{History.Entry, History.is_project, History.IsFirst, History.if_done, Texts.IsStored}
-use Rattle.review_words.specs.declared.command.Command.{Command, TheVariants.PutProject, TheVariants.CloseEpoch}
-use Rattle.review_words.specs.declared.{command.Delivery.TheVariants.Write, reply.NotTaken.NotTaken as Cause}
+use Rattle.review_words.specs.History.{Entry, is_project, IsFirst, if_done}
+use Rattle.review_words.specs.declared.reply.NotTaken.{NotTaken as Cause}
 use Rattle.review_words.specs.declared.reply.NotTaken.TheVariants.{Memory, Store, Damaged, Pattern, Full}
-use Rattle.review_words.specs.declared.reply.Reply.{Reply, TheVariants.Done, TheVariants.NotTaken}
-use Rattle.review_file_rules.specs.Reading.{named_parent}
 use Rattle.review_machine_rows.proofs.Asked.{all_asked, line_asked, least_epoch_is, requests_are}
-use Rattle.review_machine_rows.proofs.{Lined.line_told, Lined.own_told, Lined.there_is, Readings.reading_of}
-use Rattle.review_machine_rows.specs.Answer.{IsHistory, most_requests}
+use Rattle.review_machine_rows.proofs.Common.{AllByRecursion, AreEnough, CloseEpoch, Command, Done, File, IsHistory, IsStored, NotTaken, PutProject, Reply, Rows, StoredFile, Write, most_requests, named_parent, option_map_or}
+use Rattle.review_machine_rows.proofs.Lined.{line_told, own_told, there_is}
+use Rattle.review_machine_rows.proofs.Readings.{history_length, reading_of}
 use Rattle.review_machine_rows.specs.Changes.{Reading, own_of, texts_of}
 use Rattle.review_machine_rows.specs.Decisions.{HasPatternIn, PutsPattern, ReadsPattern, SomePattern, putting_project}
-use Rattle.review_machine_rows.specs.{Files.File, Known.Agrees, Known.known, Known.number_of}
+use Rattle.review_machine_rows.specs.Known.{Agrees, known, number_of}
 use Rattle.review_machine_rows.specs.Lines.{line_of, most_depth, with_above}
 use Rattle.review_machine_rows.specs.Rows.{ClosedEpochs, Tables, is_above, new_least}
 use Rattle.review_machine_rows.specs.Shelf.{AddsNoStop, Answers, LeavesBy, Shown, Shows, Views}
 use Rattle.review_machine_rows.specs.Steps.{OfCommand, line_steps, own_in, parent_or, texts_above, texts_in, unknown, next}
-use Rattle.review_machine_rows.specs.View.{AreEnough}
-use Rattle.review_machine_rows.specs.declared.rows.{Rows.Rows, StoredFile.StoredFile, Want.TheVariants.LeastEpoch}
+use Rattle.review_machine_rows.specs.declared.rows.Want.TheVariants.{LeastEpoch}
 use Rattle.review_machine_laws.proofs.{Growing.line_whole, Histories.sound_files, Histories.parent_ends}
 use Rattle.{review_machine_laws.specs.Ends.ends, review_machine_deliveries.proofs.Files.spelled_once}
-use Rattle.review_machine_deliveries.proofs.Histories.{enough_shown, history_length, requests_told, rests_on}
+use Rattle.review_machine_deliveries.proofs.Histories.{enough_shown, requests_told, rests_on}
 use Rattle.review_machine_deliveries.proofs.Served.{not_taken_served, views_left_by}
 use Rattle.review_machine_deliveries.specs.Gathered.{CountsCause, IsAllAsked, IsUngathered, LeavesTables}
 use Rattle.review_machine_deliveries.specs.Replies.{CountsReply, IsLawful, IsServed, KeepsUntaken}
@@ -40,8 +36,7 @@ module _ (reading : Reading) (h : List Entry) (history : IsHistory h) (caller : 
   own_line : (f : StoredFile) → own_of h project ≡ Some f → (p : Option (List ℕ)) → f.parent ≡ p → HasPatternIn h p → SomePattern (texts_of h project)
   own_line f has None named some = absurd some
   own_line f has (Some q) named some =
-      let sound = sound_files spelled_once reading h history enough.reads in
-      let low : ends (own_of h) 7 q ≡ true = parent_ends reading (own_of h) sound project f has q named in
+      let low : ends (own_of h) 7 q ≡ true = parent_ends reading (own_of h) (sound_files spelled_once reading h history enough.reads) project f has q named in
       let whole : texts_of h project ≡ f.text ∷ line_of (own_of h) 7 q =
       ap (λ o. with_above o (line_of (own_of h) 7)) has ∙ ap (λ o. f.text ∷ option_map_or (line_of (own_of h) 7) o []) named in
       subst SomePattern (sym whole) (inr (subst SomePattern (line_whole (own_of h) 7 q low) some))

@@ -1,23 +1,19 @@
 -- Effective files, as they are gathered row by row.
 use Rattle.std.proofs.Common.{◌≡◌, inl, inr, ℕ, ◌<◌, List, [], ◌∷◌, Option, Some, None, true, refl, sym, ap, ◌∙◌, subst, All, is_some, ◌++◌, zero, suc, Bool, false, cond, Result, Ok, Err, option_and_then, option_map, IfErr, IsErr, IsErrAnd}
-use Rattle.std.specs.{List.AllByRecursion, Option.option_or, Option.option_map_or}
-use Rattle.review_words.specs.{History.Entry, History.is_project, declared.command.Command.Command}
 use Rattle.review_words.specs.declared.command.Command.TheVariants.{CreateAccount, PutGroup, PutProject, RecordBase, CloseEpoch, CreateChange, OnChange, Submit}
 use Rattle.review_words.specs.declared.reply.NotTaken.{NotTaken as Cause}
 use Rattle.review_words.specs.declared.reply.NotTaken.TheVariants.{Memory, Store, Damaged, Pattern, Full}
-use Rattle.review_file_rules.specs.{Inherited.IsEffective, Reading.named_parent}
-use Rattle.review_core_rules.specs.Change.{Change}
-use Rattle.review_machine_rows.proofs.Asked.{all_made, asking_lowers, asks_first, each_known, line_asked}
-use Rattle.review_machine_rows.proofs.{Lined.own_told, Lined.texts_told, Lined.there_is, Readings.reading_of}
+use Rattle.review_machine_rows.proofs.Asked.{or_stays, none_in, all_made, asking_lowers, asks_first, each_known, line_asked}
+use Rattle.review_machine_rows.proofs.Common.{APart, AllByRecursion, Change, Command, Entry, File, IsEffective, Rows, ShelfFault, StoredFile, Tables, Want, is_project, named_parent, option_map_or, option_or, view}
+use Rattle.review_machine_rows.proofs.Lined.{fewer, own_told, texts_told, there_is}
+use Rattle.review_machine_rows.proofs.Readings.{reading_of}
 use Rattle.review_machine_rows.specs.Changes.{Reading, change, effective_of, texts_of}
 use Rattle.review_machine_rows.specs.Decisions.{HasPatternIn, IsUnread, SomePattern, judging_project, topic_project}
-use Rattle.review_machine_rows.specs.Files.{File}
 use Rattle.review_machine_rows.specs.Known.{Found, IsFound, known, IsKnown, Agrees, AreAdded, AChange, part_of, change_in, file_in}
-use Rattle.review_machine_rows.specs.{Lines.most_depth, Lines.line_of, Lines.with_above, Rows.Tables, Rows.APart}
+use Rattle.review_machine_rows.specs.Lines.{most_depth, line_of, with_above}
 use Rattle.review_machine_rows.specs.Shelf.{Shows, LeavesBy, cause_of, IsDamaged}
 use Rattle.review_machine_rows.specs.Steps.{HasComeTo, Topic, change_wants, file_wants, first_wants, left, line_steps, next, next_of, or_next, parent_of, unknown, unless_none, wants_in, OfCommand, OfQuery, HasFile, asks_file, line_wants, needs_file, own_in, known_parent, parent_or, project_for, project_of, texts_for, texts_in}
-use Rattle.review_machine_rows.specs.{View.view, declared.rows.Need.Need, declared.rows.Rows.Rows}
-use Rattle.review_machine_rows.specs.declared.{rows.StoredFile.StoredFile, rows.Want.Want, shelf.ShelfFault.ShelfFault}
+use Rattle.review_machine_rows.specs.declared.rows.Need.{Need}
 use Rattle.review_machine_laws.proofs.{Histories.effective_is, Histories.line_read, Rows.rows_tell}
 use Rattle.review_machine_deliveries.proofs.{Files.AreReadRight, Histories.view_of}
 use Rattle.review_machine_deliveries.specs.Gathered.{IsSoFar, StaysKnown, IsJudgedByPattern, IsUngathered}
@@ -69,28 +65,18 @@ pub so_far_shown : (tables : Option Tables) (file : Option File) (rows : Rows) (
 so_far_shown tables file rows caller topic (inl nothing) left = absurd (asks_first file rows caller topic nothing left)
 so_far_shown tables file rows caller topic (inr agree) left = agree
 
-or_stays : {X : Type 0} (a b : Option X) → is_some a ≡ true → option_or a b ≡ a
-or_stays None b there = absurd (cc)
-or_stays (Some x) b there = refl
-
 -- what the first rows know stays
 pub stays_added : (first rows more both : Rows) → StaysKnown first rows → AreAdded rows more both → StaysKnown first both
-stays_added first rows more both stays added w there =
-    added w ∙ or_stays (known rows w) (known more w) (ap is_some (stays w there) ∙ there) ∙ stays w there
+stays_added first rows more both stays added w there = added w ∙ or_stays (known rows w) (known more w) (ap is_some (stays w there) ∙ there) ∙ stays w there
 
 -- a fault leaves or blames the tables that stood before
 pub left_before : (f : ShelfFault) (old mid new : Option Tables) → mid ≡ old → LeavesBy (cause_of f) mid new → LeavesBy (cause_of f) old new
 left_before f old mid new same leaves = subst (λ (t : Option Tables). LeavesBy (cause_of f) t new) same leaves
 
--- nothing is left of two lists where the first that has something has nothing
-none_of : (a b : List Want) → or_next a b ≡ [] → (a ≡ []) × (b ≡ [])
-none_of [] b none = (refl, none)
-none_of (w ∷ ws) b none = absurd (cc)
-
 front_made : (rows : Rows) (xs ys : List (List Want)) → next_of rows (xs ++ ys) ≡ [] → next_of rows xs ≡ []
 front_made rows [] ys none = refl
 front_made rows (x ∷ xs) ys none =
-    let p = none_of (unknown rows x) (next_of rows (xs ++ ys)) none in
+    let p = none_in (unknown rows x) (next_of rows (xs ++ ys)) none in
     ap (λ l. or_next l (next_of rows xs)) p.0 ∙ front_made rows xs ys p.1
 
 -- where nothing is left to ask without the file, asking has come to what is asked by a file
@@ -98,9 +84,8 @@ pub come_to_file : (file : Option File) (rows : Rows) (caller : ℕ) (topic : To
 come_to_file file rows caller topic none =
     let line = line_steps rows most_depth (parent_of rows topic) in
     let last = file_wants None caller topic ∷ [] in
-    let made = (all_made None rows caller topic none).0 in
-    let p = none_of (unknown rows (first_wants caller topic)) (next_of rows (change_wants rows topic ∷ (line ++ last))) made in
-    let q = none_of (unknown rows (change_wants rows topic)) (next_of rows (line ++ last)) p.1 in
+    let p = none_in (unknown rows (first_wants caller topic)) (next_of rows (change_wants rows topic ∷ (line ++ last))) ((all_made None rows caller topic none).0) in
+    let q = none_in (unknown rows (change_wants rows topic)) (next_of rows (line ++ last)) p.1 in
     (p.0, q.0, front_made rows line last q.1)
 
 -- ==== the effective file by which a command is judged or a question answered, as it is gathered
@@ -239,11 +224,6 @@ project_stays first rows (OfCommand (OnChange n command)) project stays is = cha
 project_stays first rows (OfCommand (Submit n)) project stays is = change_stays true first rows n project stays is
 project_stays first rows _ project stays is = absurd (cc)
 
--- fewer steps ask for less
-fewer : (rows : Rows) (n : ℕ) (p : Option (List ℕ)) → AllByRecursion (λ s. unknown rows s ≡ []) (line_steps rows (suc n) p) → AllByRecursion (λ s. unknown rows s ≡ []) (line_steps rows n p)
-fewer rows zero p all = tt
-fewer rows (suc n) p all = (all.0, fewer rows n (option_and_then (known_parent rows) p) all.1)
-
 module _ (first rows : Rows) (stays : StaysKnown first rows) where
   -- a line that was asked for is the same in more rows
   line_stays : (n : ℕ) (p : Option (List ℕ)) → AllByRecursion (λ s. unknown first s ≡ []) (line_steps first n p) → option_map_or (line_of (own_in rows) n) p [] ≡ option_map_or (line_of (own_in first) n) p []
@@ -285,8 +265,7 @@ module _ (first rows : Rows) (stays : StaysKnown first rows) where
 judged : (t : Tables) (rows : Rows) (caller : ℕ) (topic : Topic) (text : List ℕ) (above : List (List ℕ)) → Agrees t rows → next None rows caller topic ≡ [] → texts_for rows topic ≡ text ∷ above →
     SomePattern (text ∷ above) → IsJudgedByPattern topic t
 judged t rows caller topic text above agree left are has = λ reading h reads v.
-    let there = subst (λ (u : Tables). Agrees u rows) (view_of reading h t (v reading reads)) agree in
-    let of = are_of reading h rows caller topic text above there left are in
+    let of = are_of reading h rows caller topic text above (subst (λ (u : Tables). Agrees u rows) (view_of reading h t (v reading reads)) agree) left are in
     subst (HasPatternIn h) (sym of.judges) (subst SomePattern (sym of.texts_are) has)
 
 -- tables with texts for which no file is effective are those of no history
@@ -294,8 +273,7 @@ damaged : (t : Tables) (rows : Rows) (caller : ℕ) (topic : Topic) (text : List
     ((f : File) → IsEffective (text ∷ above) f → ⊥) → IsDamaged t
 damaged t rows caller topic text above agree left are unread = λ h history v.
     let r = reading_of h history in
-    let there = subst (λ (u : Tables). Agrees u rows) (view_of r.0 h t (v r.0 r.1)) agree in
-    let of = are_of r.0 h rows caller topic text above there left are in
+    let of = are_of r.0 h rows caller topic text above (subst (λ (u : Tables). Agrees u rows) (view_of r.0 h t (v r.0 r.1)) agree) left are in
     let right : AreReadRight r.0 (text ∷ above) = subst (AreReadRight r.0) of.texts_are (line_read r.0 h r.1 most_depth of.project) in
     unread (effective_of r.0 (text ∷ above)) (effective_is r.0 text above right)
 

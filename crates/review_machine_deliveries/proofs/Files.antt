@@ -1,14 +1,13 @@
 -- Texts and the files that they spell.
 use Rattle.std.proofs.Common.{◌≡◌, ℕ, List, [], ◌∷◌, ◌++◌, Bool, true, false, cond, Less, Equal, Greater, nat_cmp, filter, refl, ap, ◌∙◌, fold, map}
-use Rattle.std.specs.{Cmp.Lexicographic.slice_cmp, List.AllByRecursion, Ordering.match_ordering}
-use Rattle.{std.specs.declared.cmp.Ordering.Ordering, toml.specs.Data.Data, review_names.specs.Forms.is_label}
+use Rattle.toml.specs.Data.{Data}
 use Rattle.review_expr_spelling.specs.Words.{copy_reading, requirement_reading}
-use Rattle.review_expr.{proofs.Excluded.one_tree, specs.declared.expr.Expr.Expr}
+use Rattle.review_expr.proofs.Excluded.{one_tree}
 use Rattle.review_file_rules.proofs.Trees.{one_file, OneFile}
 use Rattle.review_file_rules.specs.Expressions.{EachTo, IsRequirement}
 use Rattle.review_file_rules.specs.{Inherited.counts, Inherited.inherit, Inherited.put_by, Reading.IsRead}
 use Rattle.review_file_rules.specs.{Spelled.named, Spelled.requirement_in, View.FileView, View.RequirementView}
-use Rattle.review_machine_rows.specs.Changes.{Reading, effective_of}
+use Rattle.review_machine_rows.proofs.Common.{AllByRecursion, Expr, Ordering, Reading, effective_of, is_label, match_ordering, slice_cmp}
 
 -- ==== a text spells at most one file
 

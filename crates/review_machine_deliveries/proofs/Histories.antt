@@ -1,29 +1,24 @@
 -- Histories with one more delivery: identities, tables, and what an answer rests on.
 use Rattle.std.proofs.Common.{◌++◌, ◌∷◌, ◌||◌, ℕ, Bool, true, false, List, [], if◌then◌else◌, arith, ◌≡◌, ◌+◌, ◌≤◌, length, Option, Some, None, cond, refl, sym, ap, ◌∙◌, subst, ⊎_elim, inl, inr, eqb-true, eq-eqb, ◌==◌, ◌&&◌, MatchOption, nat_le, nat_lt, unwrap_or, bytes_eq, ◌<◌, Result, Ok, Err}
-use Rattle.std.proofs.lemmas.{Bool.and_parts, Bool.and_from, Bool.cases_Bool, Slice.Eq.bytes_eq-Decides}
+use Rattle.std.proofs.lemmas.Bool.{and_parts, and_from, cases_Bool}
 use Rattle.review_words.specs.History.{Entry, entry_of, is_closed, Identity, stored, is_same, latest, may_follow, version_of, least_open, if_done}
-use Rattle.review_words.specs.{Texts.content_text, Texts.reply_text, Texts.IsStored, declared.changes.NewPatch.NewPatch}
-use Rattle.review_words.specs.declared.command.{ChangeCommand.ChangeCommand, Command.Command}
+use Rattle.review_words.specs.Texts.{content_text, reply_text, IsStored}
 use Rattle.review_words.specs.declared.command.Command.TheVariants.{CreateAccount, PutGroup, PutProject, RecordBase, CloseEpoch, CreateChange, OnChange, Submit}
-use Rattle.review_words.specs.declared.command.Delivery.{Delivery, TheVariants.Write, TheVariants.Read}
-use Rattle.review_words.specs.declared.reply.{Answer.TheVariants.Nothing, NotTaken.NotTaken as Cause}
+use Rattle.review_words.specs.declared.reply.NotTaken.{NotTaken as Cause}
 use Rattle.review_words.specs.declared.reply.NotTaken.TheVariants.{Memory, Store, Pattern, Full}
-use Rattle.review_words.specs.declared.reply.{Refusal.Refusal, Reply.Reply}
 use Rattle.review_words.specs.declared.reply.Reply.TheVariants.{Done, Refused, IdentityReused, EpochClosed, NotTaken}
-use Rattle.{review_core_rules.specs.Change.Change, review_machine_rows.proofs.Asked.requests_are}
+use Rattle.review_machine_rows.proofs.Asked.{requests_are}
+use Rattle.review_machine_rows.proofs.Common.{Change, ChangeCommand, Command, Delivery, Delta, File, IsDoneOrRefused, NewPatch, Nothing, Read, Reading, Reads, Refusal, Reply, RestsOn, Rows, ShelfFault, Write, bytes_eq-Decides, change}
 use Rattle.review_machine_rows.proofs.Readings.{closed_stays, own_open, reading_of, IsToldDone, sent_or_done}
 use Rattle.review_machine_rows.specs.Answer.{IsHistory, IsAnswer, IsAnswerBy, IsAnswerAt, epoch_checks, IsOf, IsOutcome, IsRequestOutcome, IsUploadAnswer, file_checks, first_refusal, refused_by, refused_or, most_requests}
-use Rattle.review_machine_rows.specs.Changes.{Reading, Reads, change}
-use Rattle.review_machine_rows.specs.{Decisions.IsDoneOrRefused, Decisions.RestsOn, Files.File}
 use Rattle.review_machine_rows.specs.Known.{Agrees, known, number_of}
 use Rattle.review_machine_rows.specs.Rows.{AnswerRow, Stored, Answered, Tables, ClosedEpochs, after, count_after, is_below, Key, Count, HasNoEffect, new_least, is_above}
 use Rattle.review_machine_rows.specs.Shelf.{IsCommitted, Answers, Shows, Views, LeavesBy, IsCounted, cause_of}
 use Rattle.review_machine_rows.specs.Steps.{Topic, OfCommand, OfQuery}
 use Rattle.review_machine_rows.specs.Submits.{IsSubmitAnswer, checked_reply}
 use Rattle.review_machine_rows.specs.View.{AreEnough, IsView, IsViewBy, IsDecidedAt, view, fact, stored_answer, kept_answer, answer_row}
-use Rattle.review_machine_rows.specs.declared.rows.{Delta.Delta, Rows.Rows, Want.TheVariants.Requests}
-use Rattle.review_machine_rows.specs.declared.shelf.ShelfFault.{ShelfFault}
-use Rattle.review_machine_deliveries.proofs.Stored.{entry_stored}
+use Rattle.review_machine_rows.specs.declared.rows.Want.TheVariants.{Requests}
+use Rattle.{review_machine_laws.proofs.Parents.history_from, review_machine_deliveries.proofs.Stored.entry_stored}
 use Rattle.review_machine_deliveries.specs.Formed.{AllFormed, AreFormed, HasForm, IsFormed}
 use Rattle.review_machine_deliveries.specs.Gathered.{IsAllAsked}
 use Rattle.review_machine_deliveries.specs.Replies.{arrivals_after, first_arrivals, has_identity, history_after, taken, with_entries, with_taken, IsTold, IsToldWhere, with_entries as hist, StoresOnce, IsFoundOrStored, StoresRequest, next_row, KeepsRows, KeepsUntaken, CountsReply, HasStored, HasTexts, HasOtherContent}
@@ -52,11 +47,11 @@ all_taken_formed [] rs all = tt
 all_taken_formed (d ∷ ds) [] all = tt
 all_taken_formed (d ∷ ds) (r ∷ rs) all = taken_formed d r (taken ds rs) all.0 (all_taken_formed ds rs all.1)
 
-first_formed : (h0 earlier es : List Entry) → AreFormed es → AreFormed (arrivals_after h0 earlier es)
-first_formed h0 earlier [] formed = tt
-first_formed h0 earlier (e ∷ es) formed = either (has_identity h0 e || has_identity earlier e) (first_formed h0 (e ∷ earlier) es formed.2)
+first_formed : (h0 history_from es : List Entry) → AreFormed es → AreFormed (arrivals_after h0 history_from es)
+first_formed h0 history_from [] formed = tt
+first_formed h0 history_from (e ∷ es) formed = either (has_identity h0 e || has_identity history_from e) (first_formed h0 (e ∷ history_from) es formed.2)
   where
-    either : (b : Bool) → AreFormed (arrivals_after h0 (e ∷ earlier) es) → AreFormed (if b then arrivals_after h0 (e ∷ earlier) es else e ∷ arrivals_after h0 (e ∷ earlier) es)
+    either : (b : Bool) → AreFormed (arrivals_after h0 (e ∷ history_from) es) → AreFormed (if b then arrivals_after h0 (e ∷ history_from) es else e ∷ arrivals_after h0 (e ∷ history_from) es)
     either true later = later
     either false later = (formed.0, formed.1, later)
 
@@ -82,10 +77,7 @@ pub same_from : (a b : Identity) → is_same a b ≡ true → a ≡ b
 same_from a b t =
     let p = and_parts (a.caller == b.caller) ((a.epoch == b.epoch) && bytes_eq a.id b.id) t in
     let q = and_parts (a.epoch == b.epoch) (bytes_eq a.id b.id) p.1 in
-    let c = eqb-true a.caller b.caller p.0 in
-    let n = eqb-true a.epoch b.epoch q.0 in
-    let d = (bytes_eq-Decides a.id b.id).0 q.1 in
-    λ k. record { caller = c k; epoch = n k; id = d k }
+    λ k. record { caller = (eqb-true a.caller b.caller p.0) k; epoch = (eqb-true a.epoch b.epoch q.0) k; id = ((bytes_eq-Decides a.id b.id).0 q.1) k }
 
 pub same_to : (a b : Identity) → a ≡ b → is_same a b ≡ true
 same_to a b e =
@@ -108,8 +100,7 @@ upload_given reading h caller n patch None reply is = absurd is
 upload_given reading h caller n patch (Some c) reply is = subst IsDoneOrRefused (sym is.reply_is) tt
 
 request_given : (reading : Reading) (h : List Entry) (caller n : ℕ) (command : ChangeCommand) (reply : Reply) → IsRequestOutcome reading h caller n command reply → IsDoneOrRefused reply
-request_given reading h caller n command reply is =
-    ⊎_elim
+request_given reading h caller n command reply is = ⊎_elim
     (λ (sent : (patch : NewPatch) × (command ≡ on.Upload patch)).
     upload_given reading h caller n sent.0 (change reading h n) reply (subst (λ x. IsRequestOutcome reading h caller n x reply) sent.1 is))
     (λ (done : IsToldDone command). subst IsDoneOrRefused (sym (done reading h caller n reply is)) tt)
@@ -157,8 +148,7 @@ answer_given_in reading h caller epoch (Submit n) reply is = answer_given_by rea
 answer_given_in reading h caller epoch (CloseEpoch least) reply is = closing_given reading h caller epoch least reply is
 
 pub answer_given : (h : List Entry) (caller epoch : ℕ) (command : Command) (reply : Reply) → IsHistory h → IsAnswer h caller epoch command reply → IsDoneOrRefused reply
-answer_given h caller epoch command reply history is =
-    let r = reading_of h history in answer_given_in r.0 h caller epoch command reply (is r.0 r.1)
+answer_given h caller epoch command reply history is = let r = reading_of h history in answer_given_in r.0 h caller epoch command reply (is r.0 r.1)
 
 -- a reply that is stored is done or refused
 pub stored_given : (reply : Reply) → IsStored reply → IsDoneOrRefused reply
@@ -173,16 +163,11 @@ latest_follows [] history = refl
 latest_follows (e ∷ h) history =
     and_from (nat_le e.version latest) (nat_le latest latest) (and_parts (nat_le (version_of h) e.version) (nat_le e.version latest) history.4).1 refl
 
-pub history_length : (h : List Entry) → IsHistory h → length h ≤ most_requests
-history_length [] hist = omega arith
-history_length (e ∷ h) hist = let below = hist.2 in omega arith
-
 -- the entry of a stored answer
 pub recalled : (h : List Entry) (a : AnswerRow) (i : Identity) → IsHistory h → stored_answer h i ≡ Some (Answered a) →
     (e : Entry) × (stored h i ≡ Some e) × (a.content ≡ content_text e.command) × (a.reply ≡ reply_text e.reply) × IsStored e.reply
 recalled [] a i hist there = absurd (cc)
-recalled (e ∷ h) a i hist there =
-    ⊎_elim
+recalled (e ∷ h) a i hist there = ⊎_elim
     (λ (t : is_same e.identity i ≡ true).
     let is : Some (Answered (answer_row e (length h + 1))) ≡ Some (Answered a) = sym (ap (λ b. cond b (Some (Answered (answer_row e (length h + 1)))) (stored_answer h i)) t) ∙ there in
     let row : answer_row e (length h + 1) ≡ a = cc in (
@@ -200,8 +185,7 @@ recalled (e ∷ h) a i hist there =
 -- an identity with no stored answer is new
 pub not_recalled : (h : List Entry) (i : Identity) → stored_answer h i ≡ None → stored h i ≡ None
 not_recalled [] i none = refl
-not_recalled (e ∷ h) i none =
-    ⊎_elim
+not_recalled (e ∷ h) i none = ⊎_elim
     (λ (t : is_same e.identity i ≡ true).
     let is : Some (Answered (answer_row e (length h + 1))) ≡ None = sym (ap (λ b. cond b (Some (Answered (answer_row e (length h + 1)))) (stored_answer h i)) t) ∙ none in absurd (cc))
     (λ (f : is_same e.identity i ≡ false).
@@ -212,18 +196,12 @@ not_recalled (e ∷ h) i none =
 pub stored_stays : (more h : List Entry) (i : Identity) (e : Entry) → IsHistory (more ++ h) → stored h i ≡ Some e → stored (more ++ h) i ≡ Some e
 stored_stays [] h i e hist some = some
 stored_stays (m ∷ more) h i e hist some =
-    let there = stored_stays more h i e hist.3 some in
-    ⊎_elim
+    let there = stored_stays more h i e hist.3 some in ⊎_elim
     (λ (t : is_same m.identity i ≡ true).
     let none : stored (more ++ h) i ≡ None = subst (λ j. stored (more ++ h) j ≡ None) (same_from m.identity i t) hist.0.0 in
     absurd (cc))
     (λ (f : is_same m.identity i ≡ false). stored_there m (more ++ h) i f ∙ there)
     (cases_Bool (is_same m.identity i))
-
--- a list that goes on from another is a history only where that is one
-pub earlier : (more h : List Entry) → IsHistory (more ++ h) → IsHistory h
-earlier [] h history = history
-earlier (e ∷ more) h history = earlier more h history.3
 
 -- what is kept under an identity whose epoch is open is what is stored under it
 pub kept_open : (h : List Entry) (i : Identity) → is_closed h i.epoch ≡ false → kept_answer h i ≡ stored_answer h i
@@ -262,8 +240,7 @@ not_below (Some least) n m epoch is opened = ap (nat_lt epoch) (sym is) ∙ open
 -- what is kept after one entry more, of an epoch that is open then
 kept_with : (e : Entry) (h : List Entry) (o : Option ℕ) (i : Identity) → least_open (e ∷ h) ≡ unwrap_or o (least_open h) → is_closed (e ∷ h) e.identity.epoch ≡ false →
     cond (is_below o i.epoch) None (cond (is_same e.identity i) (Some (Answered (answer_row e (length h + 1)))) (kept_answer h i)) ≡ kept_answer (e ∷ h) i
-kept_with e h o i is opened =
-    ⊎_elim
+kept_with e h o i is opened = ⊎_elim
     (λ (t : is_same e.identity i ≡ true).
     let here : is_closed (e ∷ h) i.epoch ≡ false = subst (λ (j : Identity). is_closed (e ∷ h) j.epoch ≡ false) (same_from e.identity i t) opened in
     ap (λ b. cond b None (cond (is_same e.identity i) new (kept_answer h i))) (not_below o (least_open h) (least_open (e ∷ h)) i.epoch is here)

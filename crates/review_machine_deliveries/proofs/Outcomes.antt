@@ -1,26 +1,20 @@
 -- One answer to each command, unless a pattern nests too deep.
 use Rattle.std.proofs.Common.{◌≡◌, ◌⊎◌, ℕ, List, [], ◌∷◌, Option, Some, None, true, false, ◌+◌, ◌||◌, ◌∙◌, sym, ap, inl, inr, refl, subst, ⊎_elim}
-use Rattle.std.specs.{Option.option_map_or, Prelude.nat_lt, Prelude.not, Prelude.MatchOption}
+use Rattle.std.specs.Prelude.{nat_lt, not, MatchOption}
 use Rattle.review_words.specs.History.{Entry, is_project, project_count}
-use Rattle.review_words.specs.declared.changes.NewPatch.{NewPatch}
-use Rattle.review_words.specs.declared.command.{ChangeCommand.ChangeCommand, Command.Command}
 use Rattle.review_words.specs.declared.command.Command.TheVariants.{CreateAccount, PutGroup, PutProject, RecordBase, CloseEpoch, CreateChange, OnChange, Submit}
-use Rattle.review_words.specs.declared.faults.FileFault.TheVariants.{UnknownLabel}
-use Rattle.review_words.specs.declared.reply.{Answer.TheVariants.Nothing, Answer.TheVariants.Patch, Refusal.Refusal}
 use Rattle.review_words.specs.declared.reply.Refusal.TheVariants.{BadFile, LabelNarrowed, Limit, NoParent, ParentDepth, ParentFixed}
-use Rattle.review_words.specs.declared.reply.Reply.{Reply, TheVariants.Done, TheVariants.Refused}
 use Rattle.review_file_rules.proofs.Together.{never_both, one_refusal}
 use Rattle.review_file_rules.proofs.Trees.{covers_alike, inherit_alike, inherits_alike}
-use Rattle.review_file_rules.specs.Inherited.{inherit, inherits_unknown_label}
-use Rattle.review_file_rules.specs.{Reading.IsBadValue, Trees.ExprTree, Trees.file_trees, View.FileView}
+use Rattle.review_file_rules.specs.{Inherited.inherit, Inherited.inherits_unknown_label, Reading.IsBadValue}
 use Rattle.review_core_rules.specs.Change.{Change, carried, copying, current, is_lost}
-use Rattle.review_core_rules.specs.Votes.{voted}
+use Rattle.review_machine_rows.proofs.Common.{ChangeCommand, Command, Done, ExprTree, FileView, NewPatch, Nothing, Patch, Refusal, Refused, Reply, UnknownLabel, file_trees, most_depth, most_projects, option_map_or, voted}
 use Rattle.review_machine_rows.proofs.Readings.{reading_of, IsToldDone, sent_or_done}
 use Rattle.review_machine_rows.specs.Answer.{IsAnswerBy, IsAnswerAt, epoch_checks, IsOf, IsOutcome, IsRequestOutcome, IsUploadAnswer, file_checks, file_with, first_refusal, keeps_parent, puts_unknown_label, refused_by, refused_or}
 use Rattle.review_machine_rows.specs.Changes.{Reading, change, depth, file_of, setting_of}
-use Rattle.review_machine_rows.specs.{Files.File, Files.covers, Files.HasDeepPattern, Limits.most_projects}
-use Rattle.{review_machine_rows.specs.Lines.most_depth, review_machine_deliveries.proofs.Bounds.one_count}
-use Rattle.review_machine_deliveries.proofs.{Files.spelled_once, Submits.OneStanding, Submits.one_submit}
+use Rattle.review_machine_rows.specs.Files.{File, covers, HasDeepPattern}
+use Rattle.review_machine_deliveries.proofs.{Bounds.one_count, Files.spelled_once}
+use Rattle.review_machine_deliveries.proofs.Submits.{OneStanding, one_submit}
 use Rattle.review_machine_deliveries.specs.Restart.{IsFree, RefusesBadValue, OneAnswer}
 use Rattle.review_words.specs.declared.command.ChangeCommand.TheVariants as change_asked
 
@@ -78,8 +72,7 @@ one_upload reading h caller n patch (Some c) r s a b =
 
 -- one answer to a request on a change
 one_request : (reading : Reading) (h : List Entry) (caller n : ℕ) (command : ChangeCommand) (r s : Reply) → IsRequestOutcome reading h caller n command r → IsRequestOutcome reading h caller n command s → r ≡ s
-one_request reading h caller n command r s a b =
-    ⊎_elim
+one_request reading h caller n command r s a b = ⊎_elim
     (λ (sent : (patch : NewPatch) × (command ≡ change_asked.Upload patch)).
     one_upload reading h caller n sent.0 (change reading h n) r s (subst (λ x. IsRequestOutcome reading h caller n x r) sent.1 a) (subst (λ x. IsRequestOutcome reading h caller n x s) sent.1 b))
     (λ (done : IsToldDone command). done reading h caller n r a ∙ sym (done reading h caller n s b))

@@ -1,11 +1,9 @@
 -- Runs: one delivery more, several lists, and the shelf closed between them.
-use Rattle.std.proofs.Common.{◌≡◌, ℕ, zero, suc, ◌+◌, ◌-◌, ◌<◌, ◌≤◌, take, List, [], ◌∷◌, ◌++◌, length, get_or, Bool, true, false, cond, ◌||◌, refl, sym, ap, ◌∙◌, subst, inl, inr, ⊎_elim, arith, length-append, get_or-append-add, is_some, Option, append_assoc, append-nil}
-use Rattle.std.proofs.Math.Seq.{take-append-add}
-use Rattle.std.proofs.lemmas.{Bool.cases_Bool, Bool.cases_lt, List.get_or_append_left, List.take-append-le}
-use Rattle.review_words.specs.History.{Entry, Identity, stored, is_same, entry_of, is_closed}
-use Rattle.review_words.specs.declared.command.Delivery.{Delivery, TheVariants.Write, TheVariants.Read}
-use Rattle.review_words.specs.declared.reply.Reply.{Reply, TheVariants.Done}
-use Rattle.review_machine_rows.{proofs.Readings.open_before, specs.Answer.IsHistory, specs.Rows.Tables}
+use Rattle.std.proofs.Common.{◌≡◌, ℕ, zero, suc, ◌+◌, ◌-◌, ◌<◌, ◌≤◌, take, List, [], ◌∷◌, ◌++◌, length, get_or, true, false, cond, ◌||◌, refl, sym, ap, ◌∙◌, subst, inl, inr, ⊎_elim, arith, length-append, get_or-append-add, is_some, Option, append_assoc, append-nil}
+use Rattle.std.proofs.Math.{Bool.or-false, Bool.or-true, Seq.take-append-add}
+use Rattle.std.proofs.lemmas.List.{get_or_append_left, take-append-le}
+use Rattle.review_machine_rows.proofs.Common.{Delivery, Done, Entry, Identity, IsHistory, Read, Reply, Tables, Write, cases_Bool, cases_lt, entry_of, is_closed, is_same, stored}
+use Rattle.review_machine_rows.proofs.Readings.{open_before}
 use Rattle.review_machine_rows.specs.Shelf.{Shown, Views, StaysOrShuts}
 use Rattle.review_core_standing.proofs.Made.{accounts_counted}
 use Rattle.review_machine_laws.proofs.{Parents.sound_branches, SoundProjects.sound_projects}
@@ -30,47 +28,35 @@ taken-append : (ds es : List Delivery) (rs ss : List Reply) → length rs ≡ le
 taken-append [] es [] ss same = refl
 taken-append [] es (r ∷ rs) ss same = absurd (omega arith)
 taken-append (d ∷ ds) es [] ss same = absurd (omega arith)
-taken-append (d ∷ ds) es (r ∷ rs) ss same =
-    ap (with_taken d r) (taken-append ds es rs ss (omega arith)) ∙ with_taken-append d r (taken ds rs) (taken es ss)
+taken-append (d ∷ ds) es (r ∷ rs) ss same = ap (with_taken d r) (taken-append ds es rs ss (omega arith)) ∙ with_taken-append d r (taken ds rs) (taken es ss)
 
 -- an identity of an open epoch is in the history exactly where it was at the start or came since
 abbrev pub HasSince : List Entry → List Entry → List Entry → Type 0
 HasSince now h0 earlier = (i : Identity) → is_closed now i.epoch ≡ false → is_some (stored now i) ≡ (is_some (stored h0 i) || is_some (stored earlier i))
 
-or_true : (b : Bool) → (b || true) ≡ true
-or_true true = refl
-or_true false = refl
-
-pub or_false : (b : Bool) → (b || false) ≡ b
-or_false true = refl
-or_false false = refl
-
 pub since_start : (h : List Entry) → HasSince h h []
-since_start h i opened = sym (or_false (is_some (stored h i)))
+since_start h i opened = sym (or-false (is_some (stored h i)))
 
 pub since_old : (now h0 earlier : List Entry) (e : Entry) → HasSince now h0 earlier → has_identity now e ≡ true → HasSince now h0 (e ∷ earlier)
-since_old now h0 earlier e since old i opened =
-    ⊎_elim
+since_old now h0 earlier e since old i opened = ⊎_elim
     (λ (t : is_same e.identity i ≡ true).
     let there : is_some (stored now i) ≡ true = subst (λ (j : Identity). is_some (stored now j) ≡ true) (same_from e.identity i t) old in
-    there ∙ sym (ap (λ o. is_some (stored h0 i) || is_some o) (stored_here e earlier i t) ∙ or_true (is_some (stored h0 i))))
+    there ∙ sym (ap (λ o. is_some (stored h0 i) || is_some o) (stored_here e earlier i t) ∙ or-true (is_some (stored h0 i))))
     (λ (f : is_same e.identity i ≡ false).
     since i opened ∙ ap (λ o. is_some (stored h0 i) || is_some o) (sym (stored_there e earlier i f)))
     (cases_Bool (is_same e.identity i))
 
 pub since_new : (now h0 earlier : List Entry) (e : Entry) → HasSince now h0 earlier → HasSince (e ∷ now) h0 (e ∷ earlier)
-since_new now h0 earlier e since i opened =
-    ⊎_elim
+since_new now h0 earlier e since i opened = ⊎_elim
     (λ (t : is_same e.identity i ≡ true).
-    ap is_some (stored_here e now i t) ∙ sym (ap (λ o. is_some (stored h0 i) || is_some o) (stored_here e earlier i t) ∙ or_true (is_some (stored h0 i))))
+    ap is_some (stored_here e now i t) ∙ sym (ap (λ o. is_some (stored h0 i) || is_some o) (stored_here e earlier i t) ∙ or-true (is_some (stored h0 i))))
     (λ (f : is_same e.identity i ≡ false).
     ap is_some (stored_there e now i f) ∙ since i (open_before e now i.epoch opened) ∙ ap (λ o. is_some (stored h0 i) || is_some o) (sym (stored_there e earlier i f)))
     (cases_Bool (is_same e.identity i))
 
 -- what came of a closed epoch says nothing of the open ones
 pub since_closed : (now h0 earlier : List Entry) (e : Entry) → HasSince now h0 earlier → is_closed now e.identity.epoch ≡ true → HasSince now h0 (e ∷ earlier)
-since_closed now h0 earlier e since closed i opened =
-    ⊎_elim
+since_closed now h0 earlier e since closed i opened = ⊎_elim
     (λ (t : is_same e.identity i ≡ true).
     let here : is_closed now i.epoch ≡ true = subst (λ (j : Identity). is_closed now j.epoch ≡ true) (same_from e.identity i t) closed in
     absurd (cc))
@@ -166,10 +152,9 @@ module _ (h0 : List Entry) (ds es : List Delivery) (rs ss : List Reply) (cs os :
       (get_or (cs ++ os) (length ds + j) c).0 (get_or (cs ++ os) (length ds + j) c).1
   late j d r c below =
       let same = one.replies in
-      let long = one.counted in
       let taken_rs : take (length ds + j) (rs ++ ss) ≡ rs ++ take j ss = ap (λ n. take (n + j) (rs ++ ss)) (sym same) ∙ take-append-add rs ss j in
       let got_rs : get_or (rs ++ ss) (length ds + j) r ≡ get_or ss j r = ap (λ n. get_or (rs ++ ss) (n + j) r) (sym same) ∙ get_or-append-add rs ss j r in
-      let got_cs : get_or (cs ++ os) (length ds + j) c ≡ get_or os j c = ap (λ n. get_or (cs ++ os) (n + j) c) (sym long) ∙ get_or-append-add cs os j c in
+      let got_cs : get_or (cs ++ os) (length ds + j) c ≡ get_or os j c = ap (λ n. get_or (cs ++ os) (n + j) c) (sym one.counted) ∙ get_or-append-add cs os j c in
       right_at h0 (take (length ds + j) (ds ++ es)) (take (length ds + j) (rs ++ ss))
       ((λ k. history_after h0 (take-append-add ds es j k) (taken_rs k)) ∙ history_after-append h0 ds (take j es) rs (take j ss) same)
       (sym (get_or-append-add ds es j d))

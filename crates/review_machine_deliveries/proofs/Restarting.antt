@@ -1,14 +1,9 @@
 -- A run that begins again.
 use Rattle.std.proofs.Common.{append_assoc, ◌≡◌, ◌⊎◌, ℕ, zero, suc, ◌<◌, take, drop, get_or, List, [], ◌∷◌, ◌++◌, length, Option, Some, None, Bool, true, false, cond, ◌||◌, refl, sym, ap, ◌∙◌, subst, inl, inr, ⊎_elim, arith, length-take-le, is_some, MatchOption}
-use Rattle.std.proofs.lemmas.Bool.{cases_Bool}
-use Rattle.review_words.specs.History.{Entry, Identity, IsFirst, stored, is_same, entry_of, is_closed}
-use Rattle.review_words.specs.declared.command.{Command.Command, Delivery.Delivery}
-use Rattle.review_words.specs.declared.command.Delivery.TheVariants.{Write, Read}
-use Rattle.review_words.specs.declared.reply.Reply.{Reply, TheVariants.EpochClosed, TheVariants.NotTaken}
+use Rattle.review_machine_rows.proofs.Common.{Command, Delivery, Entry, EpochClosed, Identity, IsAnswer, IsDoneOrRefused, IsFirst, IsHistory, IsView, NotTaken, Read, Reply, Tables, Write, cases_Bool, entry_of, is_closed, is_same, stored}
 use Rattle.review_machine_rows.proofs.Readings.{closed_stays, open_before, reading_of}
-use Rattle.review_machine_rows.specs.Answer.{IsHistory, IsAnswer}
-use Rattle.review_machine_rows.specs.{Decisions.IsDoneOrRefused, Rows.Tables, View.IsView}
-use Rattle.review_machine_deliveries.proofs.Histories.{answer_given, earlier, told_where, where_told, stored_stays, stored_here, stored_there, same_to, passed_over}
+use Rattle.review_machine_laws.proofs.Parents.{history_from}
+use Rattle.review_machine_deliveries.proofs.Histories.{answer_given, told_where, where_told, stored_stays, stored_here, stored_there, same_to, passed_over}
 use Rattle.review_machine_deliveries.proofs.Outcomes.{one_answer_in}
 use Rattle.review_machine_deliveries.proofs.Ran.{HasSince, since_start, since_old, since_new, since_closed, dropped, added, each_way, with_taken-append, first-append, history_after-append}
 use Rattle.review_machine_deliveries.proofs.Served.{HasReading, read_on, new_history, same_history, closed_history, same_command}
@@ -48,7 +43,7 @@ open_through (e ∷ more) h epoch opened = open_through more h epoch (open_befor
 began : (h : List Entry) (ds : List Delivery) (rs : List Reply) → IsHistory (history_after h ds rs) → IsHistory h
 began h ds rs history =
     let more = grown h (first h (taken ds rs)) in
-    earlier more.0 h (subst IsHistory more.1 history)
+    history_from more.0 h (subst IsHistory more.1 history)
 
 one_repeat : (e : Entry) (command : Command) (r s : Reply) → IsToldOfStored e command r → IsToldOfStored e command s → r ≡ s
 one_repeat e command r s a b =
@@ -106,7 +101,7 @@ stands g h more caller epoch id command r hist is opened a = at (stored g (recor
     at None none =
         let e : Entry = entry_of caller epoch id command r in
         let answered = told_where g caller epoch id command r false None opened none a in
-        let past : IsHistory (history_after g (Write caller epoch id command ∷ []) (r ∷ [])) = earlier more (history_after g (Write caller epoch id command ∷ []) (r ∷ [])) (subst IsHistory is hist) in
+        let past : IsHistory (history_after g (Write caller epoch id command ∷ []) (r ∷ [])) = history_from more (history_after g (Write caller epoch id command ∷ []) (r ∷ [])) (subst IsHistory is hist) in
         let kept : IsDoneOrRefused r = answer_given g caller epoch command r (began g (Write caller epoch id command ∷ []) (r ∷ []) past) answered in
         let some = there e (ap (λ x. stored x (record { caller = caller; epoch = epoch; id = id })) (new_history g caller epoch id command r kept (none, opened)) ∙ stored_here e g (record { caller = caller; epoch = epoch; id = id }) (same_to (record { caller = caller; epoch = epoch; id = id }) (record { caller = caller; epoch = epoch; id = id }) refl)) in
         (e, some, record { equal = λ _. refl; other = λ n. absurd (n refl) })
@@ -193,29 +188,28 @@ AllIn h [] = Unit {0}
 AllIn h (e ∷ es) = ((has_identity h e ≡ true) ⊎ (is_closed h e.identity.epoch ≡ true)) × AllIn h es
 
 -- all that came is in the history after it, or its epoch is closed
-have_all : (h0 earlier now es : List Entry) → HasSince now h0 earlier → AllIn (hist now (first_after h0 earlier es)) es
-have_all h0 earlier now [] since = tt
-have_all h0 earlier now (e ∷ es) since =
-    let rest = first_after h0 (e ∷ earlier) es in
+have_all : (h0 history_from now es : List Entry) → HasSince now h0 history_from → AllIn (hist now (first_after h0 history_from es)) es
+have_all h0 history_from now [] since = tt
+have_all h0 history_from now (e ∷ es) since =
+    let rest = first_after h0 (e ∷ history_from) es in
     each_way now e
-    (λ closed. subst (λ g. AllIn g (e ∷ es)) (sym (passed_over now (has_identity h0 e || has_identity earlier e) e rest closed))
-    (inr (closed_persists now rest e.identity.epoch closed), have_all h0 (e ∷ earlier) now es (since_closed now h0 earlier e since closed)))
-    (λ opened old. subst (λ g. AllIn g (e ∷ es)) (sym (dropped now h0 earlier e rest since opened old))
-    (inl (persists now rest e.identity old), have_all h0 (e ∷ earlier) now es (since_old now h0 earlier e since old)))
-    (λ opened new. subst (λ g. AllIn g (e ∷ es)) (sym (added now h0 earlier e rest since opened new)) (
+    (λ closed. subst (λ g. AllIn g (e ∷ es)) (sym (passed_over now (has_identity h0 e || has_identity history_from e) e rest closed))
+    (inr (closed_persists now rest e.identity.epoch closed), have_all h0 (e ∷ history_from) now es (since_closed now h0 history_from e since closed)))
+    (λ opened old. subst (λ g. AllIn g (e ∷ es)) (sym (dropped now h0 history_from e rest since opened old))
+    (inl (persists now rest e.identity old), have_all h0 (e ∷ history_from) now es (since_old now h0 history_from e since old)))
+    (λ opened new. subst (λ g. AllIn g (e ∷ es)) (sym (added now h0 history_from e rest since opened new)) (
       inl (persists (e ∷ now) rest e.identity (ap is_some (stored_here e now e.identity (same_to e.identity e.identity refl)))),
-      have_all h0 (e ∷ earlier) (e ∷ now) es (since_new now h0 earlier e since),
+      have_all h0 (e ∷ history_from) (e ∷ now) es (since_new now h0 history_from e since),
     ))
 
-nothing_new : (h earlier es : List Entry) → AllIn h es → hist h (first_after h earlier es) ≡ h
-nothing_new h earlier [] all = refl
-nothing_new h earlier (e ∷ es) all =
-    let rest = first_after h (e ∷ earlier) es in
-    ⊎_elim
-    (λ (there : has_identity h e ≡ true). ap (λ b. hist h (cond (b || has_identity earlier e) rest (e ∷ rest))) there)
-    (λ (closed : is_closed h e.identity.epoch ≡ true). passed_over h (has_identity h e || has_identity earlier e) e rest closed)
+nothing_new : (h history_from es : List Entry) → AllIn h es → hist h (first_after h history_from es) ≡ h
+nothing_new h history_from [] all = refl
+nothing_new h history_from (e ∷ es) all =
+    let rest = first_after h (e ∷ history_from) es in ⊎_elim
+    (λ (there : has_identity h e ≡ true). ap (λ b. hist h (cond (b || has_identity history_from e) rest (e ∷ rest))) there)
+    (λ (closed : is_closed h e.identity.epoch ≡ true). passed_over h (has_identity h e || has_identity history_from e) e rest closed)
     all.0
-    ∙ nothing_new h (e ∷ earlier) es all.1
+    ∙ nothing_new h (e ∷ history_from) es all.1
 
 pub keeps_history : RestartKeepsHistory
 keeps_history h0 es1 es2 =
@@ -323,8 +317,7 @@ told_append h [] es [] ss a b = b
 told_append h [] es (r ∷ rs) ss a b = absurd a
 told_append h (d ∷ ds) es [] ss a b = absurd a
 told_append h (d ∷ ds) es (r ∷ rs) ss a b =
-    let g = history_after h (d ∷ []) (r ∷ []) in
-    (a.0, a.1, told_append g ds es rs ss a.2 (subst (λ x. AreTold x es ss) (history_cons h d ds r rs) b))
+    (a.0, a.1, told_append (history_after h (d ∷ []) (r ∷ [])) ds es rs ss a.2 (subst (λ x. AreTold x es ss) (history_cons h d ds r rs) b))
 
 told_take : (i : ℕ) (h : List Entry) (ds : List Delivery) (rs : List Reply) → AreTold h ds rs → AreTold h (take i ds) (take i rs)
 told_take zero h ds rs a = tt

@@ -1,25 +1,19 @@
 -- What one delivery does, and that its history has a reading.
-use Rattle.std.proofs.Common.{◌≡◌, ℕ, ◌+◌, ◌<◌, List, [], ◌∷◌, ◌++◌, length, Option, Some, None, Bool, true, false, cond, ◌||◌, refl, sym, ap, ◌∙◌, subst, inl, inr, ⊎_elim, ◌⊎◌, Result, Ok, Err, is_some, IfOk, IfErr, nat_lt, IsErr, IsErrAnd, bytes_eq, MatchOption}
-use Rattle.std.proofs.lemmas.{Bool.cases_Bool, Slice.Eq.bytes_eq-Decides}
+use Rattle.std.proofs.Common.{◌≡◌, ℕ, ◌+◌, ◌<◌, List, [], ◌∷◌, ◌++◌, length, Option, Some, None, Bool, true, false, cond, ◌||◌, refl, sym, ap, ◌∙◌, subst, inl, inr, ⊎_elim, ◌⊎◌, Result, Ok, Err, is_some, IfOk, IfErr, nat_lt, IsErr, IsErrAnd, bytes_eq}
 use Rattle.review_words.specs.History.{Entry, Identity, IsFirst, stored, entry_of, is_closed, accepted}
 use Rattle.review_words.specs.Texts.{content_text, reply_text, IsStored}
-use Rattle.review_words.specs.declared.command.Command.{Command, TheVariants.PutProject}
-use Rattle.review_words.specs.declared.command.Delivery.{Delivery, TheVariants.Write, TheVariants.Read}
-use Rattle.review_words.specs.declared.{command.Query.Query, reply.Answer.Answer, reply.NotTaken.NotTaken as Cause}
+use Rattle.review_words.specs.declared.{command.Query.Query, reply.NotTaken.NotTaken as Cause}
 use Rattle.review_words.specs.declared.reply.NotTaken.TheVariants.{Memory, Store, Damaged, Pattern, Full}
-use Rattle.review_words.specs.declared.reply.{Refusal.Refusal, Refusal.TheVariants.BadFile, Reply.Reply}
 use Rattle.review_words.specs.declared.reply.Reply.TheVariants.{Done, Refused, IdentityReused, EpochClosed, NotTaken}
 use Rattle.review_words_texts.proofs.Fields.{content_text_injective, reply_text_injective}
-use Rattle.review_machine_rows.proofs.Readings.{reading_of, IsDoneBy, done_by}
-use Rattle.review_machine_rows.specs.Answer.{IsHistory, IsAnswer, most_requests, IsAnswerBy, IsFaultAnswer, IsFileAnswer, refused_by}
-use Rattle.review_machine_rows.specs.Changes.{Reading, Reads, IsReadRight}
+use Rattle.review_machine_rows.proofs.Common.{Agrees, Command, Delivery, Delta, File, IsRead, IsReadRight, OfQuery, PutProject, Read, Reading, Reads, Reply, Rows, ShelfFault, Write, bytes_eq-Decides, cases_Bool}
+use Rattle.review_machine_rows.proofs.Readings.{put_file, reading_of, IsDoneBy, done_by}
+use Rattle.review_machine_rows.specs.Answer.{IsHistory, IsAnswer, most_requests}
 use Rattle.review_machine_rows.specs.Decisions.{IsUnshown, IsDoneOrRefused, RestsOn}
-use Rattle.review_machine_rows.specs.{Files.File, Files.IsRead, Known.Agrees}
 use Rattle.review_machine_rows.specs.Questions.{IsQueryAnswer, IsQueryAnswerBy}
 use Rattle.review_machine_rows.specs.Rows.{AnswerRow, Answered, Tables, ClosedEpochs}
 use Rattle.review_machine_rows.specs.Shelf.{Answers, IsCommitted, Shown, Shows, Views, LeavesBy, StopLeavesOwnTables, AddsNoStop, IsCounted, Blames, cause_of, IsClosedIn}
-use Rattle.review_machine_rows.specs.{Steps.OfQuery, View.AreEnough, View.IsView, View.IsDecidedAt, View.answer_row}
-use Rattle.review_machine_rows.specs.declared.{rows.Delta.Delta, rows.Rows.Rows, shelf.ShelfFault.ShelfFault}
+use Rattle.review_machine_rows.specs.View.{AreEnough, IsView, IsDecidedAt, answer_row}
 use Rattle.review_machine_deliveries.proofs.Histories.{formed_entry, answers_are, passed_over, told_where, where_told, latest_follows, recalled, not_recalled, view_grows, answer_given, stored_given, enough_shown, stored_stays, stored_here, same_to, answer_given_in, rests_on}
 use Rattle.review_machine_deliveries.specs.{Formed.IsFormed, Gathered.IsAllAsked, Gathered.IsUngathered}
 use Rattle.review_machine_deliveries.specs.Replies.{history_after, has_identity, with_entries as hist, IsRight, IsTold, IsToldOfStored, IsServed, IsLawful, IsNew, HasEffect, StopGoesOnFrom, StopHasEntry, IsEntered, GoesOn, KeepsUntaken, CountsReply}
@@ -187,8 +181,7 @@ pub repeat_served : (h : List Entry) (row : AnswerRow) (caller epoch : ℕ) (id 
     IsHistory h → Views h old.tables → Shows old.tables (λ t. Answers t (record { caller = caller; epoch = epoch; id = id }) (Some (Answered row))) → IsToldAgain row (content_text command) result →
     new.tables ≡ old.tables → new.faults ≡ old.faults → AddsNoStop old new → IsServed h (Write caller epoch id command) (reply_of result) old new
 repeat_served h row caller epoch id command result old new hist v there told stays quiet adds =
-    let r = found old.tables v there in
-    again result r told (views_stay h old.tables new.tables stays v)
+    again result (found old.tables v there) told (views_stay h old.tables new.tables stays v)
   where
     i : Identity
     i = record { caller = caller; epoch = epoch; id = id }
@@ -242,8 +235,7 @@ effect_goes_on h (Write caller epoch id command) t form e = (entry_of caller epo
 -- what a stop leaves goes on from the history after the delivery
 pub leaves_since : (h : List Entry) (d : Delivery) (reply : Reply) (old new : Shown) → IsFormed d → IsHistory h → IsServed h d reply old new → StopGoesOnFrom h old →
     StopGoesOnFrom (history_after h (d ∷ []) (reply ∷ [])) new
-leaves_since h d reply old new form history s since t x =
-    ⊎_elim
+leaves_since h d reply old new form history s since t x = ⊎_elim
     (λ (grew : IsNew h d × IsDoneOrRefused reply). ([], tt, s.history, alone_is (s.alone grew.0 grew.1 t x)))
     (λ (stays : history_after h (d ∷ []) (reply ∷ []) ≡ h).
     subst (λ g. GoesOn g t) (sym stays) (⊎_elim (λ (y : old.stops t). since t y) (λ (e : HasEffect h d t). effect_goes_on h d t form e) (s.stops t x)))
@@ -254,8 +246,7 @@ leaves_since h d reply old new form history s since t x =
 
 -- two commands are the same or not, as their texts are
 pub same_command : (a b : Command) → (a ≡ b) ⊎ (a ≡ b → ⊥)
-same_command a b =
-    ⊎_elim
+same_command a b = ⊎_elim
     (λ (t : bytes_eq (content_text a) (content_text b) ≡ true). inl (content_text_injective a b ((bytes_eq-Decides (content_text a) (content_text b)).0 t)))
     (λ (f : bytes_eq (content_text a) (content_text b) ≡ false).
     inr (λ e. let t = (bytes_eq-Decides (content_text a) (content_text b)).1 (ap content_text e) in absurd (cc)))
@@ -269,8 +260,7 @@ told_of h d _ before after s right = right.0
 
 -- what is stored under the identity of a command that was told a stored reply is that command, with that reply
 repeat_is : (e : Entry) (command : Command) (reply : Reply) → IsDoneOrRefused reply → IsToldOfStored e command reply → (e.command ≡ command) × (e.reply ≡ reply)
-repeat_is e command reply s told =
-    ⊎_elim
+repeat_is e command reply s told = ⊎_elim
     (λ (c : command ≡ e.command). (sym c, sym (told.equal c)))
     (λ (n : command ≡ e.command → ⊥). absurd (subst IsDoneOrRefused (told.other n) s))
     (same_command command e.command)
@@ -403,8 +393,7 @@ read_here : (reading : Reading) (text : List ℕ) (file : File) → IsRead text 
 read_here reading text file is = subst (IsRead text) (sym (ap (λ b. cond b file (reading text)) ((bytes_eq-Decides text text).1 refl))) is
 
 read_there : (reading : Reading) (text : List ℕ) (file : File) → IsRead text file → (t : List ℕ) → IsRead t (reading t) → IsRead t (with_file reading text file t)
-read_there reading text file is t right =
-    ⊎_elim
+read_there reading text file is t right = ⊎_elim
     (λ (same : bytes_eq t text ≡ true). subst (λ x. IsRead x (with_file reading text file x)) (sym ((bytes_eq-Decides t text).0 same)) (read_here reading text file is))
     (λ (other : bytes_eq t text ≡ false). subst (IsRead t) (sym (ap (λ b. cond b file (reading t)) other)) right)
     (cases_Bool (bytes_eq t text))
@@ -416,17 +405,6 @@ right_there reading text file is _ right = tt
 reads_there : (reading : Reading) (text : List ℕ) (file : File) → IsRead text file → (h : List Entry) → Reads reading h → Reads (with_file reading text file) h
 reads_there reading text file is [] reads = tt
 reads_there reading text file is (e ∷ h) reads = (right_there reading text file is (accepted e) reads.0, reads_there reading text file is h reads.1)
-
--- an answer that is no refusal is given where no check refuses
-not_fault : {A : Type 0} (o : Option Refusal) (a : Answer) → MatchOption o A (λ r. Done a ≡ Refused r) → A
-not_fault None a outcome = outcome
-not_fault (Some r) a refused = absurd (cc)
-
--- the file that an accepted PutProject puts
-put_file : (reading : Reading) (h : List Entry) (caller : ℕ) (project text : List ℕ) (a : Answer) → IsAnswerBy reading h caller (PutProject project text) (Done a) → (f : File) × IsRead text f
-put_file reading h caller project text a answer =
-    ⊎_elim (λ (fault : IsFaultAnswer text (Done a)). let e : Done a ≡ Refused (BadFile fault.0) = fault.2 in absurd (cc)) (λ (file : IsFileAnswer reading h project text (Done a)). (file.0, file.1))
-    (not_fault (refused_by reading h caller (PutProject project text)) a answer)
 
 -- one answered entry more
 read_more : (h : List Entry) (caller epoch : ℕ) (id : List ℕ) (command : Command) (reply : Reply) (reading : Reading) → Reads reading h → IsDoneBy reading h caller command reply → HasReading (entry_of caller epoch id command reply ∷ h)

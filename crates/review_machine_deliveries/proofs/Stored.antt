@@ -1,29 +1,24 @@
 -- Each answer of a history is stored with numbers of their forms.
 use Rattle.std.proofs.Common.{◌≡◌, ◌⊎◌, ℕ, suc, ◌+◌, ◌<◌, ◌≤◌, List, [], ◌∷◌, ◌++◌, length, Option, Some, None, Bool, true, false, cond, refl, sym, ap, ◌∙◌, subst, ⊎_elim, inl, inr, arith, ltb-true, leb-true, MatchBool, All, MatchOption, nat_lt, option_map, map, ◌&&◌}
-use Rattle.std.proofs.lemmas.{Bool.cases_Bool, List.Elements.All-head, List.Elements.All-tail}
-use Rattle.std.specs.List.{AllByRecursion}
+use Rattle.std.proofs.lemmas.List.Elements.{All-head, All-tail}
 use Rattle.review_names.specs.Forms.{is_label, most_changes, most_comments, most_patches}
 use Rattle.review_words.specs.History.{Entry, is_account, account_count}
 use Rattle.review_words.specs.Texts.{IsStored, IsChangeNumber, IsCommentNumber}
-use Rattle.review_words.specs.declared.changes.{Given.Given, NewPatch.NewPatch, Review.Review as ReviewOf}
-use Rattle.review_words.specs.declared.command.{ChangeCommand.ChangeCommand, Command.Command}
+use Rattle.review_words.specs.declared.changes.Review.{Review as ReviewOf}
 use Rattle.review_words.specs.declared.command.Command.TheVariants.{CreateAccount, PutGroup, PutProject, RecordBase, CloseEpoch, CreateChange, OnChange, Submit}
 use Rattle.review_words.specs.declared.faults.FileFault.TheVariants.{UnknownKey}
-use Rattle.review_words.specs.declared.reply.{Answer.TheVariants.Nothing, Answer.TheVariants.Reviewed, Refusal.Refusal}
+use Rattle.review_words.specs.declared.reply.Answer.TheVariants.{Nothing, Reviewed}
 use Rattle.review_words.specs.declared.reply.Refusal.TheVariants.{BadFile, UnknownCaller, ChainOutdated, ChainAbandoned, ChainWip, ChainTooLong, RequirementUnsatisfied}
-use Rattle.review_words.specs.declared.reply.Reply.{Reply, TheVariants.Done, TheVariants.Refused}
 use Rattle.review_words.specs.declared.shown.ShownRequirement.{ShownRequirement}
-use Rattle.review_chain.{proofs.Walking.chain_ready, specs.Walks.IsReady}
-use Rattle.review_chain.specs.declared.{links.Link.Link, walks.ChainFault.ChainFault}
 use Rattle.review_chain.specs.declared.walks.ChainFault.TheVariants.{Outdated, Abandoned, Wip, TooLong}
-use Rattle.{review_expr_judging.specs.declared.facts.ChangeFacts.ChangeFacts, review_expr.specs.declared.expr.Expr.Expr}
-use Rattle.review_file_rules.{proofs.Placed.placed, specs.View.RequirementView}
+use Rattle.{review_expr_judging.specs.declared.facts.ChangeFacts.ChangeFacts, review_file_rules.proofs.Placed.placed}
 use Rattle.review_core_rules.specs.Change.{Change, Setting, current, said}
 use Rattle.review_core_rules.specs.Facts.{AreStanding, IsFirstUnsatisfied, is_unsatisfied, stands, unsatisfied_in}
-use Rattle.{review_core_rules.specs.Status.status_of, review_machine_rows.proofs.Readings.reading_of}
+use Rattle.review_core_rules.specs.Status.{status_of}
+use Rattle.review_machine_rows.proofs.Common.{AllByRecursion, ChainFault, ChangeCommand, Command, Done, Expr, Given, IsReady, Link, NewPatch, Refusal, Refused, Reply, RequirementView, cases_Bool, chain_ready, link_for, most_depth}
+use Rattle.review_machine_rows.proofs.Readings.{reading_of}
 use Rattle.review_machine_rows.specs.Answer.{IsHistory, IsAnswer, IsAnswerBy, IsAnswerWithoutParents, IsOutcome, IsOf, IsRequestOutcome, IsUploadAnswer, checks, comment_numbers, file_checks, first_refusal, given_checks, numbers_after, of_change, puts_parent, refused_by, refused_or, request_checks, review_checks, submit_checks, upload_checks, IsAnswerAt, epoch_checks}
 use Rattle.review_machine_rows.specs.Changes.{Reading, Reads, change, change_count, file_of, setting_of, texts_of}
-use Rattle.review_machine_rows.specs.{Lines.most_depth, Links.link_for}
 use Rattle.review_machine_rows.specs.Submits.{IsSubmitAnswer, branch_after, checked_reply, judged_after, refusal_of}
 use Rattle.review_machine_laws.proofs.Changes.{change_bound, Passes, all_pass, later_pass}
 use Rattle.review_machine_laws.proofs.Histories.{line_read}
@@ -38,8 +33,7 @@ AllStored (c ∷ cs) = IsStored (Refused c.1) × AllStored cs
 
 first_stored : (cs : List (Bool × Refusal)) (r : Refusal) → AllStored cs → first_refusal cs ≡ Some r → IsStored (Refused r)
 first_stored [] r all is = absurd (cc)
-first_stored (c ∷ cs) r all is =
-    ⊎_elim
+first_stored (c ∷ cs) r all is = ⊎_elim
     (λ (t : c.0 ≡ true). first_stored cs r all.1 (sym (ap (λ b. cond b (first_refusal cs) (Some c.1)) t) ∙ is))
     (λ (f : c.0 ≡ false).
     let some : Some c.1 ≡ Some r = sym (ap (λ b. cond b (first_refusal cs) (Some c.1)) f) ∙ is in

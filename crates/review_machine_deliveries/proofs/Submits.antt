@@ -1,12 +1,8 @@
 -- One answer to a submit.
 use Rattle.std.proofs.Common.{◌≡◌, ◌∙◌, ℕ, List, [], ◌∷◌, Option, Some, None, sym, ap, subst, inl, inr, MatchOption}
-use Rattle.review_words.specs.{History.Entry, declared.reply.Refusal.Refusal, declared.reply.Reply.Reply}
-use Rattle.review_words.specs.declared.{reply.Reply.TheVariants.Refused, shown.ShownRequirement.ShownRequirement}
 use Rattle.review_chain.proofs.Walking.{one_walk, one_end, chain_meets, bad_meets}
-use Rattle.review_chain.specs.{Branches.Branch, Steps.TheBase, Steps.Bad, declared.walks.ChainFault.ChainFault}
-use Rattle.review_core_rules.specs.Change.{Change, Setting}
-use Rattle.review_core_rules.specs.Facts.{AreStanding, IsFirstUnsatisfied, unsatisfied_in}
-use Rattle.review_machine_rows.specs.Changes.{Reading}
+use Rattle.review_chain.specs.Steps.{TheBase, Bad}
+use Rattle.review_machine_rows.proofs.Common.{AreStanding, Branch, ChainFault, Change, Entry, IsFirstUnsatisfied, Reading, Refusal, Refused, Reply, Setting, ShownRequirement, unsatisfied_in}
 use Rattle.review_machine_rows.specs.Submits.{HasBadLink, HasChain, IsOf, IsSubmitAnswer, branch_after, checked_reply, judged_after, refusal_of}
 
 -- Requirements stand in one way for a change, as the law of statuses has it.
@@ -42,8 +38,7 @@ one_found one at (n ∷ ns) a b x y = of (at n) x y (one_found one at ns a b)
     of : (o : Option (Setting × Change)) → IsFoundAt at n ns a o → IsFoundAt at n ns b o → (IsFirstUnsatisfied at ns a → IsFirstUnsatisfied at ns b → a ≡ b) → a ≡ b
     of None x y later = absurd x
     of (Some c) x y later =
-        let shown = one c.0 c.1 y.0 x.0 y.1 x.1 in
-        by (unsatisfied_in x.0) x.2 (subst (λ l. IsFound at n ns b (unsatisfied_in l)) shown y.2) later
+        by (unsatisfied_in x.0) x.2 (subst (λ l. IsFound at n ns b (unsatisfied_in l)) (one c.0 c.1 y.0 x.0 y.1 x.1) y.2) later
 
 -- one chain, and what is found of it
 one_checked : OneStanding → (reading : Reading) (h : List Entry) (b : Branch) (n : ℕ) (r s : Reply) → HasChain reading h b n r → HasChain reading h b n s → r ≡ s

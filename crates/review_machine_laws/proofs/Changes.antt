@@ -1,22 +1,19 @@
 -- The changes of a history: which there are, what each was made for, and that each is sound.
 use Rattle.std.proofs.Common.{◌≡◌, ℕ, ◌+◌, List, length, Option, Some, None, refl, subst, is_some, ◌<◌, ◌≤◌, ◌==◌, [], ◌∷◌, Bool, true, false, cond, ◌&&◌, ◌||◌, sym, ap, ◌∙◌, ⊎_elim, arith, leb-true, IsSome, nat_le, option_map, bytes_eq, ◌++◌, eqb-true, MatchOption, zero, suc, ltb-true}
-use Rattle.std.proofs.lemmas.Bool.{cases_lt, and_parts, cases_Bool, Decides.nat_tests}
-use Rattle.std.specs.{List.AllByRecursion, Option.option_map_or}
+use Rattle.std.proofs.lemmas.Bool.{cases_lt, and_parts, cases_Bool}
 use Rattle.review_names.specs.Forms.{is_within, most_comments, most_changes}
 use Rattle.review_words.specs.History.{Entry, accepted, if_done, is_account}
-use Rattle.review_words.specs.declared.changes.{NewChange.NewChange, Review.Review as ReviewOf}
-use Rattle.review_words.specs.declared.command.{ChangeCommand.ChangeCommand, Command.Command}
+use Rattle.review_words.specs.declared.changes.Review.{Review as ReviewOf}
 use Rattle.review_words.specs.declared.command.Command.TheVariants.{CreateChange, OnChange}
-use Rattle.review_words.specs.declared.reply.{Answer.Answer, Refusal.Refusal}
 use Rattle.review_words.specs.declared.reply.Refusal.TheVariants.{UnknownCaller, NoComment, Limit}
-use Rattle.review_words.specs.declared.reply.Reply.{Reply, TheVariants.Done, TheVariants.Refused}
+use Rattle.review_core_rules.proofs.Stays.{joins as joined_sound}
 use Rattle.review_core_rules.specs.Change.{Change, joined_at, after, begun, Copying, Setting, after_copying, copying, current, reviewed, said}
-use Rattle.review_core_rules.specs.{Parts.TheHeader, Sound.IsSound, Sound.answer_stored, Sound.fits}
+use Rattle.review_core_rules.specs.Sound.{IsSound, answer_stored, fits}
+use Rattle.review_machine_rows.proofs.Common.{APart, AllByRecursion, Answer, ChangeCommand, Command, Done, Key, NewChange, Refusal, Refused, Reply, Row, TheHeader, fact, nat_tests, option_map_or, or-true, some_mapped, some_or}
 use Rattle.review_machine_rows.proofs.Readings.{IsDoneBy, done_of}
 use Rattle.review_machine_rows.specs.Answer.{IsAnswerBy, IsHistory, IsOutcome, first_refusal, given_checks, of_change, refused_by, request_checks, checks}
 use Rattle.review_machine_rows.specs.Changes.{joined, joining, joining_at, place_in, Reading, asked_of, change, change_after, change_by, change_count, change_counted, setting_of, submitted, is_for, is_made_for, made, made_by, Reads, some_change}
 use Rattle.review_machine_rows.specs.Known.{IsLast, header_key, part_of}
-use Rattle.review_machine_rows.specs.{Rows.Key, Rows.Row, Rows.APart, View.fact}
 use Rattle.review_words.specs.declared.command.ChangeCommand.TheVariants as on
 
 -- ==== what becomes of a change where changes join their branch
@@ -49,17 +46,9 @@ joining_there h js n o = joining_some h (place_in js n) o
 abbrev pub is_up_to : ℕ → ℕ → Bool
 is_up_to c n = nat_le 1 n && nat_le n c
 
-some_mapped : {X Y : Type 0} (f : X → Y) (o : Option X) → is_some (option_map f o) ≡ is_some o
-some_mapped f None = refl
-some_mapped f (Some x) = refl
-
 some_where : {X : Type 0} (b : Bool) (x o : Option X) → is_some x ≡ is_some o → is_some (cond b x o) ≡ is_some o
 some_where true x o e = e
 some_where false x o e = refl
-
-some_made : {X : Type 0} (b : Bool) (x : X) (o : Option X) → is_some (cond b (Some x) o) ≡ (b || is_some o)
-some_made true x o = refl
-some_made false x o = refl
 
 one_more : (n c : ℕ) → ((c + 1 == n) || is_up_to c n) ≡ is_up_to (c + 1) n
 one_more n c = grind (arith, nat_tests)
@@ -76,7 +65,7 @@ asked_stays reading h caller (Some on) n before =
 
 there_step : (reading : Reading) (h : List Entry) (caller : ℕ) (o : Option Command) (n : ℕ) (before : Option Change) → is_some before ≡ is_up_to (change_count h) n →
     is_some (change_by reading h caller o n before) ≡ is_up_to (change_counted o (change_count h)) n
-there_step reading h caller (Some (CreateChange new)) n before e = some_made (change_count h + 1 == n) _ before ∙ (ap (λ b. (change_count h + 1 == n) || b) e ∙ one_more n (change_count h))
+there_step reading h caller (Some (CreateChange new)) n before e = some_or (change_count h + 1 == n) _ before ∙ (ap (λ b. (change_count h + 1 == n) || b) e ∙ one_more n (change_count h))
 there_step reading h caller (Some (OnChange m command)) n before e = asked_stays reading h caller (asked_of (OnChange m command)) n before ∙ e
 there_step reading h caller _ n before e = e
 
@@ -98,8 +87,7 @@ up_to_itself c some = grind (arith, nat_tests)
 -- the greatest number whose key has a row, where those up to a count have one
 pub last_of : (key : ℕ → Key) (row : Key → Option Row) (count last : ℕ) → ((n : ℕ) → is_some (row (key n)) ≡ is_up_to count n) → IsLast key row last → last ≡ count
 last_of key row count last there l =
-    let reached : count ≤ last = ⊎_elim (λ (lt : last < count). absurd (not_above lt)) (λ (ge : count ≤ last). ge) (cases_lt last count) in
-    ⊎_elim
+    let reached : count ≤ last = ⊎_elim (λ (lt : last < count). absurd (not_above lt)) (λ (ge : count ≤ last). ge) (cases_lt last count) in ⊎_elim
     (λ (none : last ≡ 0). omega arith)
     (λ (some : IsSome (row (key last))).
     let p = and_parts (nat_le 1 last) (nat_le last count) (sym (there last) ∙ some) in
@@ -184,8 +172,7 @@ Passes check = check.0 ≡ true
 -- where no check refuses, all pass
 pub all_pass : (checks : List (Bool × Refusal)) → first_refusal checks ≡ None → AllByRecursion Passes checks
 all_pass [] none = tt
-all_pass (c ∷ cs) none =
-    ⊎_elim
+all_pass (c ∷ cs) none = ⊎_elim
     (λ (t : c.0 ≡ true). (t, all_pass cs (sym (ap (λ b. cond b (first_refusal cs) (Some c.1)) t) ∙ none)))
     (λ (f : c.0 ≡ false). let bad : Some c.1 ≡ None = sym (ap (λ b. cond b (first_refusal cs) (Some c.1)) f) ∙ none in absurd (cc))
     (cases_Bool c.0)
@@ -247,17 +234,6 @@ done_sound begins stays reading h caller n c (OnChange m command) a answer befor
     is
 done_sound begins stays reading h caller n c _ a answer before is = before c is
 
--- a change that joins its branch stays sound: nobody is in its attention set
-joined_sound : (place request : ℕ) (c : Change) → IsSound c → IsSound (joined_at place request c)
-joined_sound place request c s = record {
-  patches = s.patches;
-  comments = s.comments;
-  on_patches = s.on_patches;
-  in_order = s.in_order;
-  voters = s.voters;
-  attending = λ u called. absurd (cc);
-}
-
 step_sound : BeginsSound → StaysSound → (reading : Reading) (h : List Entry) (caller n : ℕ) (c : Change) (command : Command) (reply : Reply) → IsDoneBy reading h caller command reply →
     ((x : Change) → change reading h n ≡ Some x → IsSound x) → change_by reading h caller (if_done reply command) n (change reading h n) ≡ Some c → IsSound c
 step_sound begins stays reading h caller n c command (Done a) answer before is = done_sound begins stays reading h caller n c command a answer before is
@@ -271,17 +247,12 @@ are_sound begins stays reading (e ∷ h) n c history reads is =
 
 -- ==== whether one of the changes of a history passes a test
 
-pub or_true : (b : Bool) → (b || true) ≡ true
-or_true true = refl
-or_true false = refl
-
 -- one up to a number passes, where a change of no greater number does
-passes_up_to : (reading : Reading) (h : List Entry) (test : Change → Bool) (k n : ℕ) (c : Change) → 1 ≤ n → n ≤ k → change reading h n ≡ Some c → test c ≡ true → some_change reading h test k ≡ true
+pub passes_up_to : (reading : Reading) (h : List Entry) (test : Change → Bool) (k n : ℕ) (c : Change) → 1 ≤ n → n ≤ k → change reading h n ≡ Some c → test c ≡ true → some_change reading h test k ≡ true
 passes_up_to reading h test zero n c one below is passes = absurd (omega arith)
-passes_up_to reading h test (suc k) n c one below is passes =
-    ⊎_elim
+passes_up_to reading h test (suc k) n c one below is passes = ⊎_elim
     (λ (lt : n < suc k).
-    ap (λ b. option_map_or test (change reading h (suc k)) false || b) (passes_up_to reading h test k n c one (omega arith) is passes) ∙ or_true (option_map_or test (change reading h (suc k)) false))
+    ap (λ b. option_map_or test (change reading h (suc k)) false || b) (passes_up_to reading h test k n c one (omega arith) is passes) ∙ or-true (option_map_or test (change reading h (suc k)) false))
     (λ (ge : suc k ≤ n).
     let same : n ≡ suc k = omega arith in
     ap (λ o. option_map_or test o false || some_change reading h test k) (ap (change reading h) (sym same) ∙ is) ∙ ap (λ b. b || some_change reading h test k) passes)
@@ -297,15 +268,14 @@ within_count reading h n c is =
 pub some_passes : (reading : Reading) (h : List Entry) (test : Change → Bool) (n : ℕ) (c : Change) → change reading h n ≡ Some c → test c ≡ true → some_change reading h test (change_count h) ≡ true
 some_passes reading h test n c is passes = let range = within_count reading h n c is in passes_up_to reading h test (change_count h) n c range.0 range.1 is passes
 
-passing : (o : Option Change) (test : Change → Bool) → option_map_or test o false ≡ true → (c : Change) × (o ≡ Some c) × (test c ≡ true)
+pub passing : (o : Option Change) (test : Change → Bool) → option_map_or test o false ≡ true → (c : Change) × (o ≡ Some c) × (test c ≡ true)
 passing None test e = absurd (cc)
 passing (Some c) test e = (c, refl, e)
 
 -- the change that passes, where one does
 pub one_passing : (reading : Reading) (h : List Entry) (test : Change → Bool) (k : ℕ) → some_change reading h test k ≡ true → (n : ℕ) × (c : Change) × (change reading h n ≡ Some c) × (test c ≡ true)
 one_passing reading h test zero e = absurd (cc)
-one_passing reading h test (suc k) e =
-    ⊎_elim
+one_passing reading h test (suc k) e = ⊎_elim
     (λ (t : option_map_or test (change reading h (suc k)) false ≡ true). let p = passing (change reading h (suc k)) test t in (suc k, p.0, p.1, p.2))
     (λ (f : option_map_or test (change reading h (suc k)) false ≡ false). one_passing reading h test k (sym (ap (λ b. b || some_change reading h test k) f) ∙ e))
     (cases_Bool (option_map_or test (change reading h (suc k)) false))

@@ -1,28 +1,23 @@
 -- Who is in the groups of a history.
 use Rattle.std.proofs.Common.{◌≡◌, ℕ, List, [], ◌∷◌, Option, Some, None, Bool, true, false, cond, ◌||◌, ◌==◌, refl, sym, ap, ◌∙◌, ⊎_elim, unwrap_or}
-use Rattle.std.proofs.lemmas.{Bool.cases_Bool, Map.Text.is_eq-slice_cmp, Slice.Eq.bytes_eq-Decides}
-use Rattle.std.specs.{BTreeMap.insert_entry, BTreeMap.is_at, Cmp.Lexicographic.slice_cmp, List.list_any, Map.lookup}
-use Rattle.std.specs.{Ordering.is_eq, Ordering.match_ordering, Ordering.nat_cmp, Str.bytes_eq}
-use Rattle.std.specs.declared.cmp.Ordering.{Ordering, TheVariants.Less, TheVariants.Equal, TheVariants.Greater}
+use Rattle.std.specs.BTreeMap.{insert_entry, is_at}
+use Rattle.std.specs.{Map.lookup, Ordering.is_eq, Ordering.match_ordering, Ordering.nat_cmp, Str.bytes_eq}
 use Rattle.review_names.specs.Groups.{GroupList, has_account, members_in}
-use Rattle.review_names.specs.Names.{administrators, registered_users}
 use Rattle.review_words.specs.History.{Entry, accepted, is_listed, listed_members, put}
-use Rattle.review_words.specs.declared.command.Command.{Command, TheVariants.PutGroup}
+use Rattle.review_machine_rows.proofs.Common.{Command, Equal, Greater, Less, Ordering, PutGroup, administrators, bytes_eq-Decides, cases_Bool, is_eq-slice_cmp, list_any, registered_users, slice_cmp}
 use Rattle.review_machine_rows.specs.Changes.{group_put, groups_of}
 
 abbrev by_name : List ℕ → List ℕ → Ordering
 by_name = slice_cmp nat_cmp
 
 flipped : (a b : List ℕ) → bytes_eq a b ≡ bytes_eq b a
-flipped a b =
-    ⊎_elim
+flipped a b = ⊎_elim
     (λ (t : bytes_eq a b ≡ true). t ∙ sym ((bytes_eq-Decides b a).1 (sym ((bytes_eq-Decides a b).0 t))))
     (λ (f : bytes_eq a b ≡ false). f ∙ sym (not_either f))
     (cases_Bool (bytes_eq a b))
   where
     not_either : bytes_eq a b ≡ false → bytes_eq b a ≡ false
-    not_either f =
-        ⊎_elim
+    not_either f = ⊎_elim
         (λ (t : bytes_eq b a ≡ true). let bad : false ≡ true = sym f ∙ (bytes_eq-Decides a b).1 (sym ((bytes_eq-Decides b a).0 t)) in absurd (cc))
         (λ (g : bytes_eq b a ≡ false). g)
         (cases_Bool (bytes_eq b a))
@@ -56,8 +51,7 @@ put_lookup (e ∷ es) k v q = go (put_lookup es k v q) (by_name k e.0) refl
         ∙ swap (is_at (by_name q) e.0) (bytes_eq k q) (λ (t : is_at (by_name q) e.0 ≡ true). apart t)
       where
         apart : is_at (by_name q) e.0 ≡ true → bytes_eq k q ≡ false
-        apart t =
-            ⊎_elim
+        apart t = ⊎_elim
             (λ (u : bytes_eq k q ≡ true).
             let one : e.0 ≡ q = (bytes_eq-Decides e.0 q).0 (sym (at_name q e.0) ∙ t) in
             let two : k ≡ q = (bytes_eq-Decides k q).0 u in

@@ -1,13 +1,10 @@
 -- Lines of projects that end, and what a new file makes of the files along them.
 use Rattle.std.proofs.Common.{◌≡◌, ℕ, ◌+◌, ◌<◌, zero, suc, List, [], ◌∷◌, length, Option, Some, None, Bool, true, false, refl, sym, ap, ◌∙◌, arith, not, ◌&&◌, option_and_then, option_map, bytes_eq, subst}
-use Rattle.std.{proofs.lemmas.Slice.Eq.bytes_eq-Decides, specs.Option.option_map_or}
-use Rattle.review_expr.specs.declared.expr.Expr.{Expr}
+use Rattle.std.proofs.lemmas.Bool.{and_parts, and_from, not_from_false, not-true}
 use Rattle.review_file_rules.proofs.Known.{OrderedLabels, child_covers, covers_itself, inherited_ordered, inherits_known, still_known}
-use Rattle.review_file_rules.specs.Expressions.{names_unknown_label}
-use Rattle.review_file_rules.specs.{Inherited.inherit, Inherited.inherits_unknown_label, Reading.IsRead, Rights.covers}
-use Rattle.{review_file_rules.specs.View.FileView, review_file.proofs.SoundLabels.labels_in_order}
-use Rattle.review_machine_rows.specs.Changes.{Reading, effective_of}
-use Rattle.review_machine_rows.specs.{Lines.line_of, Lines.with_above, declared.rows.StoredFile.StoredFile}
+use Rattle.review_file_rules.specs.{Expressions.names_unknown_label, Reading.IsRead}
+use Rattle.review_file.proofs.SoundLabels.{labels_in_order}
+use Rattle.review_machine_rows.proofs.Common.{Expr, FileView, Reading, StoredFile, bytes_eq-Decides, covers, effective_of, inherit, inherits_unknown_label, line_of, option_map_or, with_above}
 use Rattle.review_machine_laws.specs.Ends.{ends, ends_above, ends_by}
 
 -- ==== lines that end: what a project's line is, however far it is followed, and which projects stand in it
@@ -116,26 +113,6 @@ abbrev pub avoids : Files → List ℕ → ℕ → List ℕ → Bool
 avoids own x zero project = true
 avoids own x (suc n) project = not (bytes_eq x project) && option_map_or (avoids own x n) (option_and_then (λ f. f.parent) (own project)) true
 
-pub both_true : (a b : Bool) → a ≡ true → b ≡ true → (a && b) ≡ true
-both_true true b h g = g
-both_true false b h g = h
-
-pub left_true : (a b : Bool) → (a && b) ≡ true → a ≡ true
-left_true true b h = refl
-left_true false b h = h
-
-pub right_true : (a b : Bool) → (a && b) ≡ true → b ≡ true
-right_true true b h = h
-right_true false b h = absurd (let none : false ≡ true = h in cc)
-
-pub not_true : (b : Bool) → b ≡ false → not b ≡ true
-not_true true h = absurd (let none : true ≡ false = h in cc)
-not_true false h = refl
-
-pub true_not : (b : Bool) → not b ≡ true → b ≡ false
-true_not true h = absurd (let none : false ≡ true = h in cc)
-true_not false h = refl
-
 -- where two tests differ at two projects, these are two
 two : (own : Files) (n : ℕ) (x project : List ℕ) → ends own n project ≡ true → ends own n x ≡ false → bytes_eq x project ≡ false
 two own n x project h g = by (bytes_eq x project) refl
@@ -156,8 +133,8 @@ pub shorter_avoids : (own : Files) (x : List ℕ) (n : ℕ) (project : List ℕ)
 shorter_avoids own x zero project h g = refl
 shorter_avoids own x (suc n) project h g =
     let b = begins own n project h in
-    both_true (not (bytes_eq x project)) (option_map_or (avoids own x n) (option_and_then (λ f. f.parent) (own project)) true)
-    (not_true (bytes_eq x project) (two own (suc n) x project h g))
+    and_from (not (bytes_eq x project)) (option_map_or (avoids own x n) (option_and_then (λ f. f.parent) (own project)) true)
+    (not_from_false (bytes_eq x project) (two own (suc n) x project h g))
     (ap (λ o. option_map_or (avoids own x n) (option_and_then (λ f. f.parent) o) true) b.there ∙ above b.file.parent (λ q e. shorter_avoids own x n q e (not_ends own n x g)) b.above)
   where
     above : (p : Option (List ℕ)) → ((q : List ℕ) → ends own n q ≡ true → avoids own x n q ≡ true) → ends_above p (ends own n) ≡ true → option_map_or (avoids own x n) p true ≡ true
@@ -167,8 +144,7 @@ shorter_avoids own x (suc n) project h g =
 -- A line that ends never comes to a project that isn't there.
 pub there_avoids : (own : Files) (x : List ℕ) (n : ℕ) (project : List ℕ) → ends own n project ≡ true → own x ≡ None → avoids own x n project ≡ true
 there_avoids own x zero project h none = refl
-there_avoids own x (suc n) project h none =
-    shorter_avoids own x (suc n) project h (ap (λ o. ends_by o (ends own n)) none)
+there_avoids own x (suc n) project h none = shorter_avoids own x (suc n) project h (ap (λ o. ends_by o (ends own n)) none)
 
 -- what two have alike but for one project
 abbrev pub SameBut : List ℕ → Files → Files → Type 0
@@ -178,8 +154,8 @@ SameBut x own new = (q : List ℕ) → bytes_eq x q ≡ false → new q ≡ own 
 pub line_spared : (own new : Files) (x : List ℕ) → SameBut x own new → (n : ℕ) (project : List ℕ) → avoids own x n project ≡ true → line_of new n project ≡ line_of own n project
 line_spared own new x same zero project h = refl
 line_spared own new x same (suc n) project h =
-    ap (λ o. with_above o (line_of new n)) (same project (true_not (bytes_eq x project) (left_true (not (bytes_eq x project)) (option_map_or (avoids own x n) (option_and_then (λ f. f.parent) (own project)) true) h)))
-    ∙ by (own project) (λ q e. line_spared own new x same n q e) (right_true (not (bytes_eq x project)) (option_map_or (avoids own x n) (option_and_then (λ f. f.parent) (own project)) true) h)
+    ap (λ o. with_above o (line_of new n)) (same project (not-true (bytes_eq x project) ((and_parts (not (bytes_eq x project)) (option_map_or (avoids own x n) (option_and_then (λ f. f.parent) (own project)) true) h).0)))
+    ∙ by (own project) (λ q e. line_spared own new x same n q e) ((and_parts (not (bytes_eq x project)) (option_map_or (avoids own x n) (option_and_then (λ f. f.parent) (own project)) true) h).1)
   where
     above : (p : Option (List ℕ)) → ((q : List ℕ) → avoids own x n q ≡ true → line_of new n q ≡ line_of own n q) → option_map_or (avoids own x n) p true ≡ true →
         option_map_or (line_of new n) p [] ≡ option_map_or (line_of own n) p []
@@ -193,8 +169,8 @@ line_spared own new x same (suc n) project h =
 pub ends_spared : (own new : Files) (x : List ℕ) → SameBut x own new → (n : ℕ) (project : List ℕ) → avoids own x n project ≡ true → ends new n project ≡ ends own n project
 ends_spared own new x same zero project h = refl
 ends_spared own new x same (suc n) project h =
-    ap (λ o. ends_by o (ends new n)) (same project (true_not (bytes_eq x project) (left_true (not (bytes_eq x project)) (option_map_or (avoids own x n) (option_and_then (λ f. f.parent) (own project)) true) h)))
-    ∙ by (own project) (λ q e. ends_spared own new x same n q e) (right_true (not (bytes_eq x project)) (option_map_or (avoids own x n) (option_and_then (λ f. f.parent) (own project)) true) h)
+    ap (λ o. ends_by o (ends new n)) (same project (not-true (bytes_eq x project) ((and_parts (not (bytes_eq x project)) (option_map_or (avoids own x n) (option_and_then (λ f. f.parent) (own project)) true) h).0)))
+    ∙ by (own project) (λ q e. ends_spared own new x same n q e) ((and_parts (not (bytes_eq x project)) (option_map_or (avoids own x n) (option_and_then (λ f. f.parent) (own project)) true) h).1)
   where
     above : (p : Option (List ℕ)) → ((q : List ℕ) → avoids own x n q ≡ true → ends new n q ≡ ends own n q) → option_map_or (avoids own x n) p true ≡ true → ends_above p (ends new n) ≡ ends_above p (ends own n)
     above None later e = refl
@@ -290,8 +266,7 @@ module _ (reading : Reading) where
     where
       by : (b : Bool) → bytes_eq x q ≡ b → option_map (λ (f : StoredFile). f.parent) (new q) ≡ option_map (λ (f : StoredFile). f.parent) (own q)
       by true is =
-          let same = (bytes_eq-Decides x q).0 is in
-          subst (λ z. option_map (λ (f : StoredFile). f.parent) (new z) ≡ option_map (λ (f : StoredFile). f.parent) (own z)) same
+          subst (λ z. option_map (λ (f : StoredFile). f.parent) (new z) ≡ option_map (λ (f : StoredFile). f.parent) (own z)) ((bytes_eq-Decides x q).0 is)
           (ap (option_map (λ (f : StoredFile). f.parent)) put.has ∙ (ap Some put.parent ∙ sym (ap (option_map (λ (f : StoredFile). f.parent)) put.had)))
       by false is = ap (option_map (λ (f : StoredFile). f.parent)) (put.others q is)
 
@@ -315,7 +290,6 @@ module _ (reading : Reading) where
       by : (m : ℕ) → m < suc n → ends own m parent ≡ true → ends own m x ≡ false → IsAbove own new n parent
       by m less e before =
           let avoid = shorter_avoids own x m parent e before in
-          let line = line_spared own new x put.others m parent avoid in
           let end : ends new m parent ≡ true = ends_spared own new x put.others m parent avoid ∙ e in
           let k = gap m n less in
           let sum : more k.0 m ≡ n = k.1 in
@@ -324,7 +298,7 @@ module _ (reading : Reading) where
             after = subst (λ i. ends new i parent ≡ true) sum (ends_later new k.0 m parent end);
             same =
                 subst (λ i. eff reading new i parent ≡ eff reading own i parent) sum
-                (eff_later new k.0 m parent end ∙ (ap (effective_of reading) line ∙ sym (eff_later own k.0 m parent e)));
+                (eff_later new k.0 m parent end ∙ (ap (effective_of reading) (line_spared own new x put.others m parent avoid) ∙ sym (eff_later own k.0 m parent e)));
           }
 
   -- The new own file makes this effective file, where its parent's stays.

@@ -1,27 +1,20 @@
 -- The files of every history: they are sound, and keep what they had.
-use Rattle.std.proofs.Common.{◌≡◌, ℕ, List, [], ◌∷◌, Option, Some, None, Bool, true, false, not, refl, ⊎_elim, ◌||◌, nat_lt, MatchOption, ◌∙◌, cond, sym, ap, subst, arith, is_some, bytes_eq, ◌<◌, ◌&&◌, is_none, zero, suc}
-use Rattle.std.proofs.lemmas.{Bool.Decides.nat_tests, Slice.Eq.bytes_eq-Decides}
-use Rattle.std.specs.{List.AllByRecursion, Option.option_map_or}
+use Rattle.std.proofs.Common.{◌≡◌, ℕ, List, [], ◌∷◌, Option, Some, None, Bool, true, false, not, refl, ⊎_elim, ◌||◌, nat_lt, ◌∙◌, cond, sym, ap, subst, arith, is_some, bytes_eq, ◌<◌, ◌&&◌, is_none, zero, suc}
+use Rattle.std.{proofs.lemmas.Slice.Eq.bytes_eq-Decides, specs.List.AllByRecursion}
 use Rattle.review_words.specs.History.{Entry, is_project, project_count, accepted, file_text, text_put, if_done}
-use Rattle.review_words.specs.declared.command.Command.{Command, TheVariants.PutProject}
-use Rattle.review_words.specs.declared.faults.FileFault.TheVariants.{UnknownLabel}
-use Rattle.review_words.specs.declared.reply.{Answer.Answer, Answer.TheVariants.Nothing, Refusal.Refusal}
 use Rattle.review_words.specs.declared.reply.Refusal.TheVariants.{BadFile, LabelNarrowed, Limit, NoParent, ParentDepth, ParentFixed}
-use Rattle.review_words.specs.declared.reply.Reply.{Reply, TheVariants.Done, TheVariants.Refused}
-use Rattle.review_expr.specs.declared.expr.Expr.{Expr}
 use Rattle.review_file_rules.proofs.Known.{OrderedLabels, covers_itself}
 use Rattle.review_file_rules.proofs.Trees.{covers_alike, inherit_alike, inherits_alike, OneFile}
 use Rattle.review_file_rules.specs.Expressions.{names_unknown_label}
 use Rattle.review_file_rules.specs.Inherited.{inherit, inherits_unknown_label, IsEffective}
-use Rattle.review_file_rules.specs.Reading.{IsRead, named_parent}
-use Rattle.review_file_rules.specs.{Rights.covers, Trees.ExprTree, Trees.file_trees, View.FileView}
+use Rattle.review_file_rules.specs.{Reading.IsRead, Reading.named_parent, Trees.ExprTree, Trees.file_trees}
 use Rattle.review_file.proofs.SoundLabels.{labels_in_order, known_labels}
-use Rattle.review_machine_rows.proofs.{Lined.there_is, Readings.IsDoneBy, Readings.done_of, Readings.read_of}
+use Rattle.review_machine_rows.proofs.Common.{Answer, Command, Done, Expr, File, FileView, HasFile, Nothing, PutProject, Refusal, Refused, Reply, StoredFile, UnknownLabel, covers, nat_tests, not-true, option_map_or}
+use Rattle.review_machine_rows.proofs.Lined.{there_is}
+use Rattle.review_machine_rows.proofs.Readings.{not_refused, IsDoneBy, done_of, read_of}
 use Rattle.review_machine_rows.specs.Answer.{IsAnswerBy, IsFaultAnswer, IsFileAnswer, file_checks, file_with, first_refusal, keeps_parent, puts_unknown_label, refused_by, refused_or, IsHistory, is_same_parent}
 use Rattle.review_machine_rows.specs.Changes.{Reading, depth, file_of, effective_of, own_of, placed, IsReadRight, Reads, texts_of}
-use Rattle.review_machine_rows.specs.{Files.File, Limits.most_projects}
-use Rattle.review_machine_rows.specs.Lines.{most_depth, line_of, with_above}
-use Rattle.review_machine_rows.specs.{Steps.HasFile, declared.rows.StoredFile.StoredFile}
+use Rattle.review_machine_rows.specs.{Limits.most_projects, Lines.most_depth, Lines.line_of, Lines.with_above}
 use Rattle.review_machine_laws.proofs.Growing.{Files, more, more_is, SameBut, begins, began, ends_alike, ends_later, ends_spared, line_spared, there_avoids, ends_short, AreSpelled, IsPutAgain, OwnKnown, all_grow, eff, eff_later, eff_ordered, own_still_known, put_is, same_parents, eff_known}
 use Rattle.review_machine_laws.specs.Ends.{ends, ends_above}
 pub use Rattle.review_file.proofs.Parents.{parent_named}
@@ -49,14 +42,6 @@ five true true false d e f h = absurd (cc)
 five true true true false e f h = absurd (cc)
 five true true true true false f h = absurd (cc)
 
-not_false : (b : Bool) → not b ≡ true → b ≡ false
-not_false true h = absurd (let none : false ≡ true = h in cc)
-not_false false h = refl
-
-not_refused : {A : Type 0} (o : Option Refusal) (a : Answer) → MatchOption o A (λ r. Done a ≡ Refused r) → A
-not_refused None a outcome = outcome
-not_refused (Some r) a refused = absurd (cc)
-
 -- A file that was put was acceptable, and the text spells it.
 pub acceptable : (reading : Reading) (h : List Entry) (caller : ℕ) (project text : List ℕ) (a : Answer) → IsAnswerBy reading h caller (PutProject project text) (Done a) →
     (own : File) × IsRead text own × IsAcceptable reading h project own
@@ -68,7 +53,7 @@ acceptable reading h caller project text a answer =
     five (keeps_parent h project own.parent) (option_map_or (is_project h) own.parent true) (option_map_or (λ parent. nat_lt (depth h parent) most_depth) own.parent true) (not (puts_unknown_label reading h own))
     (not (is_project h project) || covers (file_of reading h project) (file_with reading h own)) (is_project h project || nat_lt (project_count h) most_projects)
     (done_or (first_refusal (file_checks reading h project own)) a Nothing file.2) in
-    (own, file.1, record { keeps = all.0; there = all.1; low = all.2; known = not_false (puts_unknown_label reading h own) all.3; covers = all.4 }))
+    (own, file.1, record { keeps = all.0; there = all.1; low = all.2; known = not-true (puts_unknown_label reading h own) all.3; covers = all.4 }))
     (not_refused (refused_by reading h caller (PutProject project text)) a answer)
 
 -- ==== what is so of the files of every history
@@ -128,13 +113,23 @@ some_of (Some g) f is = refl
 the_same : (o : Option StoredFile) (f g : StoredFile) → o ≡ Some f → o ≡ Some g → f ≡ g
 the_same o f g is also = let e : Some f ≡ Some g = sym is ∙ also in cc
 
+-- what holds of the file that was put, and of those that stay, holds of each
+put_at : (own new : Files) (x : List ℕ) (now : StoredFile) → new x ≡ Some now → SameBut x own new → (q : List ℕ) (f : StoredFile) → new q ≡ Some f → (P : List ℕ → StoredFile → Type 0) → P x now → (own q ≡ Some f → P q f) → P q f
+put_at own new x now has others q f is P here there = by (bytes_eq x q) refl
+  where
+    by : (b : Bool) → bytes_eq x q ≡ b → P q f
+    by true e =
+        let same = (bytes_eq-Decides x q).0 e in
+        let file : now ≡ f = the_same (new q) now f (sym (ap new same) ∙ has) is in
+        subst (P q) file (subst (λ z. P z now) same here)
+    by false e = there (sym (others q e) ∙ is)
+
 module _ (reading : Reading) where
   -- the parent of a project has a line that ends sooner
   pub parent_ends : (own : Files) → AreSoundFiles reading own → (q : List ℕ) (f : StoredFile) → own q ≡ Some f → (p : List ℕ) → f.parent ≡ Some p → ends own 7 p ≡ true
   parent_ends own sound q f is p has =
       let b = begins own 7 q (sound.end q (some_of (own q) f is)) in
-      let same = the_same (own q) b.file f b.there is in
-      subst (λ o. ends_above o (ends own 7) ≡ true) (ap (λ (g : StoredFile). g.parent) same ∙ has) b.above
+      subst (λ o. ends_above o (ends own 7) ≡ true) (ap (λ (g : StoredFile). g.parent) (the_same (own q) b.file f b.there is) ∙ has) b.above
 
   ordered : (own : Files) → AreSoundFiles reading own → (q : List ℕ) (f : StoredFile) → own q ≡ Some f → OrderedLabels (reading f.text).labels
   ordered own sound q f is = labels_in_order f.text (reading f.text) (sound.spelled q f is)
@@ -172,23 +167,13 @@ module _ (reading : Reading) where
 
     pub first_sound : IsRead now.text (reading now.text) → (reading now.text).parent ≡ now.parent → ((p : List ℕ) → now.parent ≡ Some p → ends own 7 p ≡ true) → OwnKnown reading own most_depth now → AreSoundFiles reading new
     first_sound read names below k = record {
-      spelled = λ q f is. at q f is (λ z g. IsRead g.text (reading g.text)) read (λ was. sound.spelled q f was);
-      parents = λ q f is. at q f is (λ z g. (reading g.text).parent ≡ g.parent) names (λ was. sound.parents q f was);
+      spelled = λ q f is. put_at own new x now put.has put.others q f is (λ z g. IsRead g.text (reading g.text)) read (λ was. sound.spelled q f was);
+      parents = λ q f is. put_at own new x now put.has put.others q f is (λ z g. (reading g.text).parent ≡ g.parent) names (λ was. sound.parents q f was);
       end = λ q is. end_by q is (bytes_eq x q) refl;
-      known = λ q f is. at q f is (λ z g. OwnKnown reading new most_depth g) (first_known now (λ p has. ends_later own 1 7 p (below p has)) k)
+      known = λ q f is. put_at own new x now put.has put.others q f is (λ z g. OwnKnown reading new most_depth g) (first_known now (λ p has. ends_later own 1 7 p (below p has)) k)
           (λ was. first_known f (λ p has. ends_later own 1 7 p (parent_ends own sound q f was p has)) (sound.known q f was));
     }
       where
-        at : (q : List ℕ) (f : StoredFile) → new q ≡ Some f → (P : List ℕ → StoredFile → Type 0) → P x now → (own q ≡ Some f → P q f) → P q f
-        at q f is P here there = by (bytes_eq x q) refl
-          where
-            by : (b : Bool) → bytes_eq x q ≡ b → P q f
-            by true e =
-                let same = (bytes_eq-Decides x q).0 e in
-                let file : now ≡ f = the_same (new q) now f (sym (ap new same) ∙ put.has) is in
-                subst (P q) file (subst (λ z. P z now) same here)
-            by false e = there (sym (put.others q e) ∙ is)
-
         above : (o : Option (List ℕ)) → now.parent ≡ o → ends_above o (ends new 7) ≡ true
         above None none = refl
         above (Some p) has = (spared 7 p (below p has)).0
@@ -200,18 +185,8 @@ module _ (reading : Reading) where
   -- ---- a new file of a project that has one
 
   module _ (own new : Files) (x : List ℕ) (was now : StoredFile) (sound : AreSoundFiles reading own) (put : IsPutAgain reading own new x was now) (read : IsRead now.text (reading now.text)) where
-    again_at : (q : List ℕ) (f : StoredFile) → new q ≡ Some f → (P : List ℕ → StoredFile → Type 0) → P x now → (own q ≡ Some f → P q f) → P q f
-    again_at q f is P here there = by (bytes_eq x q) refl
-      where
-        by : (b : Bool) → bytes_eq x q ≡ b → P q f
-        by true e =
-            let same = (bytes_eq-Decides x q).0 e in
-            let file : now ≡ f = the_same (new q) now f (sym (ap new same) ∙ put.has) is in
-            subst (P q) file (subst (λ z. P z now) same here)
-        by false e = there (sym (put.others q e) ∙ is)
-
     better : AreSpelled reading new
-    better q f is = again_at q f is (λ z g. IsRead g.text (reading g.text)) read (λ had. sound.spelled q f had)
+    better q f is = put_at own new x now put.has put.others q f is (λ z g. IsRead g.text (reading g.text)) read (λ had. sound.spelled q f had)
 
     alike : (n : ℕ) (q : List ℕ) → ends new n q ≡ ends own n q
     alike n q = ends_alike own new (same_parents reading own new x was now put) n q
@@ -234,9 +209,8 @@ module _ (reading : Reading) where
 
     here : covers (eff reading own most_depth x) (made now.parent) ≡ true → (n : ℕ) → ends own n x ≡ true → covers (eff reading own n x) (eff reading new n x) ≡ true
     here h n e =
-        let old = eff_same reading own n most_depth x e x_ends in
         let later = eff_same reading new n most_depth x (alike n x ∙ e) (alike most_depth x ∙ x_ends) ∙ new_is in
-        ap (λ v. covers v (eff reading new n x)) old ∙ (ap (covers (eff reading own most_depth x)) later ∙ h)
+        ap (λ v. covers v (eff reading new n x)) (eff_same reading own n most_depth x e x_ends) ∙ (ap (covers (eff reading own most_depth x)) later ∙ h)
 
     -- each project's effective file keeps what it had
     pub again_grows : covers (eff reading own most_depth x) (made now.parent) ≡ true → Grow reading own new
@@ -245,9 +219,9 @@ module _ (reading : Reading) where
     pub again_sound : covers (eff reading own most_depth x) (made now.parent) ≡ true → (reading now.text).parent ≡ now.parent → OwnKnown reading own most_depth now → AreSoundFiles reading new
     again_sound h names k = record {
       spelled = better;
-      parents = λ q f is. again_at q f is (λ z g. (reading g.text).parent ≡ g.parent) names (λ had. sound.parents q f had);
+      parents = λ q f is. put_at own new x now put.has put.others q f is (λ z g. (reading g.text).parent ≡ g.parent) names (λ had. sound.parents q f had);
       end = λ q is. end_by q is (bytes_eq x q) refl;
-      known = λ q f is. again_at q f is (λ z g. OwnKnown reading new most_depth g)
+      known = λ q f is. put_at own new x now put.has put.others q f is (λ z g. OwnKnown reading new most_depth g)
           (still now (labels_in_order now.text (reading now.text) read) (λ p has. parent_ends own sound x was put.had p (sym put.parent ∙ has)) k)
           (λ had. still f (ordered own sound q f had) (λ p has. parent_ends own sound q f had p has) (sound.known q f had));
     }
@@ -285,7 +259,7 @@ Steps reading own new = AreSoundFiles reading new × Grow reading own new
 stays : (reading : Reading) (own : Files) → AreSoundFiles reading own → Steps reading own own
 stays reading own sound = (sound, λ q is. let h = sound.end q is in covers_itself (eff reading own most_depth q) (eff_ordered reading own sound.spelled most_depth q h))
 
-same_name : (a b : Option (List ℕ)) → is_same_parent a b ≡ true → a ≡ b
+pub same_name : (a b : Option (List ℕ)) → is_same_parent a b ≡ true → a ≡ b
 same_name None None h = refl
 same_name (Some a) (Some b) h = ap Some ((bytes_eq-Decides a b).0 h)
 same_name None (Some b) h = absurd (let none : false ≡ true = h in cc)
@@ -334,10 +308,9 @@ module _ (one : OneFile) (reading : Reading) (h : List Entry) (sound : AreSoundF
       where
         by : (o : Option (List ℕ)) → named_parent text ≡ o → option_map_or (λ p. inherits_unknown_label (eff reading (own_of h) most_depth p) (reading text)) (named_parent text) (names_unknown_label (reading text)) ≡ false
         by None none =
-            let alone = known_labels text (reading text) read in
             let parent : (reading text).parent ≡ None = names ∙ none in
             ap (λ o. option_map_or (λ p. inherits_unknown_label (eff reading (own_of h) most_depth p) (reading text)) o (names_unknown_label (reading text))) none
-            ∙ (sym (ap (λ o. is_none o && names_unknown_label (reading text)) parent) ∙ alone)
+            ∙ (sym (ap (λ o. is_none o && names_unknown_label (reading text)) parent) ∙ (known_labels text (reading text) read))
         by (Some p) is =
             ap (λ o. option_map_or (λ r. inherits_unknown_label (eff reading (own_of h) most_depth r) (reading text)) o (names_unknown_label (reading text))) is
             ∙ (sym (inherits_alike (file_of reading h p) file (reading text) trees)
@@ -409,8 +382,7 @@ labels_known one reading h history reads project is =
   where
     line_parent : AreSoundFiles reading (own_of h) → (q : List ℕ) (f : StoredFile) → own_of h q ≡ Some f → (p : List ℕ) → f.parent ≡ Some p → is_some (own_of h p) ≡ true
     line_parent sound q f there p has =
-        let low = parent_ends reading (own_of h) sound q f there p has in
-        let b = begins (own_of h) 6 p low in
+        let b = begins (own_of h) 6 p (parent_ends reading (own_of h) sound q f there p has) in
         ap is_some b.there
 
     at : AreSoundFiles reading (own_of h) → (n : ℕ) (q : List ℕ) (f : StoredFile) → own_of h q ≡ Some f → ends_above f.parent (ends (own_of h) n) ≡ true → OwnKnown reading (own_of h) n f
@@ -422,9 +394,8 @@ labels_known one reading h history reads project is =
             ∙ (sym (ap (λ o. option_map_or (λ p. inherits_unknown_label (eff reading (own_of h) most_depth p) (reading f.text)) o (names_unknown_label (reading f.text))) none) ∙ sound.known q f there)
         by (Some p) has =
             let here : ends (own_of h) n p ≡ true = subst (λ o. ends_above o (ends (own_of h) n) ≡ true) has above in
-            let whole = sound.end p (line_parent sound q f there p has) in
             ap (λ o. option_map_or (λ r. inherits_unknown_label (eff reading (own_of h) n r) (reading f.text)) o (names_unknown_label (reading f.text))) has
-            ∙ (ap (λ v. inherits_unknown_label v (reading f.text)) (eff_same reading (own_of h) n most_depth p here whole)
+            ∙ (ap (λ v. inherits_unknown_label v (reading f.text)) (eff_same reading (own_of h) n most_depth p here (sound.end p (line_parent sound q f there p has)))
             ∙ (sym (ap (λ o. option_map_or (λ r. inherits_unknown_label (eff reading (own_of h) most_depth r) (reading f.text)) o (names_unknown_label (reading f.text))) has) ∙ sound.known q f there))
 
 -- ==== the effective file that was read of a line is the one of the history

@@ -1,21 +1,16 @@
 -- Which changes joined a branch, and at which places.
-use Rattle.std.proofs.Common.{◌≡◌, ℕ, List, ◌∷◌, Option, Some, None, refl, subst, inl, inr, MatchOption, ◌⊎◌, ◌+◌, ◌==◌, [], ◌++◌, length, Bool, true, false, cond, ◌&&◌, sym, ap, ◌∙◌, ⊎_elim, arith, eqb-true, append-nil, is_some, option_map, bytes_eq, ◌<◌, ◌≤◌, leb-true, All, Contains, nat_le, ◌||◌}
-use Rattle.std.proofs.lemmas.Bool.{not-true, and_right, and_parts, and_from, Decides.nat_tests}
-use Rattle.std.proofs.lemmas.List.{Elements.All-from_recursion, Folds.list_any-append}
+use Rattle.std.proofs.Common.{◌≡◌, ℕ, List, ◌∷◌, Option, Some, None, refl, subst, inl, inr, ◌⊎◌, ◌+◌, ◌==◌, [], ◌++◌, length, Bool, true, false, cond, ◌&&◌, sym, ap, ◌∙◌, ⊎_elim, arith, eqb-true, append-nil, is_some, option_map, bytes_eq, ◌<◌, ◌≤◌, leb-true, All, Contains, nat_le, ◌||◌}
+use Rattle.std.proofs.lemmas.Bool.{not-true, and_right, and_parts, and_from}
 use Rattle.std.proofs.lemmas.Map.{Keys.IsDistinct-cons, Steps.length-le_from_distinct_below}
 use Rattle.std.specs.{List.AllByRecursion, List.IsDistinct, List.list_any, Option.option_or, Option.option_map_or}
+use Rattle.review_table.proofs.Plain.{or_none}
 use Rattle.review_words.specs.History.{Entry, is_account, if_done, accepted, bases, is_base, with_base}
-use Rattle.review_words.specs.declared.command.{ChangeCommand.ChangeCommand, Command.Command}
 use Rattle.review_words.specs.declared.command.Command.TheVariants.{Submit, RecordBase, CreateChange, OnChange}
-use Rattle.review_words.specs.declared.reply.Answer.{Answer, TheVariants.Submitted}
-use Rattle.review_words.specs.declared.reply.Refusal.{Refusal, TheVariants.UnknownCaller}
-use Rattle.review_words.specs.declared.reply.Reply.{Reply, TheVariants.Done, TheVariants.Refused}
 use Rattle.review_words.specs.declared.shown.State.{State, TheVariants.New, TheVariants.Merged}
 use Rattle.review_chain.proofs.Walking.{chain_ready, chain_distinct}
-use Rattle.review_chain.specs.{Walks.IsReady, declared.links.Link.Link}
 use Rattle.review_core_rules.specs.Change.{Change, after, begun, is_open, state_by, commit, of_number, parent, patches_by}
-use Rattle.review_core_rules.specs.{Facts.IsFirstUnsatisfied, declared.rows.PatchRow.PatchRow}
-use Rattle.review_machine_rows.proofs.Readings.{IsDoneBy, done_of}
+use Rattle.review_machine_rows.proofs.Common.{All-from_recursion, Answer, ChangeCommand, Command, Done, IsFirstUnsatisfied, IsReady, Link, PatchRow, Refused, Reply, Submitted, UnknownCaller, list_any-append, nat_tests}
+use Rattle.review_machine_rows.proofs.Readings.{not_refused, IsDoneBy, done_of}
 use Rattle.review_machine_rows.specs.Answer.{IsAnswerBy, IsOutcome, checks, of_change, refused_by, submit_checks, IsHistory, request_checks}
 use Rattle.review_machine_rows.specs.Changes.{Reading, change, Reads, change_by, change_count, is_for, is_made_for, joined, joined_by, joined_in, joining, joining_at, place_in, setting_of, submitted}
 use Rattle.review_machine_rows.specs.Submits.{IsOf, IsSubmitAnswer, checked_reply, judged_after, branch_after, is_merged}
@@ -48,23 +43,16 @@ accepted_of reading h caller m (Some c) a there pass (inr good) =
       told = none.1;
     }
 
--- an answer that is no refusal is given where no check refuses
-not_refused : {A : Type 0} (o : Option Refusal) (a : Answer) → MatchOption o A (λ r. Done a ≡ Refused r) → A
-not_refused None a outcome = outcome
-not_refused (Some r) a refused = absurd (cc)
-
 pub submit_accepted : (reading : Reading) (h : List Entry) (caller m : ℕ) (a : Answer) → IsAnswerBy reading h caller (Submit m) (Done a) → IsAccepted reading h m a
 submit_accepted reading h caller m a answer =
-    let none = done_passes reading h caller (Submit m) a answer in
-    let pass = (all_pass ((is_account h caller, UnknownCaller) ∷ checks reading h caller (Submit m)) none).1 in
+    let pass = (all_pass ((is_account h caller, UnknownCaller) ∷ checks reading h caller (Submit m)) (done_passes reading h caller (Submit m) a answer)).1 in
     accepted_of reading h caller m (change reading h m) a refl pass (not_refused {A = IsOutcome reading h caller (Submit m) (Done a)} (refused_by reading h caller (Submit m)) a answer)
 
 -- ==== the place of a change in the list of those that joined its branch is its place
 
 -- a change that isn't merged has none
 pub not_placed : (project branch : List ℕ) (c : Change) → is_merged c.state ≡ false → place_of project branch (Some c) ≡ None
-not_placed project branch c free =
-    ap (λ b. cond b (Some c.place) None) (and_right (is_for project branch c) (is_merged c.state) free)
+not_placed project branch c free = ap (λ b. cond b (Some c.place) None) (and_right (is_for project branch c) (is_merged c.state) free)
 
 -- ---- requests on a change keep its place
 
@@ -92,7 +80,7 @@ none_from : {X : Type 0} (o : Option X) → is_some o ≡ false → o ≡ None
 none_from None e = refl
 none_from (Some x) e = absurd (cc)
 
-past : (c : ℕ) → is_up_to c (c + 1) ≡ false
+pub past : (c : ℕ) → is_up_to c (c + 1) ≡ false
 past c = grind (arith, nat_tests)
 
 -- the next number is that of no change
@@ -127,8 +115,7 @@ linked_unmerged reading h project branch n r =
 
 -- each change of an accepted chain is for its branch, and wasn't merged
 pub unmerged : (reading : Reading) (h : List Entry) (m : ℕ) (a : Answer) (s : IsAccepted reading h m a) (n k : ℕ) → place_in s.chain n ≡ Some k → IsUnmerged reading h s.of.project s.of.branch n
-unmerged reading h m a s n k is =
-    ⊎_elim
+unmerged reading h m a s n k is = ⊎_elim
     (λ (last : n ≡ m). record {
       of = s.of;
       there = ap (change reading h) last ∙ s.there;
@@ -143,10 +130,6 @@ same_branches : (project branch : List ℕ) (c x : Change) → is_for c.project 
 same_branches project branch c x e =
     let to = for_branch c.project c.branch x e in
     λ i. bytes_eq (sym to.0 i) project && bytes_eq (sym to.1 i) branch
-
-or_none : (o : Option ℕ) → option_or o None ≡ o
-or_none None = refl
-or_none (Some k) = refl
 
 placed_at : (h : List Entry) (project branch : List ℕ) (x : Change) (chain : List ℕ) (n k : ℕ) (b : Bool) → is_for project branch x ≡ b → place_in chain n ≡ Some k →
     option_map (λ j. length (joined h project branch) + j) (place_in (cond b chain []) n) ≡ cond (b && true) (Some (length (joined h x.project x.branch) + k)) None

@@ -1,9 +1,6 @@
 -- A change for a branch, as a link in it.
 use Rattle.std.proofs.Common.{◌≡◌, ℕ, List, Option, Some, None, Bool, true, false, cond, refl, option_map, bytes_eq}
-use Rattle.std.proofs.lemmas.{Bool.and_from, Bool.and_parts, Slice.Eq.bytes_eq-Decides}
-use Rattle.review_chain.specs.declared.links.Link.{Link}
-use Rattle.review_core_rules.specs.Change.{Change, current, current_patch}
-use Rattle.review_core_rules.specs.declared.rows.PatchRow.{PatchRow}
+use Rattle.review_machine_rows.proofs.Common.{Change, Link, PatchRow, and_from, and_parts, bytes_eq-Decides, current, current_patch}
 use Rattle.review_machine_rows.specs.Links.{is_for, link_for, link_of}
 
 -- a change is for the branch that its project and branch name

@@ -1,24 +1,18 @@
 -- Branches are sound: what an accepted submit joins was ready, and parents join before their children.
 use Rattle.std.proofs.Common.{◌≡◌, ◌⊎◌, inl, inr, ℕ, List, [], ◌∷◌, Option, Some, None, Bool, true, false, cond, refl, sym, ap, subst, ◌∙◌, All, MatchOption, option_map, Contains, zero, suc, ◌+◌, ◌&&◌, ⊎_elim, arith, slice_get, bytes_eq, ◌<◌, ◌++◌, length, option_and_then}
-use Rattle.std.proofs.lemmas.Bool.{and_parts, or_cases}
 use Rattle.std.proofs.lemmas.List.Elements.{All-from_recursion, recursion_from_All, All-weaker, Contains-append_left, Contains-append_right}
-use Rattle.std.{proofs.lemmas.Slice.Eq.bytes_eq-Decides, specs.List.AllByRecursion, specs.Option.option_map_or}
 use Rattle.review_words.specs.History.{Entry, is_base, accepted}
-use Rattle.review_words.specs.declared.command.Command.TheVariants.{Submit}
-use Rattle.review_words.specs.declared.reply.{Answer.Answer, Answer.TheVariants.Submitted, Reply.TheVariants.Done}
-use Rattle.review_words.specs.declared.shown.{ShownRequirement.ShownRequirement, State.State}
-use Rattle.review_words.specs.declared.shown.State.TheVariants.{New, Merged}
-use Rattle.review_chain.{proofs.Walking.chain_ready, specs.Branches.Branch, specs.Branches.parent_standing}
+use Rattle.review_words.specs.declared.shown.State.{State, TheVariants.New, TheVariants.Merged}
+use Rattle.review_chain.specs.Branches.{Branch, parent_standing}
 use Rattle.review_chain.specs.Walks.{IsReady, Follows, IsChain, IsWalk, first_of}
-use Rattle.review_chain.specs.declared.links.{Link.Link, Standing.Standing}
 use Rattle.review_chain.specs.declared.links.Standing.TheVariants.{InBranch, PatchSet, Nowhere}
 use Rattle.review_core_rules.specs.Change.{Change, Setting, is_open, commit, current, of_number, parent}
 use Rattle.review_core_rules.specs.Facts.{AreStanding, IsFirstUnsatisfied, is_unsatisfied, unsatisfied_in}
-use Rattle.review_core_rules.specs.declared.rows.PatchRow.{PatchRow}
-use Rattle.review_machine_rows.{proofs.Readings.IsDoneBy, proofs.Readings.done_of, specs.Answer.IsHistory}
+use Rattle.review_machine_rows.proofs.Common.{AllByRecursion, Answer, Done, IsHistory, Link, PatchRow, ShownRequirement, Standing, Submit, Submitted, and_parts, bytes_eq-Decides, chain_ready, link_for, option_map_or, or_cases}
+use Rattle.review_machine_rows.proofs.Readings.{IsDoneBy, done_of}
 use Rattle.review_machine_rows.specs.Changes.{Reading, Reads, change, joined_in, setting_of, joined, change_count, is_for, some_change, joined_by}
-use Rattle.review_machine_rows.specs.Links.{link_for}
 use Rattle.review_machine_rows.specs.Submits.{branch_after, judged_after, is_in_branch, is_merged, is_merged_commit, patch_for, patch_of, sent_or, sent_up_to, standing_of}
+use Rattle.review_machine_laws.proofs.Changes.{one_passing}
 use Rattle.review_machine_laws.proofs.Joined.{submit_accepted, same_change, contained_joined, merged_joined, state_merged, Gains, gains, joined_distinct, joined_merged, KeepsPatches, base_kept, commit_kept, merged_keeps, parent_kept, submit_keeps, placed}
 use Rattle.review_machine_laws.proofs.Linked.{linked, for_branch}
 use Rattle.review_machine_laws.specs.Accepted.{IsAccepted, MayJoin}
@@ -183,16 +177,6 @@ entry_is_new reading e h m a c history reads command reply there =
 
 -- ---- in the branch
 
--- a change that passes the test, where one is said to
-some_passes : (reading : Reading) (h : List Entry) (test : Change → Bool) (k : ℕ) → some_change reading h test k ≡ true → (n : ℕ) × (c : Change) × (change reading h n ≡ Some c) × (test c ≡ true)
-some_passes reading h test zero e = absurd (cc)
-some_passes reading h test (suc k) e =
-    ⊎_elim (λ here. let p = passes (change reading h (suc k)) here in (suc k, p.0, p.1, p.2)) (some_passes reading h test k) (or_cases (option_map_or test (change reading h (suc k)) false) (some_change reading h test k) e)
-  where
-    passes : (o : Option Change) → option_map_or test o false ≡ true → (c : Change) × (o ≡ Some c) × (test c ≡ true)
-    passes None t = absurd (cc)
-    passes (Some c) t = (c, refl, t)
-
 -- the commit is the current one of a change that joined the branch
 abbrev pub IsJoinedCommit : Reading → List Entry → List ℕ → List ℕ → List ℕ → Type 0
 IsJoinedCommit reading h project branch x = (d : ℕ) × Contains (joined h project branch) d × (option_map commit (change reading h d) ≡ Some x)
@@ -214,7 +198,7 @@ pub in_branch : (reading : Reading) (h : List Entry) (project branch x : List �
     (is_base h project branch x ≡ true) ⊎ IsJoinedCommit reading h project branch x
 in_branch reading h project branch x history reads e =
     ⊎_elim (λ base. inl base)
-    (λ merged. let r = some_passes reading h (is_merged_commit project branch x) (change_count h) merged in inr (merged_commit reading h project branch x history reads r.0 r.1 r.2 r.3))
+    (λ merged. let r = one_passing reading h (is_merged_commit project branch x) (change_count h) merged in inr (merged_commit reading h project branch x history reads r.0 r.1 r.2 r.3))
     (or_cases (is_base h project branch x) (some_change reading h (is_merged_commit project branch x) (change_count h)) e)
 
 -- ---- by a patch set
@@ -317,8 +301,7 @@ follows_commit : (reading : Reading) (h : List Entry) (project branch : List ℕ
 follows_commit reading h project branch d n f p =
     let q = standing_patch reading h project branch (parent p.of) d f.patch p.parent_is in
     let l = linked project branch (change reading h d) f.link f.there in
-    let same = same_change reading h d l.of q.of l.there q.there in
-    let number : current q.of ≡ f.link.patch = sym (ap current same) ∙ ap (λ (x : Link). x.patch) l.link_is in
+    let number : current q.of ≡ f.link.patch = sym (ap current (same_change reading h d l.of q.of l.there q.there)) ∙ ap (λ (x : Link). x.patch) l.link_is in
     let last : suc q.place ≡ current q.of = sym q.counts ∙ (f.current ∙ sym number) in
     ap (option_map commit) q.there ∙ ap Some (current_commit q.of q.place q.patch q.stands last ∙ q.commit_is)
 
@@ -359,9 +342,8 @@ pub entry_stands : (reading : Reading) (e : Entry) (h : List Entry) (m : ℕ) (c
     e.reply ≡ Done (Submitted (front ++ n ∷ back)) → change reading h m ≡ Some c → StandsOn reading h c.project c.branch (joined h c.project c.branch ++ front) n
 entry_stands reading e h m c front n back history reads command reply there =
     let s = entry_accepted reading e h m (Submitted (front ++ n ∷ back)) history reads command reply in
-    let same = same_change reading h m s.of c s.there there in
     let chain : s.chain ≡ front ++ n ∷ back = sym (ap (λ x. joined_in (Done x)) s.told) in
-    subst (λ (x : Change). StandsOn reading h x.project x.branch (joined h x.project x.branch ++ front) n) same
+    subst (λ (x : Change). StandsOn reading h x.project x.branch (joined h x.project x.branch ++ front) n) (same_change reading h m s.of c s.there there)
     (chain_stands reading h s.of.project s.of.branch front n back m history.3 reads (subst (λ l. IsChain (branch_after reading h s.of.project s.of.branch) l m) chain s.is_chain))
 
 -- ---- in every history
@@ -382,8 +364,7 @@ cut [] ys front n back e = inr (record { more = front; front_is = refl; cut_is =
 cut (x ∷ xs) ys [] n back e = let same : x ≡ n = cc in inl (record { rest = xs; cut_is = λ i. same i ∷ xs })
 cut (x ∷ xs) ys (y ∷ front) n back e =
     let same : x ≡ y = cc in
-    let rest : xs ++ ys ≡ front ++ n ∷ back = cc in
-    ⊎_elim
+    let rest : xs ++ ys ≡ front ++ n ∷ back = cc in ⊎_elim
     (λ (c : IsCutFirst xs front n). inl (record { rest = c.rest; cut_is = λ i. same i ∷ c.cut_is i }))
     (λ (c : IsCutSecond xs ys front n back). inr (record { more = c.more; front_is = λ i. sym same i ∷ c.front_is i; cut_is = c.cut_is }))
     (cut xs ys front n back rest)
@@ -439,8 +420,7 @@ newest_stands reading e h project branch changes front n back more history reads
 -- Each change that joined a branch stands on it, or on one that joined it before.
 pub joined_stands : (reading : Reading) (h : List Entry) (project branch front : List ℕ) (n : ℕ) (back : List ℕ) → IsHistory h → Reads reading h → joined h project branch ≡ front ++ n ∷ back → StandsOn reading h project branch front n
 joined_stands reading [] project branch front n back history reads is = let in' : Contains [] n = subst (λ l. Contains l n) (sym is) (Contains-at front n back) in absurd (let bad : in'.0 < 0 = in'.1 in omega arith)
-joined_stands reading (e ∷ h) project branch front n back history reads is =
-    ⊎_elim
+joined_stands reading (e ∷ h) project branch front n back history reads is = ⊎_elim
     (λ (c : IsCutFirst (joined h project branch) front n).
     earlier_stands reading e h project branch front n c.rest history reads.1 c.cut_is (joined_stands reading h project branch front n c.rest history.3 reads.1 c.cut_is))
     (λ (c : IsCutSecond (joined h project branch) (joined_by h (accepted e) e.reply project branch) front n back).
@@ -450,7 +430,7 @@ joined_stands reading (e ∷ h) project branch front n back history reads is =
 
 -- ==== the branches of a history are sound
 
-history_from : (later earlier : List Entry) → IsHistory (later ++ earlier) → IsHistory earlier
+pub history_from : (later earlier : List Entry) → IsHistory (later ++ earlier) → IsHistory earlier
 history_from [] earlier history = history
 history_from (e ∷ later) earlier history = history_from later earlier history.3
 

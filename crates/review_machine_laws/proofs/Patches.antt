@@ -1,19 +1,15 @@
 -- Patch sets and bases of a branch: what adds to them, that they stay, and that each has a commit of its own.
-use Rattle.std.proofs.Common.{◌≡◌, ℕ, ◌+◌, ◌==◌, List, ◌∷◌, length, Option, Some, None, Bool, true, false, cond, not, ◌⊎◌, inl, inr, refl, sym, ap, ◌∙◌, eqb-true, option_map, bytes_eq, zero, suc, [], ◌++◌, ◌&&◌, ◌||◌, ⊎_elim, arith, is_some, slice_get, subst}
-use Rattle.std.proofs.lemmas.Bool.{and_parts, cases_Bool, and_from, Decides.nat_tests}
-use Rattle.std.{proofs.lemmas.Slice.Eq.bytes_eq-Decides, specs.List.AllByRecursion, specs.List.list_any}
+use Rattle.std.proofs.Common.{◌≡◌, ℕ, ◌+◌, ◌==◌, List, ◌∷◌, length, Option, Some, None, Bool, true, false, cond, ◌⊎◌, inl, inr, refl, sym, ap, ◌∙◌, eqb-true, option_map, bytes_eq, zero, suc, [], ◌++◌, ◌&&◌, ◌||◌, ⊎_elim, is_some, slice_get, subst}
+use Rattle.std.proofs.lemmas.Bool.{or_cases, not-true, and_parts, cases_Bool, and_from}
 use Rattle.review_names.specs.declared.kinds.ChangeKind.TheVariants.{Rework}
 use Rattle.review_words.specs.History.{Entry, accepted, if_done, is_account, bases, is_base, with_base}
-use Rattle.review_words.specs.declared.command.{ChangeCommand.ChangeCommand, Command.Command}
-use Rattle.review_words.specs.declared.command.Command.TheVariants.{RecordBase, CreateChange, OnChange}
-use Rattle.review_words.specs.declared.reply.{Answer.Answer, Refusal.TheVariants.UnknownCaller}
-use Rattle.review_words.specs.declared.reply.Reply.{Reply, TheVariants.Done}
 use Rattle.review_core_rules.specs.Change.{Change, after, begun, current, of_number, patches_by, joined_at, current_patch}
-use Rattle.review_core_rules.specs.declared.rows.PatchRow.{PatchRow}
+use Rattle.review_machine_rows.proofs.Common.{AllByRecursion, Answer, ChangeCommand, Command, CreateChange, Done, OnChange, PatchRow, RecordBase, Reply, UnknownCaller, bytes_eq-Decides, list_any, or-true}
 use Rattle.review_machine_rows.proofs.Readings.{IsDoneBy, done_of}
 use Rattle.review_machine_rows.specs.Answer.{IsAnswerBy, IsHistory, checks, request_checks}
 use Rattle.review_machine_rows.specs.Changes.{Reading, Reads, change, change_by, change_count, is_for, is_known, setting_of, submitted, has_commit, is_sent, joined, joining_at, place_in}
-use Rattle.review_machine_laws.proofs.Changes.{joining_keeps, one_passing, or_true, some_passes, Passes, all_pass, checks_pass, done_passes, change_there, is_up_to}
+use Rattle.review_machine_laws.proofs.Changes.{joining_keeps, one_passing, some_passes, Passes, all_pass, checks_pass, done_passes, change_there, is_up_to}
+use Rattle.review_machine_laws.proofs.Joined.{past}
 use Rattle.review_machine_laws.proofs.Places.{appended, only, kept, last_of, number_within}
 use Rattle.review_machine_laws.specs.Patches.{HasPatch}
 use Rattle.review_words.specs.declared.command.ChangeCommand.TheVariants as on
@@ -35,10 +31,6 @@ pub record IsSentNow (reading : Reading) (h : List Entry) (o : Option Command) (
 -- a patch set after a command was there before, or the command sends it
 abbrev pub Came : Reading → List Entry → Option Command → List ℕ → List ℕ → ℕ → ℕ → PatchRow → Type 0
 Came reading h o project branch n k p = HasPatch project branch k p (change reading h n) ⊎ IsSentNow reading h o project branch n k p
-
-pub from_not : (b : Bool) → not b ≡ true → b ≡ false
-from_not true e = absurd (cc)
-from_not false e = refl
 
 pub for_project : (project branch : List ℕ) (c : Change) → is_for project branch c ≡ true → c.project ≡ project
 for_project project branch c e = (bytes_eq-Decides c.project project).0 (and_parts (bytes_eq c.project project) (bytes_eq c.branch branch) e).0
@@ -66,7 +58,7 @@ asked_came reading h caller project branch m n k p x (on.Upload patch) same is p
         inr
         (record {
           put = ap (option_map (λ (c : Change). (m, current c + 1))) (ap (change reading h) same ∙ is) ∙ (λ i. Some (same i, sym last i));
-          unknown = (λ i. is_known reading h (sym one i) (sym two i) (sym new i).commit) ∙ from_not (is_known reading h x.project x.branch patch.commit) pass.1.1.0;
+          unknown = (λ i. is_known reading h (sym one i) (sym two i) (sym new i).commit) ∙ not-true (is_known reading h x.project x.branch patch.commit) pass.1.1.0;
           based = (λ i. is_known reading h (sym one i) (sym two i) (sym new i).parent) ∙ pass.1.1.1.0;
         })
 asked_came reading h caller project branch m n k p x (on.Review review) same is pass for sent = inl (record { of = x; is = is; is_for_it = for; sent = sent })
@@ -96,7 +88,7 @@ done_came reading h caller project branch n k p c (CreateChange new) a answer is
         inr
         (record {
           put = λ i. Some (here i, sym first.0 i);
-          unknown = (λ i. is_known reading h (sym one i) (sym two i) (sym first.1 i).commit) ∙ from_not (is_known reading h new.project new.branch new.commit) pass.1.1.1.1.0;
+          unknown = (λ i. is_known reading h (sym one i) (sym two i) (sym first.1 i).commit) ∙ not-true (is_known reading h new.project new.branch new.commit) pass.1.1.1.1.0;
           based = (λ i. is_known reading h (sym one i) (sym two i) (sym first.1 i).parent) ∙ pass.1.1.1.1.1.0;
         })
 done_came reading h caller project branch n k p c (OnChange m command) a answer is for sent = by (m == n) refl (change reading h n) refl is
@@ -132,21 +124,20 @@ came reading e h project branch n k p history reads has =
 -- ---- a commit that was sent is that of a patch set
 
 -- a patch set with the commit makes a list have it
-sent_at : (xs : List PatchRow) (commit : List ℕ) (n : ℕ) (p : PatchRow) → slice_get xs n ≡ Some p → p.commit ≡ commit → list_any (λ x. bytes_eq x.commit commit) xs ≡ true
+pub sent_at : (xs : List PatchRow) (commit : List ℕ) (n : ℕ) (p : PatchRow) → slice_get xs n ≡ Some p → p.commit ≡ commit → list_any (λ x. bytes_eq x.commit commit) xs ≡ true
 sent_at [] commit n p is same = absurd (cc)
 sent_at (x ∷ xs) commit zero p is same =
     let first : x ≡ p = cc in ap (λ b. b || list_any (λ y. bytes_eq y.commit commit) xs) ((bytes_eq-Decides x.commit commit).1 (ap (λ y. y.commit) first ∙ same))
-sent_at (x ∷ xs) commit (suc n) p is same = ap (λ b. bytes_eq x.commit commit || b) (sent_at xs commit n p is same) ∙ or_true (bytes_eq x.commit commit)
+sent_at (x ∷ xs) commit (suc n) p is same = ap (λ b. bytes_eq x.commit commit || b) (sent_at xs commit n p is same) ∙ or-true (bytes_eq x.commit commit)
 
 has_its_commit : (xs : List PatchRow) (commit : List ℕ) (number : ℕ) (p : PatchRow) → of_number xs number ≡ Some p → p.commit ≡ commit → list_any (λ x. bytes_eq x.commit commit) xs ≡ true
 has_its_commit xs commit zero p is same = absurd (cc)
 has_its_commit xs commit (suc n) p is same = sent_at xs commit n p is same
 
 -- in a list that has the commit a patch set has it
-sent_from : (xs : List PatchRow) (commit : List ℕ) → list_any (λ x. bytes_eq x.commit commit) xs ≡ true → (n : ℕ) × (p : PatchRow) × (slice_get xs n ≡ Some p) × (p.commit ≡ commit)
+pub sent_from : (xs : List PatchRow) (commit : List ℕ) → list_any (λ x. bytes_eq x.commit commit) xs ≡ true → (n : ℕ) × (p : PatchRow) × (slice_get xs n ≡ Some p) × (p.commit ≡ commit)
 sent_from [] commit e = absurd (cc)
-sent_from (x ∷ xs) commit e =
-    ⊎_elim
+sent_from (x ∷ xs) commit e = ⊎_elim
     (λ (t : bytes_eq x.commit commit ≡ true). (0, x, refl, (bytes_eq-Decides x.commit commit).0 t))
     (λ (f : bytes_eq x.commit commit ≡ false).
     let r = sent_from xs commit (sym (ap (λ b. b || list_any (λ y. bytes_eq y.commit commit) xs) f) ∙ e) in (suc r.0, r.1, r.2, r.3))
@@ -181,9 +172,6 @@ sent_patch reading h project branch commit e =
 pub patches_kept : (command : ChangeCommand) (caller : ℕ) (xs : List PatchRow) (k : ℕ) (p : PatchRow) → of_number xs k ≡ Some p → of_number (patches_by command caller xs) k ≡ Some p
 patches_kept (on.Upload patch) caller xs k p is = kept xs (record { commit = patch.commit; parent = patch.parent; kind = patch.kind; uploader = caller; paths = patch.paths } ∷ []) p k is
 patches_kept _ caller xs k p is = is
-
-past : (c : ℕ) → is_up_to c (c + 1) ≡ false
-past c = grind (arith, nat_tests)
 
 -- the next number is that of no change yet
 none_next : (reading : Reading) (h : List Entry) (n : ℕ) (c : Change) → change_count h + 1 ≡ n → change reading h n ≡ Some c → ⊥
@@ -263,14 +251,9 @@ with_base_keeps _ project branch xs x is = is
 
 -- ---- what is known stays known
 
--- a known commit is a base, or was sent
-pub known_parts : (a b : Bool) → (a || b) ≡ true → (a ≡ true) ⊎ (b ≡ true)
-known_parts true b e = inl refl
-known_parts false b e = inr e
-
 -- one entry more makes nothing unknown
 pub known_stays : (reading : Reading) (e : Entry) (h : List Entry) (project branch x : List ℕ) → is_known reading h project branch x ≡ true → is_known reading (e ∷ h) project branch x ≡ true
-known_stays reading e h project branch x is = by (known_parts (is_base h project branch x) (is_sent reading h project branch x) is)
+known_stays reading e h project branch x is = by (or_cases (is_base h project branch x) (is_sent reading h project branch x) is)
   where
     by : (is_base h project branch x ≡ true) ⊎ (is_sent reading h project branch x ≡ true) → is_known reading (e ∷ h) project branch x ≡ true
     by (inl based) = ap (λ b. b || is_sent reading (e ∷ h) project branch x) (with_base_keeps (accepted e) project branch (bases h project branch) x based)
@@ -278,14 +261,14 @@ known_stays reading e h project branch x is = by (known_parts (is_base h project
         let s = sent_patch reading h project branch x sent in
         ap (λ b. is_base (e ∷ h) project branch x || b)
         (patch_sent reading (e ∷ h) project branch x s.number s.place s.patch (patch_stays reading e h project branch s.number s.place s.patch s.has) s.commit_is)
-        ∙ or_true (is_base (e ∷ h) project branch x)
+        ∙ or-true (is_base (e ∷ h) project branch x)
 
 -- ==== patch sets in one branch have commits of their own, which are no bases of it
 
 -- what is sent is known
 patch_known : (reading : Reading) (h : List Entry) (project branch : List ℕ) (n k : ℕ) (p : PatchRow) → HasPatch project branch k p (change reading h n) → is_known reading h project branch p.commit ≡ true
 patch_known reading h project branch n k p has =
-    ap (λ b. is_base h project branch p.commit || b) (patch_sent reading h project branch p.commit n k p has refl) ∙ or_true (is_base h project branch p.commit)
+    ap (λ b. is_base h project branch p.commit || b) (patch_sent reading h project branch p.commit n k p has refl) ∙ or-true (is_base h project branch p.commit)
 
 -- what is sent now was no commit of a patch set before
 new_commit : (reading : Reading) (h : List Entry) (o : Option Command) (project branch : List ℕ) (n k m j : ℕ) (p q : PatchRow) → HasPatch project branch k p (change reading h n) →
@@ -324,7 +307,7 @@ BaseCame reading h o project branch x = (is_base h project branch x ≡ true) �
 base_done : (reading : Reading) (h : List Entry) (caller : ℕ) (project branch x : List ℕ) (command : Command) (a : Answer) → IsAnswerBy reading h caller command (Done a) →
     list_any (λ base. bytes_eq base x) (with_base (Some command) project branch (bases h project branch)) ≡ true → BaseCame reading h (Some command) project branch x
 base_done reading h caller project branch x (RecordBase named in_branch commit) a answer is =
-    by (known_parts (is_base h project branch x) ((bytes_eq named project && bytes_eq in_branch branch) && bytes_eq commit x)
+    by (or_cases (is_base h project branch x) ((bytes_eq named project && bytes_eq in_branch branch) && bytes_eq commit x)
     (sym (one_more_base (bytes_eq named project && bytes_eq in_branch branch) (bases h project branch) commit x) ∙ is))
   where
     by : (is_base h project branch x ≡ true) ⊎ (((bytes_eq named project && bytes_eq in_branch branch) && bytes_eq commit x) ≡ true) → BaseCame reading h (Some (RecordBase named in_branch commit)) project branch x
@@ -336,7 +319,7 @@ base_done reading h caller project branch x (RecordBase named in_branch commit) 
         let two : in_branch ≡ branch = (bytes_eq-Decides in_branch branch).0 places.1 in
         let three : commit ≡ x = (bytes_eq-Decides commit x).0 parts.1 in
         let pass = all_pass ((is_account h caller, UnknownCaller) ∷ checks reading h caller (RecordBase named in_branch commit)) (done_passes reading h caller (RecordBase named in_branch commit) a answer) in
-        inr (refl, (λ i. is_known reading h (sym one i) (sym two i) (sym three i)) ∙ from_not (is_known reading h named in_branch commit) pass.1.1.1.0)
+        inr (refl, (λ i. is_known reading h (sym one i) (sym two i) (sym three i)) ∙ not-true (is_known reading h named in_branch commit) pass.1.1.1.0)
 base_done reading h caller project branch x _ a answer is = inl is
 
 -- of a command with its reply
@@ -371,8 +354,7 @@ base_not_sent reading (e ∷ h) project branch n k p history reads has is =
 -- the commit of a patch set is no base
 pub sent_no_base : (reading : Reading) (h : List Entry) (project branch : List ℕ) (n k : ℕ) (p : PatchRow) → IsHistory h → Reads reading h → HasPatch project branch k p (change reading h n) →
     is_base h project branch p.commit ≡ false
-sent_no_base reading h project branch n k p history reads has =
-    ⊎_elim
+sent_no_base reading h project branch n k p history reads has = ⊎_elim
     (λ (t : is_base h project branch p.commit ≡ true). absurd (base_not_sent reading h project branch n k p history reads has t))
     (λ (f : is_base h project branch p.commit ≡ false). f)
     (cases_Bool (is_base h project branch p.commit))

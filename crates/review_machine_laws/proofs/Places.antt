@@ -1,10 +1,10 @@
 -- Lists: their items by number, by place, and in order.
 use Rattle.std.proofs.Common.{◌≡◌, ℕ, zero, suc, ◌+◌, ◌<◌, ◌≤◌, List, [], ◌∷◌, ◌++◌, length, Some, None, ◌⊎◌, inl, inr, ap, refl, arith, slice_get, sym, ◌∙◌, ⊎_elim, ◌==◌, Option, Bool, true, false, cond, ◌||◌, subst, eqb-true, eq-eqb, All, Contains, option_map}
-use Rattle.std.proofs.lemmas.{Bool.cases_lt, List.Elements.recursion_from_All}
 use Rattle.std.proofs.lemmas.Map.Keys.{IsDistinct-head, IsDistinct-tail, IsDistinct-cons}
 use Rattle.std.proofs.lemmas.Option.{slice_get_past, slice_get_within, none-some, slice_get_cases, slice_get-get_or, get_or_from_slice_get}
-use Rattle.std.specs.{List.AllByRecursion, List.IsDistinct, List.list_any, Option.option_or}
-use Rattle.{review_core_rules.specs.Change.of_number, review_machine_rows.specs.Changes.place_in}
+use Rattle.std.specs.List.{AllByRecursion, IsDistinct, list_any}
+use Rattle.review_table.proofs.Plain.{all_at}
+use Rattle.review_machine_rows.proofs.Common.{cases_lt, of_number, option_or, place_in, recursion_from_All}
 
 -- ==== items by their numbers, which are counted from 1
 
@@ -68,10 +68,6 @@ of_number_there xs zero low high = absurd (omega arith)
 of_number_there xs (suc k) low high =
     ⊎_elim (λ here. (here.0, here.2)) (λ past. let e : length xs ≤ k = past.0 in absurd (omega arith)) (slice_get_cases xs k).1
 
-pub of_number_past : {X : Type 0} (xs : List X) (n : ℕ) → length xs < n → of_number xs n ≡ None
-of_number_past xs zero past = refl
-of_number_past xs (suc k) past = slice_get_past xs k (omega arith)
-
 of_number_within : {X : Type 0} (xs : List X) (n : ℕ) (x : X) → of_number xs n ≡ Some x → n ≤ length xs
 of_number_within xs zero x is = omega arith
 of_number_within xs (suc k) x is = let e : k < length xs = slice_get_within xs k x is in omega arith
@@ -79,8 +75,7 @@ of_number_within xs (suc k) x is = let e : k < length xs = slice_get_within xs k
 -- the item after whose number none comes is the last
 pub last_number : {X : Type 0} (xs : List X) (n : ℕ) (x : X) → of_number xs n ≡ Some x → ((m : ℕ) → n < m → of_number xs m ≡ None) → of_number xs (length xs) ≡ Some x
 last_number xs n x is later =
-    let within : n ≤ length xs = of_number_within xs n x is in
-    ⊎_elim
+    let within : n ≤ length xs = of_number_within xs n x is in ⊎_elim
     (λ (lt : n < length xs).
     let there = of_number_there xs (length xs) (omega arith) (omega arith) in
     absurd (none-some there.0 (sym (later (length xs) lt) ∙ there.1)))
@@ -174,18 +169,12 @@ placed_get (x ∷ xs) n place is = by (λ j at. placed_get xs n j at) (x == n) r
         let behind : place ≡ j.0 + 1 = j.2 in
         (suc k.0, k.1, omega arith)
 
--- what holds of all in a list holds of one that stands in it
-pub at_get : (P : ℕ → Type 0) (xs : List ℕ) (k n : ℕ) → AllByRecursion P xs → slice_get xs k ≡ Some n → P n
-at_get P [] k n all is = absurd (cc)
-at_get P (x ∷ xs) zero n all is = let same : x ≡ n = cc in subst P same all.0
-at_get P (x ∷ xs) (suc k) n all is = at_get P xs k n all.1 is
-
 -- who stands in a list without repetitions has its place there
 pub get_placed : (xs : List ℕ) (k n : ℕ) → IsDistinct ◌==◌ xs → slice_get xs k ≡ Some n → place_in xs n ≡ Some (k + 1)
 get_placed [] k n distinct is = absurd (cc)
 get_placed (x ∷ xs) zero n distinct is = let same : x ≡ n = cc in ap (λ b. cond b (Some 1) (option_map (λ j. j + 1) (place_in xs n))) (eq-eqb x n same)
 get_placed (x ∷ xs) (suc k) n distinct is =
-    let other : (x == n) ≡ false = at_get (λ y. (x == y) ≡ false) xs k n (IsDistinct-head ◌==◌ x xs distinct) is in
+    let other : (x == n) ≡ false = all_at (λ y. (x == y) ≡ false) xs k n (IsDistinct-head ◌==◌ x xs distinct) is in
     let more : (k + 1) + 1 ≡ suc k + 1 = omega arith in
     ap (λ b. cond b (Some 1) (option_map (λ j. j + 1) (place_in xs n))) other
     ∙ (ap (option_map (λ j. j + 1)) (get_placed xs k n (IsDistinct-tail ◌==◌ x xs distinct) is) ∙ ap Some more)
@@ -205,7 +194,7 @@ all_placed P (x ∷ xs) each =
 
 -- what holds of all in a list holds of one that has a place there
 pub at_place : (P : ℕ → Type 0) (xs : List ℕ) (n k : ℕ) → All P xs → place_in xs n ≡ Some k → P n
-at_place P xs n k all is = let at = placed_get xs n k is in at_get P xs at.0 n (recursion_from_All P xs all) at.1
+at_place P xs n k all is = let at = placed_get xs n k is in all_at P xs at.0 n (recursion_from_All P xs all) at.1
 
 placed_apart : (x : ℕ) (xs : List ℕ) (n : ℕ) → place_in (x ∷ xs) n ≡ None → ((x == n) ≡ false) × (place_in xs n ≡ None)
 placed_apart x xs n none = by (x == n) refl none

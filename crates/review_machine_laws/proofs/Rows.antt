@@ -1,27 +1,22 @@
 -- What the rows of changes tell.
-use Rattle.std.proofs.Common.{◌≡◌, ℕ, ◌+◌, ◌==◌, List, [], ◌∷◌, length, Option, Some, None, Bool, true, false, cond, refl, sym, ap, subst, ◌∙◌, eqb-true, option_map, ℤ, pos, suc, not, ⊎_elim, int_eq, slice_get, ◌-◌, ◌<◌, ◌≤◌, arith, AllPairs, map, slice_index_or}
-use Rattle.std.proofs.lemmas.{Bool.cases_Bool, Bool.cases_lt, Bool.Decides.Decides-int_eq, List.Elements.All-get_or}
+use Rattle.std.proofs.Common.{◌≡◌, ℕ, ◌+◌, ◌==◌, List, [], ◌∷◌, length, Option, Some, None, Bool, true, false, cond, refl, sym, ap, subst, ◌∙◌, eqb-true, option_map, ℤ, suc, not, ⊎_elim, slice_get, ◌-◌, ◌<◌, ◌≤◌, arith, AllPairs, map, slice_index_or}
+use Rattle.std.proofs.lemmas.{Bool.cases_Bool, Bool.cases_lt, List.Elements.All-get_or}
 use Rattle.std.proofs.lemmas.Option.{get_or_from_slice_get, slice_get-get_or, slice_get-map, slice_get_within}
-use Rattle.{std.specs.List.AllByRecursion, std.specs.Option.option_map_or, review_names.specs.Forms.most_patches}
-use Rattle.review_words.specs.{History.Entry, History.accepted, History.if_done, declared.changes.NewChange.NewChange}
-use Rattle.review_words.specs.declared.{changes.Role.Role, command.ChangeCommand.ChangeCommand}
-use Rattle.review_words.specs.declared.command.Command.{Command, TheVariants.CreateChange, TheVariants.OnChange}
-use Rattle.review_words.specs.declared.reply.{Answer.Answer, Reply.Reply, Reply.TheVariants.Done}
-use Rattle.review_words.specs.declared.shown.JoinedChange.{JoinedChange}
-use Rattle.review_core_rules.proofs.Stays.{begins, stays, within_parts}
+use Rattle.review_words.specs.History.{Entry, accepted, if_done}
+use Rattle.review_words.specs.declared.command.Command.TheVariants.{CreateChange, OnChange}
+use Rattle.review_core_rules.proofs.Stays.{zero_of, begins, stays, within_parts}
 use Rattle.review_core_rules.specs.Change.{Change, after, begun, joined_at, commit, current, of_number}
 use Rattle.review_core_rules.specs.Parts.{Part, TheHeader, PatchOf, VoteOf, RoleOf, CommentOf, AttentionOf, PartRow, AHeader, APatch, AVote, ARole, AComment, AnAttentionEntry, header_of, part_row}
-use Rattle.review_core_rules.specs.{Votes.voted, declared.rows.AttentionEntry.AttentionEntry}
-use Rattle.review_core_rules.specs.declared.rows.{CommentRow.CommentRow, Header.Header, PatchRow.PatchRow}
-use Rattle.review_machine_rows.proofs.Readings.{IsDoneBy, done_of}
+use Rattle.review_core_rules.specs.declared.rows.AttentionEntry.{AttentionEntry}
+use Rattle.review_machine_rows.proofs.Common.{APart, AllByRecursion, Answer, BranchKey, ChangeCommand, Command, CommentRow, Done, Header, JoinedChange, NewChange, PatchRow, Reply, Role, fact, is_merged, most_patches, option_map_or, voted}
+use Rattle.review_machine_rows.proofs.{Joins.unsent_from, Readings.IsDoneBy, Readings.done_of}
 use Rattle.review_machine_rows.specs.Answer.{IsAnswerBy, IsHistory, request_checks}
 use Rattle.review_machine_rows.specs.Changes.{Reading, Reads, change, change_by, change_count, setting_of, submitted, joined, place_in}
 use Rattle.review_machine_rows.specs.Known.{part_of, HaveJoined, IsAtPlace, IsBefore, IsCurrent, IsJoinedAt, IsLastJoined}
-use Rattle.review_machine_rows.specs.{Questions.joined_change, Rows.APart, Submits.is_merged, View.fact}
-use Rattle.review_machine_rows.specs.declared.rows.BranchKey.{BranchKey}
+use Rattle.review_machine_rows.specs.Questions.{joined_change}
 use Rattle.review_machine_laws.proofs.Changes.{joining_keeps, Passes, checks_pass, done_passes, are_sound}
 use Rattle.review_machine_laws.proofs.Joined.{has_place, joined_distinct, joined_placed, state_merged, merged_stays}
-use Rattle.review_machine_laws.proofs.Places.{last_number, of_number_past, of_number_there, same_order, contained_get, get_placed, placed_get}
+use Rattle.review_machine_laws.proofs.Places.{none_past, last_number, of_number_there, same_order, contained_get, get_placed, placed_get}
 
 -- ==== what holds of every change of a history
 
@@ -32,13 +27,13 @@ pub record Stays (P : Change → Type 0) (reading : Reading) : Type 0 where
   pub stays : (h : List Entry) (caller : ℕ) (command : ChangeCommand) (c : Change) → AllByRecursion Passes (request_checks reading h caller command c) → P c →
       P (after (setting_of reading h c.project) command caller (length h + 1) c)
 
-named_holds : (P : Change → Type 0) (b : Bool) (o : Option Change) (f : Change → Change) (c : Change) → ((x : Change) → o ≡ Some x → P x) → (b ≡ true → (x : Change) → o ≡ Some x → P x → P (f x)) →
+pub named_holds : (P : Change → Type 0) (b : Bool) (o : Option Change) (f : Change → Change) (c : Change) → ((x : Change) → o ≡ Some x → P x) → (b ≡ true → (x : Change) → o ≡ Some x → P x → P (f x)) →
     cond b (option_map f o) o ≡ Some c → P c
 named_holds P true None f c before then is = absurd (cc)
 named_holds P true (Some x) f c before then is = let same : f x ≡ c = cc in subst P same (then refl x refl (before x refl))
 named_holds P false o f c before then is = before c is
 
-made_holds : (P : Change → Type 0) (b : Bool) (o : Option Change) (new c : Change) → ((x : Change) → o ≡ Some x → P x) → P new → cond b (Some new) o ≡ Some c → P c
+pub made_holds : (P : Change → Type 0) (b : Bool) (o : Option Change) (new c : Change) → ((x : Change) → o ≡ Some x → P x) → P new → cond b (Some new) o ≡ Some c → P c
 made_holds P true o new c before begins is = let same : new ≡ c = cc in subst P same begins
 made_holds P false o new c before begins is = before c is
 
@@ -99,16 +94,8 @@ same_lists (x ∷ xs) (y ∷ ys) same =
     let rest = same_lists xs ys (λ n. same (suc n)) in
     λ i. first i ∷ rest i
 
-not_voted : (v : ℤ) → voted v ≡ false → v ≡ pos 0
-not_voted v none = (Decides-int_eq v (pos 0)).0 (from_not (int_eq v (pos 0)) none)
-  where
-    from_not : (b : Bool) → not b ≡ false → b ≡ true
-    from_not true e = refl
-    from_not false e = absurd (cc)
-
 same_votes : (v w : ℤ) → cond (voted v) (Some (AVote v)) None ≡ cond (voted w) (Some (AVote w)) None → v ≡ w
-same_votes v w e =
-    ⊎_elim
+same_votes v w e = ⊎_elim
     (λ (a : voted v ≡ true). ⊎_elim
     (λ (b : voted w ≡ true).
     let is : Some (AVote v) ≡ Some (AVote w) = sym (ap (λ t. cond t (Some (AVote v)) None) a) ∙ (e ∙ ap (λ t. cond t (Some (AVote w)) None) b) in
@@ -119,7 +106,7 @@ same_votes v w e =
     (λ (a : voted v ≡ false). ⊎_elim
     (λ (b : voted w ≡ true).
     let is : None ≡ Some (AVote w) = sym (ap (λ t. cond t (Some (AVote v)) None) a) ∙ (e ∙ ap (λ t. cond t (Some (AVote w)) None) b) in absurd (cc))
-    (λ (b : voted w ≡ false). not_voted v a ∙ sym (not_voted w b))
+    (λ (b : voted w ≡ false). zero_of v a ∙ sym (zero_of w b))
     (cases_Bool (voted w)))
     (cases_Bool (voted v))
 
@@ -175,7 +162,7 @@ rows_tell a b same = same_parts a b (λ part. unmap APart tells_part (part_of a 
 -- ---- places
 
 -- the header that stands for a change is its own
-header_from : (o : Option Change) (header : Header) → option_map APart (part_of o TheHeader) ≡ Some (APart (AHeader header)) → (c : Change) × (o ≡ Some c) × (header_of c ≡ header)
+pub header_from : (o : Option Change) (header : Header) → option_map APart (part_of o TheHeader) ≡ Some (APart (AHeader header)) → (c : Change) × (o ≡ Some c) × (header_of c ≡ header)
 header_from None header e = absurd (cc)
 header_from (Some c) header e = let same : header_of c ≡ header = cc in (c, refl, same)
 
@@ -215,8 +202,7 @@ last_joined_is reading h key last history reads l =
         l.above ((length xs - 1) + 1) (slice_index_or xs (length xs - 1) 0) (omega arith) (placed_row reading h key ((length xs - 1) + 1) (slice_index_or xs (length xs - 1) 0) history reads place)
 
     not_below : (n : ℕ) → IsAtPlace (fact reading h) key last n → last ≤ length (joined h key.project key.branch)
-    not_below n at =
-        ⊎_elim
+    not_below n at = ⊎_elim
         (λ (some : 0 < last).
         let k = placed_get (joined h key.project key.branch) n last (row_placed reading h key last n history reads at some) in
         let within : k.0 < length (joined h key.project key.branch) = slice_get_within (joined h key.project key.branch) k.0 n k.1 in
@@ -227,13 +213,9 @@ last_joined_is reading h key last history reads l =
 
 -- ---- current commits
 
-sent_from : (o : Option PatchRow) (p : PatchRow) → option_map APart (option_map APatch o) ≡ Some (APart (APatch p)) → o ≡ Some p
+pub sent_from : (o : Option PatchRow) (p : PatchRow) → option_map APart (option_map APatch o) ≡ Some (APart (APatch p)) → o ≡ Some p
 sent_from None p e = absurd (cc)
 sent_from (Some x) p e = let same : x ≡ p = cc in ap Some same
-
-unsent_from : (o : Option PatchRow) → option_map APart (option_map APatch o) ≡ None → o ≡ None
-unsent_from None e = refl
-unsent_from (Some x) e = absurd (cc)
 
 -- the patch set that rows tell as current is the change's current one
 current_is : (reading : Reading) (h : List Entry) (n : ℕ) (c : Change) (p : PatchRow) → change reading h n ≡ Some c → IsCurrent (fact reading h) n p → of_number c.patches (length c.patches) ≡ Some p
@@ -246,7 +228,7 @@ is_current : (reading : Reading) (h : List Entry) (n : ℕ) (c : Change) (p : Pa
 is_current reading h n c p there is = record {
   number = length c.patches;
   sent = ap (λ o. option_map APart (part_of o (PatchOf (length c.patches)))) there ∙ ap (λ o. option_map APart (option_map APatch o)) is;
-  later = λ m past. ap (λ o. option_map APart (part_of o (PatchOf m))) there ∙ ap (λ o. option_map APart (option_map APatch o)) (of_number_past c.patches m past);
+  later = λ m past. ap (λ o. option_map APart (part_of o (PatchOf m))) there ∙ ap (λ o. option_map APart (option_map APatch o)) (none_past c.patches m past);
 }
 
 -- the commit of a joined change is that of its current patch set
@@ -335,8 +317,7 @@ joined_rows reading h key js history reads have = same_order (map (joined_change
     ordered : (k l p q : ℕ) (a b : JoinedChange) → k < l → slice_get js k ≡ Some a → slice_get js l ≡ Some b → slice_get (map (joined_change reading h) xs) p ≡ Some a →
         slice_get (map (joined_change reading h) xs) q ≡ Some b → p < q
     ordered k l p q a b lt one two here there =
-        let before = pair_get (IsBefore (fact reading h) key) js k l a b have.ordered lt one two in
-        ⊎_elim
+        let before = pair_get (IsBefore (fact reading h) key) js k l a b have.ordered lt one two in ⊎_elim
         (λ (less : p + 1 < q + 1). omega arith)
         (λ (even : (p + 1 ≡ q + 1) × (a.change < b.change)).
         let place_same : p + 1 ≡ q + 1 = even.0 in

@@ -1,17 +1,12 @@
 -- Commits and the patch sets that have them.
-use Rattle.std.proofs.Common.{◌≡◌, ℕ, zero, suc, ◌+◌, ◌<◌, ◌≤◌, List, [], ◌∷◌, Option, Some, None, true, false, cond, refl, sym, ap, subst, ◌∙◌, ⊎_elim, arith, slice_get, bytes_eq, Bool, ◌&&◌, ◌||◌, leb-true, is_some, nat_le, option_map}
-use Rattle.std.proofs.lemmas.{Bool.cases_Bool, Bool.cases_lt, Bool.and_parts, Slice.Eq.bytes_eq-Decides}
-use Rattle.std.specs.{List.list_any, Option.option_map_or}
-use Rattle.{review_words.specs.History.Entry, review_chain.specs.declared.links.Standing.Standing}
-use Rattle.review_chain.specs.declared.links.Standing.TheVariants.{InBranch, PatchSet, Nowhere}
-use Rattle.review_core_rules.specs.Change.{Change, of_number}
-use Rattle.review_core_rules.specs.Parts.{TheHeader, PatchOf, AHeader, APatch, header_of}
-use Rattle.review_core_rules.specs.declared.rows.{Header.Header, PatchRow.PatchRow}
-use Rattle.review_machine_rows.specs.Changes.{Reading, change, is_for, change_count, has_commit, is_sent, some_change}
-use Rattle.review_machine_rows.specs.{Known.IsSender, Known.IsSentBy, Known.part_of, Rows.APart}
+use Rattle.std.proofs.Common.{◌≡◌, ℕ, zero, suc, ◌+◌, ◌<◌, ◌≤◌, List, [], ◌∷◌, Option, Some, None, true, false, cond, refl, sym, ap, subst, ◌∙◌, ⊎_elim, arith, slice_get, bytes_eq, Bool, ◌&&◌, leb-true, is_some, nat_le, option_map}
+use Rattle.review_core_rules.specs.Parts.{TheHeader, PatchOf, APatch, header_of}
+use Rattle.review_machine_rows.proofs.Common.{APart, Base, Change, Entry, Header, InBranch, IsSender, IsSentBy, Nowhere, PatchRow, PatchSet, Standing, and_parts, bytes_eq-Decides, cases_Bool, cases_lt, fact, of_number, part_of, same_Some}
+use Rattle.review_machine_rows.specs.Changes.{Reading, change, is_for, change_count, has_commit, is_sent}
 use Rattle.review_machine_rows.specs.Submits.{patch_for, patch_of, sent_or, sent_up_to}
-use Rattle.review_machine_rows.specs.{View.fact, declared.rows.Base.Base}
-use Rattle.review_machine_laws.{proofs.Changes.change_there, specs.Patches.HasPatch}
+use Rattle.review_machine_laws.proofs.Changes.{passes_up_to, one_passing, change_there}
+use Rattle.review_machine_laws.proofs.Patches.{sent_at, sent_from}
+use Rattle.review_machine_laws.{proofs.Rows.header_from, specs.Patches.HasPatch}
 
 -- ==== the patch set that has a commit, where one has
 
@@ -35,8 +30,7 @@ found_later n p ps x None other none = by
 -- the definition's search finds so
 found_in : (n : ℕ) (ps : List PatchRow) (x : List ℕ) → FoundIn n ps x (patch_of n ps x)
 found_in n [] x = λ j p is same. absurd (cc)
-found_in n (p ∷ ps) x =
-    ⊎_elim
+found_in n (p ∷ ps) x = ⊎_elim
     (λ (t : bytes_eq p.commit x ≡ true).
     let here : n + 1 ≡ n + suc 0 = omega arith in
     subst (λ b. FoundIn n (p ∷ ps) x (cond b (Some (n + 1)) (patch_of (n + 1) ps x))) (sym t) (0, p, here, refl, (bytes_eq-Decides p.commit x).0 t))
@@ -49,9 +43,6 @@ abbrev pub FoundFor : List ℕ → List ℕ → List ℕ → Option Change → O
 FoundFor project branch x o None = (k : ℕ) (p : PatchRow) → HasPatch project branch k p o → p.commit ≡ x → ⊥
 FoundFor project branch x o (Some k) = (p : PatchRow) × HasPatch project branch k p o × (p.commit ≡ x)
 
-pub same_change : (c d : Change) → Some c ≡ Some d → c ≡ d
-same_change c d e = cc
-
 -- what is found among the patch sets of a change for the branch is found in it
 found_of : (project branch x : List ℕ) (c : Change) (o : Option ℕ) → is_for project branch c ≡ true → FoundIn 0 c.patches x o → FoundFor project branch x (Some c) o
 found_of project branch x c (Some k) for found =
@@ -62,13 +53,12 @@ found_of project branch x c None for none = by
   where
     by : FoundFor project branch x (Some c) None
     by zero p has same = let bad : None ≡ Some p = has.sent in absurd (cc)
-    by (suc j) p has same = none j p (ap (λ (d : Change). slice_get d.patches j) (same_change c has.of has.is) ∙ has.sent) same
+    by (suc j) p has same = none j p (ap (λ (d : Change). slice_get d.patches j) (same_Some c has.of has.is) ∙ has.sent) same
 
 -- the definition's look at one change finds so
 found_for : (project branch x : List ℕ) (o : Option Change) → FoundFor project branch x o (patch_for project branch x o)
 found_for project branch x None = λ k p has same. let bad : None ≡ Some has.of = has.is in absurd (cc)
-found_for project branch x (Some c) =
-    ⊎_elim
+found_for project branch x (Some c) = ⊎_elim
     (λ (t : is_for project branch c ≡ true).
     subst (λ b. FoundFor project branch x (Some c) (cond b (patch_of 0 c.patches x) None)) (sym t) (found_of project branch x c (patch_of 0 c.patches x) t (found_in 0 c.patches x)))
     (λ (f : is_for project branch c ≡ false).
@@ -77,7 +67,7 @@ found_for project branch x (Some c) =
   where
     not_for : is_for project branch c ≡ false → {k : ℕ} {p : PatchRow} → HasPatch project branch k p (Some c) → ⊥
     not_for f has =
-        let bad : true ≡ false = sym has.is_for_it ∙ (ap (is_for project branch) (sym (same_change c has.of has.is)) ∙ f) in
+        let bad : true ≡ false = sym has.is_for_it ∙ (ap (is_for project branch) (sym (same_Some c has.of has.is)) ∙ f) in
         absurd (cc)
 
 -- What is found of a commit among the changes up to a number: a patch set for the branch that has it, or that none has.
@@ -107,56 +97,6 @@ found_up_to reading h project branch x (suc last) =
 
 -- ==== whether a commit is that of a patch set
 
-or_true : (b : Bool) → (b || true) ≡ true
-or_true true = refl
-or_true false = refl
-
--- a change up to a number that passes the test
-some_at : (reading : Reading) (h : List Entry) (test : Change → Bool) (k n : ℕ) (c : Change) → 1 ≤ n → n ≤ k → change reading h n ≡ Some c → test c ≡ true → some_change reading h test k ≡ true
-some_at reading h test zero n c one below is passes = absurd (omega arith)
-some_at reading h test (suc k) n c one below is passes =
-    ⊎_elim
-    (λ (lt : n < suc k).
-    ap (λ b. option_map_or test (change reading h (suc k)) false || b) (some_at reading h test k n c one (omega arith) is passes) ∙ or_true (option_map_or test (change reading h (suc k)) false))
-    (λ (ge : suc k ≤ n).
-    let same : n ≡ suc k = omega arith in
-    ap (λ o. option_map_or test o false || some_change reading h test k) (ap (change reading h) (sym same) ∙ is) ∙ ap (λ b. b || some_change reading h test k) passes)
-    (cases_lt n (suc k))
-
-passing : (o : Option Change) (test : Change → Bool) → option_map_or test o false ≡ true → (c : Change) × (o ≡ Some c) × (test c ≡ true)
-passing None test e = absurd (cc)
-passing (Some c) test e = (c, refl, e)
-
-some_from : (reading : Reading) (h : List Entry) (test : Change → Bool) (k : ℕ) → some_change reading h test k ≡ true → (n : ℕ) × (c : Change) × (change reading h n ≡ Some c) × (test c ≡ true)
-some_from reading h test zero e = absurd (cc)
-some_from reading h test (suc k) e =
-    ⊎_elim
-    (λ (t : option_map_or test (change reading h (suc k)) false ≡ true). let p = passing (change reading h (suc k)) test t in (suc k, p.0, p.1, p.2))
-    (λ (f : option_map_or test (change reading h (suc k)) false ≡ false). some_from reading h test k (sym (ap (λ b. b || some_change reading h test k) f) ∙ e))
-    (cases_Bool (option_map_or test (change reading h (suc k)) false))
-
--- a patch set has the commit just where it is among them
-sent_at : (xs : List PatchRow) (commit : List ℕ) (n : ℕ) (p : PatchRow) → slice_get xs n ≡ Some p → p.commit ≡ commit → list_any (λ x. bytes_eq x.commit commit) xs ≡ true
-sent_at [] commit n p is same = absurd (cc)
-sent_at (x ∷ xs) commit zero p is same =
-    let first : x ≡ p = cc in
-    ap (λ b. b || list_any (λ y. bytes_eq y.commit commit) xs) ((bytes_eq-Decides x.commit commit).1 (ap (λ y. y.commit) first ∙ same))
-sent_at (x ∷ xs) commit (suc n) p is same = ap (λ b. bytes_eq x.commit commit || b) (sent_at xs commit n p is same) ∙ or_true (bytes_eq x.commit commit)
-
-sent_from : (xs : List PatchRow) (commit : List ℕ) → list_any (λ x. bytes_eq x.commit commit) xs ≡ true → (n : ℕ) × (p : PatchRow) × (slice_get xs n ≡ Some p) × (p.commit ≡ commit)
-sent_from [] commit e = absurd (cc)
-sent_from (x ∷ xs) commit e =
-    ⊎_elim
-    (λ (t : bytes_eq x.commit commit ≡ true). (0, x, refl, (bytes_eq-Decides x.commit commit).0 t))
-    (λ (f : bytes_eq x.commit commit ≡ false).
-    let r = sent_from xs commit (sym (ap (λ b. b || list_any (λ y. bytes_eq y.commit commit) xs) f) ∙ e) in (suc r.0, r.1, r.2, r.3))
-    (cases_Bool (bytes_eq x.commit commit))
-
--- what stands at the keys of a change
-header_from : (o : Option Change) (header : Header) → option_map APart (part_of o TheHeader) ≡ Some (APart (AHeader header)) → (c : Change) × (o ≡ Some c) × (header_of c ≡ header)
-header_from None header e = absurd (cc)
-header_from (Some c) header e = let same : header_of c ≡ header = cc in (c, refl, same)
-
 patch_from : (xs : List PatchRow) (n : ℕ) (p : PatchRow) → option_map APart (option_map APatch (of_number xs n)) ≡ Some (APart (APatch p)) → (m : ℕ) × (slice_get xs m ≡ Some p)
 patch_from xs zero p e = absurd (cc)
 patch_from xs (suc n) p e = (n, unmapped (slice_get xs n) e)
@@ -175,14 +115,14 @@ sender_sent reading h base n s =
     let c = head.0 in
     let patch = patch_from c.patches s.number s.patch (ap (λ o. option_map APart (part_of o (PatchOf s.number))) (sym head.1) ∙ s.sent) in
     let range = and_parts (nat_le 1 n) (nat_le n (change_count h)) (sym (change_there reading h n) ∙ ap is_some head.1) in
-    some_at reading h (λ x. is_for base.project base.branch x && has_commit base.commit x) (change_count h) n c (leb-true 1 n range.0) (leb-true n (change_count h) range.1) head.1
+    passes_up_to reading h (λ x. is_for base.project base.branch x && has_commit base.commit x) (change_count h) n c (leb-true 1 n range.0) (leb-true n (change_count h) range.1) head.1
     (both (bytes_eq c.project base.project) (bytes_eq c.branch base.branch) (has_commit base.commit c)
     ((bytes_eq-Decides c.project base.project).1 (ap (λ (x : Header). x.project) head.2 ∙ s.project)) ((bytes_eq-Decides c.branch base.branch).1 (ap (λ (x : Header). x.branch) head.2 ∙ s.branch))
     (sent_at c.patches base.commit patch.0 s.patch patch.1 s.commit))
 
 sent_sender : (reading : Reading) (h : List Entry) (base : Base) → is_sent reading h base.project base.branch base.commit ≡ true → (n : ℕ) × IsSender (fact reading h) base n
 sent_sender reading h base e =
-    let r = some_from reading h (λ x. is_for base.project base.branch x && has_commit base.commit x) (change_count h) e in
+    let r = one_passing reading h (λ x. is_for base.project base.branch x && has_commit base.commit x) (change_count h) e in
     let c = r.1 in
     let parts = and_parts (is_for base.project base.branch c) (has_commit base.commit c) r.3 in
     let places = and_parts (bytes_eq c.project base.project) (bytes_eq c.branch base.branch) parts.0 in
@@ -203,8 +143,7 @@ sent_sender reading h base e =
 -- what was found tells whether the commit was sent
 pub sent_is : (reading : Reading) (h : List Entry) (base : Base) (found : Option ℕ) → IsSentBy (fact reading h) base found → is_some found ≡ is_sent reading h base.project base.branch base.commit
 sent_is reading h base (Some n) is = sym (sender_sent reading h base n is)
-sent_is reading h base None none =
-    ⊎_elim
+sent_is reading h base None none = ⊎_elim
     (λ (t : is_sent reading h base.project base.branch base.commit ≡ true). let r = sent_sender reading h base t in absurd (none r.0 r.1))
     (λ (f : is_sent reading h base.project base.branch base.commit ≡ false). sym f)
     (cases_Bool (is_sent reading h base.project base.branch base.commit))

@@ -1,29 +1,26 @@
 -- What rows show of a branch.
 use Rattle.std.proofs.Common.{◌≡◌, ℕ, zero, suc, ◌<◌, ◌≤◌, List, [], ◌∷◌, length, Option, Some, None, true, false, cond, ◌&&◌, ◌||◌, refl, sym, ap, ◌∙◌, ⊎_elim, ◌⊎◌, inl, inr, arith, option_map, bytes_eq, ◌≢◌, Bool, subst, IsSome, is_some, option_and_then}
-use Rattle.std.proofs.lemmas.{Bool.cases_Bool, Bool.and_parts, Bool.and_from, Bool.cases_lt, Slice.Eq.bytes_eq-Decides}
-use Rattle.std.specs.{List.list_any, Option.option_map_or}
+use Rattle.std.proofs.lemmas.Bool.{or_cases, cases_Bool, and_parts, and_from, cases_lt}
 use Rattle.review_words.specs.History.{Entry, bases, is_base}
-use Rattle.review_words.specs.declared.shown.State.{State, TheVariants.Merged}
 use Rattle.review_chain.{proofs.Parting.Says, proofs.Parting.wanted_says, specs.Branches.IsWhole, specs.Branches.Branch}
 use Rattle.review_chain.specs.Parts.{IsPart, IsWanted, NeedsChange, Want as ChainWant, TheChange, TheCommit}
-use Rattle.review_chain.specs.{Steps.wanted, Walks.IsWalk, Walks.first_of}
-use Rattle.review_chain.specs.declared.links.{Link.Link, Standing.Standing}
+use Rattle.review_chain.specs.Walks.{IsWalk, first_of}
 use Rattle.review_chain.specs.declared.links.Standing.TheVariants.{InBranch, PatchSet, Nowhere}
 use Rattle.review_core_rules.specs.Change.{Change, commit, current_patch, of_number, current}
-use Rattle.review_core_rules.specs.Parts.{TheHeader, PatchOf, AHeader, APatch, header_of}
-use Rattle.review_core_rules.specs.declared.rows.{Header.Header, PatchRow.PatchRow}
-use Rattle.review_machine_rows.{proofs.Asked.commit_known, proofs.Asked.found_of, specs.Answer.IsHistory}
+use Rattle.review_core_rules.specs.Parts.{TheHeader, PatchOf, APatch, header_of}
+use Rattle.review_machine_rows.proofs.Asked.{commit_known, found_of}
+use Rattle.review_machine_rows.proofs.Common.{APart, Base, BaseRow, Header, IsHistory, Link, Merged, PartKey, PatchRow, Rows, Standing, bytes_eq-Decides, fact, list_any, look_up, option_map_or, or-true, same_Some, view, wanted}
+use Rattle.review_machine_rows.proofs.{Joins.unsent_from, Looked.based_from}
 use Rattle.review_machine_rows.specs.Changes.{Reading, Reads, change, change_count, is_for, some_change, is_known, is_sent}
 use Rattle.review_machine_rows.specs.Known.{IsCurrent, IsInBranch, IsMergedWith, IsSender, IsSentBy, StandsAs, at_place, part_of, Agrees, Found, IsKnown, change_in, known, standing_of as standing_in}
 use Rattle.review_machine_rows.specs.Links.{link_for, link_of, links_in}
-use Rattle.review_machine_rows.specs.{Rows.APart, Rows.BaseRow, Rows.PartKey, Steps.look_up}
 use Rattle.review_machine_rows.specs.Submits.{is_in_branch, is_merged, is_merged_commit, sent_up_to, standing_of, branch_after}
-use Rattle.review_machine_rows.specs.{View.fact, View.view, declared.rows.Base.Base, declared.rows.Rows.Rows}
-use Rattle.review_machine_laws.proofs.Changes.{one_passing, or_true, some_passes, within_count}
-use Rattle.review_machine_laws.proofs.Patches.{commits_apart, current_there, parents_known, known_parts, IsSent, sent_patch}
+use Rattle.review_machine_laws.proofs.Changes.{one_passing, some_passes, within_count}
+use Rattle.review_machine_laws.proofs.Joined.{state_merged}
+use Rattle.review_machine_laws.proofs.Patches.{commits_apart, current_there, parents_known, IsSent, sent_patch}
 use Rattle.review_machine_laws.proofs.Places.{last_of, none_past, number_within}
-use Rattle.review_machine_laws.proofs.{Rows.rows_tell, Sent.FoundUpTo, Sent.found_up_to, Sent.same_change}
-use Rattle.review_machine_laws.specs.Patches.{HasPatch}
+use Rattle.review_machine_laws.proofs.Rows.{sent_from, header_from, rows_tell}
+use Rattle.review_machine_laws.{proofs.Sent.FoundUpTo, proofs.Sent.found_up_to, specs.Patches.HasPatch}
 use Rattle.review_machine_rows.specs.declared.rows.Want.TheVariants as want
 
 -- ==== what a commit is to a branch, as rows show it
@@ -33,19 +30,6 @@ abbrev pub base_of : List ℕ → List ℕ → List ℕ → Base
 base_of project branch x = record { project = project; branch = branch; commit = x }
 
 -- ---- the rows of a change
-
--- what stands at the keys of a change
-header_from : (o : Option Change) (header : Header) → option_map APart (part_of o TheHeader) ≡ Some (APart (AHeader header)) → (c : Change) × (o ≡ Some c) × (header_of c ≡ header)
-header_from None header e = absurd (cc)
-header_from (Some c) header e = let same : header_of c ≡ header = cc in (c, refl, same)
-
-patch_from : (o : Option PatchRow) (p : PatchRow) → option_map APart (option_map APatch o) ≡ Some (APart (APatch p)) → o ≡ Some p
-patch_from None p e = absurd (cc)
-patch_from (Some x) p e = let same : x ≡ p = cc in ap Some same
-
-none_from : (o : Option PatchRow) → option_map APart (option_map APatch o) ≡ None → o ≡ None
-none_from None e = refl
-none_from (Some x) e = absurd (cc)
 
 -- a change is for the branch that its header names
 for_it : (project branch : List ℕ) (c : Change) (header : Header) → header_of c ≡ header → header.project ≡ project → header.branch ≡ branch → is_for project branch c ≡ true
@@ -61,7 +45,7 @@ sender_has reading h project branch x n s =
       of = head.0;
       is = head.1;
       is_for_it = for_it project branch head.0 s.header head.2 s.project s.branch;
-      sent = patch_from (of_number head.0.patches s.number) s.patch (ap (λ o. option_map APart (part_of o (PatchOf s.number))) (sym head.1) ∙ s.sent);
+      sent = sent_from (of_number head.0.patches s.number) s.patch (ap (λ o. option_map APart (part_of o (PatchOf s.number))) (sym head.1) ∙ s.sent);
     }
 
 -- and who has the patch set sent its commit
@@ -85,10 +69,9 @@ has_sender reading h project branch x n k p has same =
 -- the current patch set of a change, by rows, is its last
 current_is : (reading : Reading) (h : List Entry) (n : ℕ) (c : Change) (p : PatchRow) → change reading h n ≡ Some c → IsCurrent (fact reading h) n p → current_patch c ≡ Some p
 current_is reading h n c p is last =
-    let sent = patch_from (of_number c.patches last.number) p (row last.number ∙ last.sent) in
-    ⊎_elim
+    let sent = sent_from (of_number c.patches last.number) p (row last.number ∙ last.sent) in ⊎_elim
     (λ (lt : last.number < length c.patches).
-    let none = none_from (of_number c.patches (length c.patches)) (row (length c.patches) ∙ last.later (length c.patches) lt) in
+    let none = unsent_from (of_number c.patches (length c.patches)) (row (length c.patches) ∙ last.later (length c.patches) lt) in
     let some = last_of c.patches (omega arith) in
     let bad : None ≡ Some some.0 = sym none ∙ some.1 in absurd (cc))
     (λ (ge : length c.patches ≤ last.number).
@@ -113,29 +96,20 @@ is_current reading h n c p is last = record {
 
 -- ---- the commits in a branch
 
-merged_is : (s : State) → is_merged s ≡ true → s ≡ Merged
-merged_is Merged e = refl
-merged_is _ e = absurd (cc)
-
 -- a commit stands at a place just where it is in the list
-listed_at : (bs : List (List ℕ)) (x : List ℕ) (n : ℕ) → at_place bs n ≡ Some x → list_any (λ b. bytes_eq b x) bs ≡ true
+pub listed_at : (bs : List (List ℕ)) (x : List ℕ) (n : ℕ) → at_place bs n ≡ Some x → list_any (λ b. bytes_eq b x) bs ≡ true
 listed_at [] x n e = absurd (cc)
 listed_at (b ∷ bs) x zero e = absurd (cc)
 listed_at (b ∷ bs) x (suc zero) e = let same : b ≡ x = cc in ap (λ t. t || list_any (λ c. bytes_eq c x) bs) ((bytes_eq-Decides b x).1 same)
-listed_at (b ∷ bs) x (suc (suc n)) e = ap (λ t. bytes_eq b x || t) (listed_at bs x (suc n) e) ∙ or_true (bytes_eq b x)
+listed_at (b ∷ bs) x (suc (suc n)) e = ap (λ t. bytes_eq b x || t) (listed_at bs x (suc n) e) ∙ or-true (bytes_eq b x)
 
 -- what is in the list stands at a place
-placed_at : (bs : List (List ℕ)) (x : List ℕ) → list_any (λ b. bytes_eq b x) bs ≡ true → (n : ℕ) × (at_place bs (suc n) ≡ Some x)
+pub placed_at : (bs : List (List ℕ)) (x : List ℕ) → list_any (λ b. bytes_eq b x) bs ≡ true → (n : ℕ) × (at_place bs (suc n) ≡ Some x)
 placed_at [] x e = absurd (cc)
-placed_at (b ∷ bs) x e =
-    ⊎_elim
+placed_at (b ∷ bs) x e = ⊎_elim
     (λ (t : bytes_eq b x ≡ true). (0, ap Some ((bytes_eq-Decides b x).0 t)))
     (λ (f : bytes_eq b x ≡ false). let r = placed_at bs x (sym (ap (λ t. t || list_any (λ c. bytes_eq c x) bs) f) ∙ e) in (suc r.0, r.1))
     (cases_Bool (bytes_eq b x))
-
-based_from : (o : Option (List ℕ)) (x : List ℕ) → option_map BaseRow o ≡ Some (BaseRow x) → o ≡ Some x
-based_from None x e = absurd (cc)
-based_from (Some c) x e = let same : c ≡ x = cc in ap Some same
 
 -- a change that rows show merged with a commit has it as its current one
 merged_with : (reading : Reading) (h : List Entry) (project branch x : List ℕ) (n : ℕ) → IsMergedWith (fact reading h) (base_of project branch x) n →
@@ -153,10 +127,10 @@ merged_with reading h project branch x n m =
 -- what rows show in a branch is in it
 pub in_branch_is : (reading : Reading) (h : List Entry) (project branch x : List ℕ) → IsInBranch (fact reading h) (base_of project branch x) → is_in_branch reading h project branch x ≡ true
 in_branch_is reading h project branch x (inl based) =
-    ap (λ b. b || some_change reading h (is_merged_commit project branch x) (change_count h)) (listed_at (bases h project branch) x based.0 (based_from (at_place (bases h project branch) based.0) x based.1))
+    ap (λ b. b || some_change reading h (is_merged_commit project branch x) (change_count h)) (listed_at (bases h project branch) x based.0 (based_from (at_place (bases h project branch) based.0) (Some x) based.1))
 in_branch_is reading h project branch x (inr merged) =
     let m = merged_with reading h project branch x merged.0 merged.1 in
-    ap (λ b. is_base h project branch x || b) (some_passes reading h (is_merged_commit project branch x) merged.0 m.0 m.1 m.2) ∙ or_true (is_base h project branch x)
+    ap (λ b. is_base h project branch x || b) (some_passes reading h (is_merged_commit project branch x) merged.0 m.0 m.1 m.2) ∙ or-true (is_base h project branch x)
 
 -- and the other way round
 with_merged : (reading : Reading) (h : List Entry) (project branch x : List ℕ) (n : ℕ) (c : Change) → change reading h n ≡ Some c → is_merged_commit project branch x c ≡ true →
@@ -171,7 +145,7 @@ with_merged reading h project branch x n c is merged =
       stands = ap (λ o. option_map APart (part_of o TheHeader)) is;
       project = (bytes_eq-Decides c.project project).0 places.0;
       branch = (bytes_eq-Decides c.branch branch).0 places.1;
-      merged = merged_is c.state joined.0;
+      merged = state_merged c.state joined.0;
       patch = last.0;
       current = is_current reading h n c last.0 is last.1;
       commit = ap (λ o. option_map_or (λ (p : PatchRow). p.commit) o []) (sym last.1) ∙ (bytes_eq-Decides (commit c) x).0 joined.1;
@@ -179,7 +153,7 @@ with_merged reading h project branch x n c is merged =
 
 -- what is in a branch rows show in it
 pub is_in_shown : (reading : Reading) (h : List Entry) (project branch x : List ℕ) → is_in_branch reading h project branch x ≡ true → IsInBranch (fact reading h) (base_of project branch x)
-is_in_shown reading h project branch x is = by (known_parts (is_base h project branch x) (some_change reading h (is_merged_commit project branch x) (change_count h)) is)
+is_in_shown reading h project branch x is = by (or_cases (is_base h project branch x) (some_change reading h (is_merged_commit project branch x) (change_count h)) is)
   where
     by : (is_base h project branch x ≡ true) ⊎ (some_change reading h (is_merged_commit project branch x) (change_count h) ≡ true) → IsInBranch (fact reading h) (base_of project branch x)
     by (inl based) = let r = placed_at (bases h project branch) x based in inl (suc r.0, ap (option_map BaseRow) r.1)
@@ -189,8 +163,7 @@ is_in_shown reading h project branch x is = by (known_parts (is_base h project b
 
 -- what rows don't show in a branch isn't in it
 not_in : (reading : Reading) (h : List Entry) (project branch x : List ℕ) → (IsInBranch (fact reading h) (base_of project branch x) → ⊥) → is_in_branch reading h project branch x ≡ false
-not_in reading h project branch x none =
-    ⊎_elim
+not_in reading h project branch x none = ⊎_elim
     (λ (t : is_in_branch reading h project branch x ≡ true). absurd (none (is_in_shown reading h project branch x t)))
     (λ (f : is_in_branch reading h project branch x ≡ false). f)
     (cases_Bool (is_in_branch reading h project branch x))
@@ -279,14 +252,10 @@ not_based : (a b c : Bool) → (a || b) ≡ false → (a || c) ≡ true → c �
 not_based true b c none is = absurd (cc)
 not_based false b c none is = is
 
-same_some : (s t : Standing) → Some s ≡ Some t → s ≡ t
-same_some s t e = cc
-
 -- a commit is in the branch, or it stands as it was sent
 stands : (reading : Reading) (h : List Entry) (project branch x : List ℕ) (s : Standing) → standing_of reading h project branch x ≡ s → (s ≡ InBranch → ⊥) →
     (is_in_branch reading h project branch x ≡ false) × (sent_as reading h project branch x ≡ s)
-stands reading h project branch x s is other =
-    ⊎_elim
+stands reading h project branch x s is other = ⊎_elim
     (λ (t : is_in_branch reading h project branch x ≡ true). absurd (other (sym is ∙ ap (λ b. cond b InBranch (sent_as reading h project branch x)) t)))
     (λ (f : is_in_branch reading h project branch x ≡ false). (f, sym (not_in_stands reading h project branch x f) ∙ is))
     (cases_Bool (is_in_branch reading h project branch x))
@@ -318,19 +287,19 @@ link_based reading h project branch n l history reads o =
 merged : (reading : Reading) (h : List Entry) (project branch x : List ℕ) (d k : ℕ) (l : Link) → (branch_after reading h project branch).standing x ≡ Some (PatchSet d k) →
     (branch_after reading h project branch).link d ≡ Some l → l.state ≡ Merged → k ≢ l.patch
 merged reading h project branch x d k l is link_is state_is same =
-    let s = stands reading h project branch x (PatchSet d k) (same_some (standing_of reading h project branch x) (PatchSet d k) is) (λ e. absurd (cc)) in
+    let s = stands reading h project branch x (PatchSet d k) (same_Some (standing_of reading h project branch x) (PatchSet d k) is) (λ e. absurd (cc)) in
     let o = linked project branch (change reading h d) l link_is in
     let found = subst (FoundUpTo reading h project branch x (change_count h)) s.1 (found_up_to reading h project branch x (change_count h)) in
     let c = o.of in
-    let one : found.1.of ≡ c = same_change found.1.of c (sym found.1.is ∙ o.is) in
+    let one : found.1.of ≡ c = same_Some found.1.of c (sym found.1.is ∙ o.is) in
     let last : k ≡ current c = same ∙ ap (λ (y : Link). y.patch) o.link_is in
     let sent : current_patch c ≡ Some found.0 = (λ i. of_number (sym one i).patches (sym last i)) ∙ found.1.sent in
     let commit_is : commit c ≡ x = ap (λ o. option_map_or (λ (p : PatchRow). p.commit) o []) sent ∙ found.2 in
-    let merged_is : is_merged c.state ≡ true = ap is_merged (sym (ap (λ (y : Link). y.state) o.link_is) ∙ state_is) in
+    let state_merged : is_merged c.state ≡ true = ap is_merged (sym (ap (λ (y : Link). y.state) o.link_is) ∙ state_is) in
     let passes : is_merged_commit project branch x c ≡ true =
-    and_from (is_for project branch c) (is_merged c.state && bytes_eq (commit c) x) o.is_for_it (and_from (is_merged c.state) (bytes_eq (commit c) x) merged_is ((bytes_eq-Decides (commit c) x).1 commit_is)) in
+    and_from (is_for project branch c) (is_merged c.state && bytes_eq (commit c) x) o.is_for_it (and_from (is_merged c.state) (bytes_eq (commit c) x) state_merged ((bytes_eq-Decides (commit c) x).1 commit_is)) in
     let bad : true ≡ false =
-    sym (ap (λ b. is_base h project branch x || b) (some_passes reading h (is_merged_commit project branch x) d c o.is passes) ∙ or_true (is_base h project branch x)) ∙ s.0 in
+    sym (ap (λ b. is_base h project branch x || b) (some_passes reading h (is_merged_commit project branch x) d c o.is passes) ∙ or-true (is_base h project branch x)) ∙ s.0 in
     absurd (cc)
 
 -- The branch after a history is whole.

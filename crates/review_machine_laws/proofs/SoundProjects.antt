@@ -1,32 +1,25 @@
 -- Projects of a history are sound, and each vote stands by the file of its project.
 use Rattle.std.proofs.Common.{◌≡◌, ℕ, ◌+◌, ◌==◌, List, [], ◌∷◌, length, Option, Some, None, Bool, true, false, cond, refl, sym, ap, ◌∙◌, subst, is_some, option_map, bytes_eq, ◌++◌, int_eq, ◌&&◌, ℤ, pos, eqb-true}
-use Rattle.std.proofs.lemmas.Slice.Eq.{bytes_eq-Decides}
-use Rattle.std.specs.{List.list_any, List.AllByRecursion, Option.option_map_or}
+use Rattle.std.{proofs.Math.Bool.and-true, specs.List.list_any, specs.List.AllByRecursion}
 use Rattle.review_words.specs.History.{Entry, accepted, file_text, if_done, is_account, is_project, text_put}
-use Rattle.review_words.specs.declared.changes.{Given.Given, Review.Review as ReviewOf}
-use Rattle.review_words.specs.declared.command.{ChangeCommand.ChangeCommand, Command.Command}
+use Rattle.review_words.specs.declared.changes.Review.{Review as ReviewOf}
 use Rattle.review_words.specs.declared.command.Command.TheVariants.{PutProject, CreateChange, OnChange}
-use Rattle.review_words.specs.declared.reply.{Answer.Answer, Refusal.Refusal, Refusal.TheVariants.UnknownCaller}
-use Rattle.review_words.specs.declared.reply.Reply.{Reply, TheVariants.Done}
 use Rattle.review_file_rules.proofs.Known.{OrderedLabels, covers_found, covers_itself, covers_through, label_name, values_through}
-use Rattle.review_file_rules.{proofs.Named.named, proofs.Named.all_true, proofs.Trees.OneFile, specs.Rights.covers}
+use Rattle.review_file_rules.proofs.Named.{named, all_true}
+use Rattle.review_core_rules.proofs.Stays.{some_put}
 use Rattle.review_core_rules.specs.Change.{Change, after, begun, Setting, copying, current, given_or, reviewed, vote_by}
-use Rattle.review_core_rules.specs.Votes.{voted}
+use Rattle.review_machine_rows.proofs.Common.{Answer, ChangeCommand, Command, Done, File, Given, OneFile, Refusal, Reply, UnknownCaller, bytes_eq-Decides, covers, most_depth, option_map_or, voted}
 use Rattle.review_machine_rows.proofs.Readings.{IsDoneBy, done_of, reading_of}
 use Rattle.review_machine_rows.specs.Answer.{IsAnswerBy, IsHistory, checks, is_value_of, given_checks, request_checks}
 use Rattle.review_machine_rows.specs.Changes.{Reading, Reads, change, change_by, change_count, setting_of, submitted, file_of, own_of}
-use Rattle.review_machine_rows.specs.{Files.File, Lines.most_depth}
 use Rattle.review_machine_laws.proofs.Changes.{joining_keeps, all_pass, done_passes, Passes, checks_pass}
 use Rattle.review_machine_laws.proofs.Growing.{eff_ordered}
 use Rattle.review_machine_laws.proofs.Histories.{files_grow, lines_end, sound_files, labels_known}
+use Rattle.review_machine_laws.proofs.Rows.{made_holds, named_holds}
 use Rattle.review_machine_laws.specs.SoundProjects.{AreOfLabels, AreSoundProjects}
 use Rattle.review_words.specs.declared.command.ChangeCommand.TheVariants as on
 
 -- ==== the project of a change has a file
-
-some_put : (b : Bool) (text : List ℕ) (before : Option (List ℕ)) → is_some before ≡ true → is_some (cond b (Some text) before) ≡ true
-some_put true text before some = refl
-some_put false text before some = some
 
 -- a project that is there stays there
 pub text_stays : (o : Option Command) (project : List ℕ) (before : Option (List ℕ)) → is_some before ≡ true → is_some (text_put o project before) ≡ true
@@ -72,10 +65,6 @@ has_project reading (e ∷ h) n c history reads is =
 pub file_ordered : OneFile → (reading : Reading) (h : List Entry) → IsHistory h → Reads reading h → (project : List ℕ) → is_project h project ≡ true → OrderedLabels (file_of reading h project).labels
 file_ordered one reading h history reads project is = eff_ordered reading (own_of h) (sound_files one reading h history reads).spelled most_depth project (lines_end one reading h history reads project is)
 
-and_true : (b : Bool) → (b && true) ≡ b
-and_true true = refl
-and_true false = refl
-
 -- a value of a label stays one where the file is covered
 pub value_stays : (old new : File) (g : Given) → OrderedLabels new.labels → covers old new ≡ true → is_value_of old g ≡ true → is_value_of new g ≡ true
 value_stays old new g in_order covered is = by (named label_name g.label old.labels) refl is
@@ -85,8 +74,8 @@ value_stays old new g in_order covered is = by (named label_name g.label old.lab
     by (Some l) found h =
         let m = covers_found old new g.label l in_order covered found in
         ap (λ o. option_map_or (λ label. list_any (λ v. int_eq v.0 g.value) label.values) o false) m.1
-        ∙ (sym (and_true (list_any (λ v. int_eq v.0 g.value) m.0.values))
-        ∙ values_through m.0.values l.values ((g.value, []) ∷ []) m.2 (and_true (list_any (λ v. int_eq v.0 g.value) l.values) ∙ h))
+        ∙ (sym (and-true (list_any (λ v. int_eq v.0 g.value) m.0.values))
+        ∙ values_through m.0.values l.values ((g.value, []) ∷ []) m.2 (and-true (list_any (λ v. int_eq v.0 g.value) l.values) ∙ h))
 
 -- a project that was there before some requests is there after them
 pub still_there : (later before : List Entry) (project : List ℕ) → is_project before project ≡ true → is_project (later ++ before) project ≡ true
@@ -163,23 +152,13 @@ votes_after reading h caller request _ c pass was n l a = was n l a
 abbrev Stands : Reading → List Entry → Change → Type 0
 Stands reading h c = AreOfLabels (file_of reading h c.project) c
 
-named_stands : (P : Change → Type 0) (b : Bool) (o : Option Change) (f : Change → Change) (c : Change) → ((x : Change) → o ≡ Some x → P x) → (b ≡ true → (x : Change) → o ≡ Some x → P x → P (f x)) →
-    cond b (option_map f o) o ≡ Some c → P c
-named_stands P true None f c before then is = absurd (cc)
-named_stands P true (Some x) f c before then is = let same : f x ≡ c = cc in subst P same (then refl x refl (before x refl))
-named_stands P false o f c before then is = before c is
-
-made_stands : (P : Change → Type 0) (b : Bool) (o : Option Change) (new c : Change) → ((x : Change) → o ≡ Some x → P x) → P new → cond b (Some new) o ≡ Some c → P c
-made_stands P true o new c before here is = let same : new ≡ c = cc in subst P same here
-made_stands P false o new c before here is = before c is
-
 -- a command that was done leaves votes on labels
 done_stands : (reading : Reading) (h : List Entry) (caller n : ℕ) (c : Change) (command : Command) (a : Answer) → IsAnswerBy reading h caller command (Done a) →
     ((x : Change) → change reading h n ≡ Some x → Stands reading h x) → change_by reading h caller (Some command) n (change reading h n) ≡ Some c → Stands reading h c
 done_stands reading h caller n c (CreateChange new) a answer before is =
-    made_stands (Stands reading h) (change_count h + 1 == n) (change reading h n) (begun new caller (length h + 1)) c before (λ k l u. no_vote (file_of reading h new.project) l) is
+    made_holds (Stands reading h) (change_count h + 1 == n) (change reading h n) (begun new caller (length h + 1)) c before (λ k l u. no_vote (file_of reading h new.project) l) is
 done_stands reading h caller n c (OnChange m command) a answer before is =
-    named_stands (Stands reading h) (m == n) (change reading h n) (λ x. after (setting_of reading h x.project) command caller (length h + 1) x) c before
+    named_holds (Stands reading h) (m == n) (change reading h n) (λ x. after (setting_of reading h x.project) command caller (length h + 1) x) c before
     (λ same x there stands.
     let pass = checks_pass reading h caller (request_checks reading h caller command) (change reading h m) x (ap (change reading h) (eqb-true m n same) ∙ there) (done_passes reading h caller (OnChange m command) a answer) in
     votes_after reading h caller (length h + 1) command x pass stands)

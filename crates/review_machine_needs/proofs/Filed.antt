@@ -1,30 +1,22 @@
 -- What a PutProject does by what rows know of the line of its project.
 use Rattle.std.proofs.Common.{◌≡◌, ℕ, suc, arith, List, [], ◌∷◌, length, Option, Some, None, Result, Ok, Err, Bool, true, false, cond, not, ◌||◌, ◌∙◌, ◌⊎◌, refl, sym, ap, subst, inl, inr, ⊎_elim, MatchBool, is_some, nat_lt, IfErr, IfOk, MatchOption, option_map, option_and_then}
-use Rattle.std.proofs.lemmas.{Bool.Decides.nat_tests, Slice.Eq.bytes_eq-Decides}
-use Rattle.std.specs.{List.AllByRecursion, Option.option_map_or}
 use Rattle.review_words.specs.History.{Entry, is_account, is_admin, is_project, project_count}
-use Rattle.review_words.specs.declared.command.Command.TheVariants.{PutProject}
-use Rattle.review_words.specs.declared.faults.FileFault.{FileFault, TheVariants.UnknownLabel}
-use Rattle.review_words.specs.declared.reply.{Answer.TheVariants.Nothing, NotTaken.NotTaken as Cause}
+use Rattle.review_words.specs.declared.{faults.FileFault.FileFault, reply.NotTaken.NotTaken as Cause}
 use Rattle.review_words.specs.declared.reply.NotTaken.TheVariants.{Memory, Damaged, Pattern}
-use Rattle.review_words.specs.declared.reply.Refusal.{Refusal}
 use Rattle.review_words.specs.declared.reply.Refusal.TheVariants.{BadFile, LabelNarrowed, Limit, NoParent, ParentDepth, ParentFixed}
-use Rattle.review_words.specs.declared.reply.Reply.{Reply, TheVariants.Refused}
 use Rattle.review_file_rules.proofs.Trees.{covers_seen, inherits_above, inherit_trees}
 use Rattle.review_file_rules.specs.Inherited.{IsEffective, inherit, inherits_unknown_label}
-use Rattle.review_file_rules.specs.Reading.{IsReadFault, named_parent}
-use Rattle.review_file_rules.specs.{Trees.file_trees, declared.fault.ReadFault.ReadFault}
+use Rattle.review_file_rules.specs.{Reading.IsReadFault, Reading.named_parent, declared.fault.ReadFault.ReadFault}
 use Rattle.{review_file_lines.specs.Texts.LineView, review_machine_rows.proofs.Asked.line_asked}
+use Rattle.review_machine_rows.proofs.Common.{AllByRecursion, AreEnough, Delta, HasNoEffect, IsDecided, Nothing, PutProject, Refusal, Refused, Reply, Rows, StoredFile, UnknownLabel, file_trees, most_projects, nat_tests, option_map_or}
 use Rattle.review_machine_rows.proofs.Lined.{line_told, own_told, texts_told, there_is}
-use Rattle.review_machine_rows.specs.Answer.{IsAnswerBy, file_checks, file_with, first_refusal, is_same_parent, puts_unknown_label, refused_or, keeps_parent as keeps_parent_of}
+use Rattle.review_machine_rows.specs.Answer.{IsAnswerBy, file_checks, file_with, first_refusal, puts_unknown_label, refused_or, keeps_parent as keeps_parent_of}
 use Rattle.review_machine_rows.specs.Changes.{Reading, depth, effective_of, file_of, own_of, texts_of}
 use Rattle.review_machine_rows.specs.Decisions.{IsUndecided, IsUnread, SomePattern}
-use Rattle.review_machine_rows.specs.{Files.File, Files.IsRead, Files.IsFileFault, Files.covers, Limits.most_projects}
-use Rattle.review_machine_rows.specs.{Lines.line_of, Lines.most_depth, Lines.with_above, Rows.HasNoEffect}
+use Rattle.review_machine_rows.specs.Files.{File, IsRead, IsFileFault, covers}
+use Rattle.review_machine_rows.specs.Lines.{line_of, most_depth, with_above}
 use Rattle.review_machine_rows.specs.Steps.{HasFile, OfCommand, line_steps, own_in, parent_of, parent_or, texts_in, unknown}
-use Rattle.review_machine_rows.specs.View.{AreEnough, IsDecided}
-use Rattle.review_machine_rows.specs.declared.rows.{Delta.Delta, Rows.Rows, StoredFile.StoredFile}
-use Rattle.review_machine_laws.proofs.Histories.{parent_named, OneEffective, effective_is, line_read, same_file}
+use Rattle.review_machine_laws.proofs.Histories.{same_name, parent_named, OneEffective, effective_is, line_read, same_file}
 use Rattle.review_machine_accounts.proofs.Decided.{asked_beside, empty_changes, outcome_answer, project_refused, refused_decided, file_decided}
 use Rattle.review_machine_accounts.{proofs.Told.room_told, specs.Decisions.IsEmpty}
 use Rattle.review_machine_needs.specs.inner.Files.{IsFilePut, IsPut, IsPutBelow, IsReadCause, file_refused, has_unknown, heir, heir_refused, keeps_parent, parent_refused, room_in}
@@ -37,15 +29,9 @@ refused_nothing r refusal e is = subst (λ reply. HasNoEffect reply r.0) (sym is
 
 -- ---- parents
 
-same_parent : (a b : Option (List ℕ)) → is_same_parent a b ≡ true → a ≡ b
-same_parent None None e = refl
-same_parent (Some a) (Some b) e = ap Some ((bytes_eq-Decides a b).0 e)
-same_parent None (Some b) e = absurd (cc)
-same_parent (Some a) None e = absurd (cc)
-
 parent_same : (was : Option StoredFile) (p named : Option (List ℕ)) → keeps_parent was p ≡ true → p ≡ named → parent_or named was ≡ p
 parent_same None p named kept is = sym is
-parent_same (Some f) p named kept is = same_parent f.parent p kept
+parent_same (Some f) p named kept is = same_name f.parent p kept
 
 -- a project that is there has texts
 some_texts : (o : Option StoredFile) (above : List ℕ → List (List ℕ)) → nat_lt 0 (length (with_above o above)) ≡ is_some o

@@ -1,15 +1,12 @@
 -- Asking that goes on: look-ups, steps, and the texts of a line.
 use native.Mathlib.Numerals.{unary_clauses}
-use Rattle.std.proofs.Common.{◌≡◌, ℕ, ◌+◌, ◌<◌, List, [], ◌∷◌, ◌++◌, length, map, take, get_or, sym, ap, ◌∙◌, Option, Some, None, refl, subst, zero, suc, ◌≤◌, ◌-◌, true, false, cond, not, is_some, option_and_then, inl, inr, arith}
-use Rattle.std.{proofs.lemmas.List.take_more, proofs.lemmas.List.map-append, specs.Option.option_map_or}
-use Rattle.review_chain.{proofs.Parting.walked_alone, specs.Branches.Branch, specs.declared.walks.Walked.Walked}
+use Rattle.std.proofs.Common.{append_assoc, ◌≡◌, ℕ, ◌+◌, ◌<◌, List, [], ◌∷◌, ◌++◌, length, map, take, get_or, sym, ap, ◌∙◌, Option, Some, None, refl, subst, zero, suc, ◌≤◌, ◌-◌, true, false, cond, not, is_some, option_and_then, inl, inr, arith}
+use Rattle.review_chain.{proofs.Parting.walked_alone, specs.declared.walks.Walked.Walked}
 use Rattle.review_file_rules.specs.{Patterns.HasPattern, declared.fault.ReadFault.ReadFault}
 use Rattle.review_file_lines.specs.Texts.{IsLineFault}
 use Rattle.review_machine_rows.proofs.Asked.{change_comes, come_stays, file_comes, first_comes, to_file}
-use Rattle.review_machine_rows.specs.{Decisions.IsUnread, Decisions.SomePattern, Files.File, Known.file_in, Known.known}
-use Rattle.review_machine_rows.specs.Lines.{most_depth, line_of, with_above}
+use Rattle.review_machine_rows.proofs.Common.{Branch, File, IsUnread, Rows, SomePattern, StoredFile, Want, file_in, known, line_of, map-append, most_depth, option_map_or, take_more, with_above}
 use Rattle.review_machine_rows.specs.Steps.{Topic, HasComeTo, MayGoOnFor, change_wants, file_wants, first_wants, last_wants, line_steps, next, next_of, or_next, parent_of, steps, unknown, unless_none, known_parent, own_in}
-use Rattle.review_machine_rows.specs.declared.rows.{Rows.Rows, StoredFile.StoredFile, Want.Want}
 use Rattle.review_machine_needs.specs.inner.{Asked.IsAsked, Files.unread_cause, Walks.IsWalkIn}
 use Rattle.review_machine_rows.specs.declared.rows.Want.TheVariants as want
 use Rattle.review_machine_rows.specs.declared.step.Step.TheVariants as step
@@ -142,13 +139,9 @@ more rows (suc n) p f above is = simp unary_clauses (ap (λ o. with_above o (lin
 pub texts_more : (rows : Rows) (n : ℕ) (next : Option (List ℕ)) (p : List ℕ) (f : StoredFile) → 0 < n → next ≡ Some p → own_in rows p ≡ Some f → texts_from rows n next ≡ f.text ∷ texts_from rows (n - 1) f.parent
 texts_more rows n next p f above is there = ap (texts_from rows n) is ∙ more rows n p f above there
 
-assoc : (xs ys zs : List (List ℕ)) → (xs ++ ys) ++ zs ≡ xs ++ (ys ++ zs)
-assoc [] ys zs = refl
-assoc (x ∷ xs) ys zs = ap (λ l. x ∷ l) (assoc xs ys zs)
-
 -- one more text is taken
 pub taken_more : (taken now : List (List ℕ)) (text : List ℕ) (rest all left : List (List ℕ)) → now ≡ taken ++ text ∷ [] → left ≡ text ∷ rest → taken ++ left ≡ all → now ++ rest ≡ all
-taken_more taken now text rest all left is next so = ap (λ l. l ++ rest) is ∙ (assoc taken (text ∷ []) rest ∙ (sym (ap (λ l. taken ++ l) next) ∙ so))
+taken_more taken now text rest all left is next so = ap (λ l. l ++ rest) is ∙ (append_assoc taken (text ∷ []) rest ∙ (sym (ap (λ l. taken ++ l) next) ∙ so))
 
 some_pattern : (texts : List (List ℕ)) (k : ℕ) (t : List ℕ) → k < length texts → get_or texts k t ≡ t → HasPattern t → SomePattern texts
 some_pattern [] k t below is pattern = absurd (omega arith)

@@ -1,22 +1,16 @@
 -- What was asked is known, and asking ends.
 use Rattle.std.proofs.Common.{◌≡◌, ℕ, ◌+◌, ◌<◌, ◌≤◌, List, [], ◌∷◌, length, zero, suc, Option, Some, None, Bool, true, false, cond, not, IsSome, refl, sym, ap, ◌∙◌, subst, ⊎_elim, arith, All, is_some, ◌&&◌, ◌++◌, option_and_then, option_map, option_to_list}
-use Rattle.std.proofs.lemmas.{Bool.cases_Bool, List.Elements.All-head, List.Elements.All-tail}
-use Rattle.{std.specs.List.AllByRecursion, std.specs.Option.option_or, review_words.specs.declared.changes.Given.Given}
-use Rattle.review_words.specs.declared.command.{ChangeCommand.ChangeCommand, ChangeQuery.ChangeQuery, Command.Command}
+use Rattle.review_words.specs.declared.command.ChangeQuery.{ChangeQuery}
 use Rattle.review_words.specs.declared.command.Command.TheVariants.{CreateAccount, PutGroup, PutProject, RecordBase, CloseEpoch, CreateChange, OnChange, Submit}
 use Rattle.review_chain.proofs.LookingUp.{fewer_left, most_left}
 use Rattle.review_chain.proofs.Parting.{Says, still_wanted, walked_kept, wanted_says}
-use Rattle.review_chain.specs.Branches.{Branch}
 use Rattle.review_chain.specs.Parts.{Want as ChainWant, TheChange, TheCommit, IsPart, Knows}
-use Rattle.review_chain.specs.Steps.{wanted, left as left_in_chain}
-use Rattle.review_chain.specs.declared.{links.Link.Link, links.Standing.Standing, walks.Walked.Walked}
-use Rattle.review_file_rules.specs.Reading.{named_parent}
-use Rattle.review_core_rules.specs.Change.{Change, is_open}
-use Rattle.review_machine_rows.specs.Files.{File}
+use Rattle.review_chain.specs.{Steps.wanted, Steps.left as left_in_chain, declared.walks.Walked.Walked}
+use Rattle.review_machine_rows.proofs.Common.{All-head, All-tail, AllByRecursion, Branch, Change, ChangeCommand, Command, File, Given, Link, Rows, Standing, Want, cases_Bool, is_open, most_depth, named_parent, option_or}
 use Rattle.review_machine_rows.specs.Known.{Found, Stands, IsFound, known, number_of, change_in, standing_of, file_in, Agrees, IsKnown, AreAdded}
-use Rattle.review_machine_rows.specs.{Lines.most_depth, Links.link_for, Links.links_in, Rows.ClosedEpochs, Rows.Tables}
+use Rattle.review_machine_rows.specs.{Links.link_for, Links.links_in, Rows.ClosedEpochs, Rows.Tables}
 use Rattle.review_machine_rows.specs.Steps.{Topic, OfCommand, OfQuery, first_wants, change_wants, file_wants, given_wants, has_some, question_wants, request_wants, submit_wants, wants_by, own_in, known_parent, parent_or, needs_file, project_for, asks_file, parent_of, line_wants, line_steps, wanted_for, chain_wants, chain_left, last_of, last_wants, look_up, steps, unknown, or_next, next, next_of, left, left_before, left_if, left_of, left_where, AskingLowers, ComesTo, HasComeTo, IsWalkTo, MayGoOnFor}
-use Rattle.review_machine_rows.specs.declared.{rows.Rows.Rows, rows.Want.Want, step.Step.Step}
+use Rattle.review_machine_rows.specs.declared.step.Step.{Step}
 use Rattle.review_words.specs.declared.command.Query.TheVariants as asked
 use Rattle.review_machine_rows.specs.declared.rows.Want.TheVariants as want
 use Rattle.review_machine_rows.specs.declared.step.Step.TheVariants as step
@@ -34,8 +28,7 @@ found_of t rows w agree there = at (known rows w) refl there
 -- where none of some look-ups is left, all were made
 pub each_known : (rows : Rows) (ws : List Want) → unknown rows ws ≡ [] → AllByRecursion (IsKnown rows) ws
 each_known rows [] none = tt
-each_known rows (w ∷ ws) none =
-    ⊎_elim
+each_known rows (w ∷ ws) none = ⊎_elim
     (λ (t : is_some (known rows w) ≡ true). (t, each_known rows ws (sym (ap (λ b. cond (not b) (w ∷ unknown rows ws) (unknown rows ws)) t) ∙ none)))
     (λ (f : is_some (known rows w) ≡ false). let e : w ∷ unknown rows ws ≡ [] = sym (ap (λ b. cond (not b) (w ∷ unknown rows ws) (unknown rows ws)) f) ∙ none in absurd (cc))
     (cases_Bool (is_some (known rows w)))
@@ -51,8 +44,7 @@ or_right (Some x) b e = refl
 -- rows with those that know all look-ups that were left know them all
 none_left : (rows more both : Rows) (ws : List Want) → AreAdded rows more both → AllByRecursion (IsKnown more) (unknown rows ws) → unknown both ws ≡ []
 none_left rows more both [] added all = refl
-none_left rows more both (w ∷ ws) added all =
-    ⊎_elim
+none_left rows more both (w ∷ ws) added all = ⊎_elim
     (λ (t : is_some (known rows w) ≡ true).
     let rest = subst (AllByRecursion (IsKnown more)) (ap (λ b. cond (not b) (w ∷ unknown rows ws) (unknown rows ws)) t) all in
     here (ap is_some (added w) ∙ or_left (known rows w) (known more w) t) ∙ none_left rows more both ws added rest)
@@ -69,7 +61,7 @@ by_recursion P [] all = tt
 by_recursion P (x ∷ xs) all = (All-head P x xs all, by_recursion P xs (All-tail P x xs all))
 
 -- nothing is left of a list, and nothing after it
-none_in : (a b : List Want) → or_next a b ≡ [] → (a ≡ []) × (b ≡ [])
+pub none_in : (a b : List Want) → or_next a b ≡ [] → (a ≡ []) × (b ≡ [])
 none_in [] b none = (refl, none)
 none_in (w ∷ ws) b none = absurd (cc)
 
@@ -111,19 +103,19 @@ pub line_asked : (file : Option File) (rows : Rows) (caller : ℕ) (topic : Topi
 line_asked file rows caller topic none =
     of_others (λ s. unknown rows s ≡ []) (line_steps rows most_depth (parent_of rows topic)) (file_wants file caller topic) (none_of_steps rows (steps file rows caller topic) (all_made file rows caller topic none).0).1.1
 
-stays : (a b : Option Found) → is_some a ≡ true → option_or a b ≡ a
-stays None b e = absurd (cc)
-stays (Some f) b e = refl
+pub or_stays : {X : Type 0} (a b : Option X) → is_some a ≡ true → option_or a b ≡ a
+or_stays None b e = absurd (cc)
+or_stays (Some f) b e = refl
 
--- what is known stays known
+-- what is known or_stays known
 known_stays : (rows more both : Rows) (w : Want) → AreAdded rows more both → IsKnown rows w → known both w ≡ known rows w
-known_stays rows more both w added there = added w ∙ stays (known rows w) (known more w) there
+known_stays rows more both w added there = added w ∙ or_stays (known rows w) (known more w) there
 
 -- a submit asks first for its change
 submit_known : (rows : Rows) (caller n : ℕ) → unknown rows (first_wants caller (OfCommand (Submit n))) ≡ [] → IsKnown rows (want.Change n)
 submit_known rows caller n none = (each_known rows (first_wants caller (OfCommand (Submit n))) none).1.1.1.0
 
--- once the change is known, what it asks stays
+-- once the change is known, what it asks or_stays
 same_wants : (rows more both : Rows) (caller : ℕ) (topic : Topic) → AreAdded rows more both → unknown rows (first_wants caller topic) ≡ [] → change_wants both topic ≡ change_wants rows topic
 same_wants rows more both caller (OfQuery (asked.OnChange change query)) added none =
     ap (λ k. wants_by (question_wants query) (change_in k)) (known_stays rows more both (want.Change change) added (each_known rows (first_wants caller (OfQuery (asked.OnChange change query))) none).1.0)
@@ -173,7 +165,7 @@ steps_lower rows more both w ws all added (x ∷ xs) (y ∷ ys) are is =
         let same : length xs ≡ length ys = are.1 in
         omega arith
 
--- what is known of a branch stays known
+-- what is known of a branch or_stays known
 links_grow : (rows more both : Rows) (project branch : List ℕ) → AreAdded rows more both → IsPart (links_in rows project branch) (links_in both project branch)
 links_grow rows more both project branch added = record {
   link = λ n l. by_change n l (known rows (want.Change n)) refl;
@@ -324,14 +316,14 @@ before_less a zero last later less below = absurd (omega arith)
 before_less zero (suc b) last later less below = omega arith
 before_less (suc a) (suc b) last later less below = omega arith
 
--- the file of a project that is known stays, and its parent
+-- the file of a project that is known or_stays, and its parent
 own_stays : (rows more both : Rows) (project : List ℕ) → AreAdded rows more both → IsKnown rows (want.File project) → own_in both project ≡ own_in rows project
 own_stays rows more both project added there = ap file_in (known_stays rows more both (want.File project) added there)
 
 parent_stays : (rows more both : Rows) (project : List ℕ) → AreAdded rows more both → IsKnown rows (want.File project) → known_parent both project ≡ known_parent rows project
 parent_stays rows more both project added there = ap (option_and_then (λ f. f.parent)) (own_stays rows more both project added there)
 
--- the next one of a line stays, once its file is known
+-- the next one of a line or_stays, once its file is known
 above_stays : (rows more both : Rows) (p : Option (List ℕ)) → AreAdded rows more both → unknown rows (line_wants p) ≡ [] → option_and_then (known_parent both) p ≡ option_and_then (known_parent rows) p
 above_stays rows more both None added none = refl
 above_stays rows more both (Some project) added none = parent_stays rows more both project added (each_known rows (want.File project ∷ []) none).0
@@ -351,7 +343,7 @@ line_stays rows more both (suc n) p x added = (
       (line_stays rows more both n (option_and_then (known_parent rows) p) x added),
 )
 
--- the parent of a project that is judged by stays, where the project's file is known
+-- the parent of a project that is judged by or_stays, where the project's file is known
 judged_stays : (rows more both : Rows) (is : Bool) (o : Option Change) → AreAdded rows more both → ((c : Change) → o ≡ Some c → is ≡ true → IsKnown rows (want.File c.project)) →
     option_and_then (known_parent both) (project_for is o) ≡ option_and_then (known_parent rows) (project_for is o)
 judged_stays rows more both false o added there = refl
@@ -381,7 +373,7 @@ answered_asked rows _ c all is = absurd (let none : false ≡ true = is in cc)
 by_found : (rows : Rows) (each : Change → List Want) (o : Option Change) (c : Change) → o ≡ Some c → AllByRecursion (IsKnown rows) (wants_by each o) → AllByRecursion (IsKnown rows) (each c)
 by_found rows each o c is all = subst (λ x. AllByRecursion (IsKnown rows) (wants_by each x)) is all
 
--- the first parent that is asked for stays, once all is known that is asked before
+-- the first parent that is asked for or_stays, once all is known that is asked before
 parents_stay : (rows more both : Rows) (caller : ℕ) (topic : Topic) → AreAdded rows more both → unknown rows (first_wants caller topic) ≡ [] → unknown rows (change_wants rows topic) ≡ [] →
     parent_of both topic ≡ parent_of rows topic
 parents_stay rows more both caller (OfQuery (asked.OnChange n query)) added first then =
@@ -477,7 +469,7 @@ none_left_later rows more both added (x ∷ xs) (y ∷ ys) are none =
     let here = none_left rows more both x added (subst (AllByRecursion (IsKnown more)) (sym p.0) tt) in
     ap (λ s. or_next (unknown both s) (next_of both ys)) (sym are.0) ∙ (ap (λ l. or_next l (next_of both ys)) here ∙ later)
 
--- a walk stays one where more is known
+-- a walk or_stays one where more is known
 walk_stays : (rows more both : Rows) (n : ℕ) (w : Walked) → AreAdded rows more both → IsKnown rows (want.Change n) → IsWalkTo rows n w → IsWalkTo both n w
 walk_stays rows more both n w added there h = record {
   change_is = h.change_is;

@@ -1,11 +1,6 @@
 -- Lists by their places, and the place at which a change joined.
-use Rattle.std.proofs.Common.{◌≡◌, ℕ, ◌+◌, ◌<◌, ◌≤◌, ◌==◌, zero, suc, true, false, cond, List, [], ◌∷◌, ◌++◌, length, Some, None, refl, sym, ap, ◌∙◌, ⊎_elim, eqb-true, eq-eqb, arith, is_some, Option, subst}
-use Rattle.std.proofs.lemmas.Bool.{cases_Bool, cases_lt}
-use Rattle.review_words.specs.declared.shown.JoinedChange.{JoinedChange}
-use Rattle.review_core_rules.specs.Parts.{PatchOf, AHeader, APatch}
-use Rattle.review_core_rules.specs.declared.rows.{Header.Header, PatchRow.PatchRow}
-use Rattle.review_machine_rows.specs.Known.{at_place, IsAtPlace, IsCurrent, IsJoinedAt}
-use Rattle.review_machine_rows.specs.Rows.{Key, PartKey, Row, APart}
+use Rattle.std.proofs.Common.{option_map, ◌≡◌, ℕ, ◌+◌, ◌<◌, ◌≤◌, ◌==◌, zero, suc, true, false, cond, List, [], ◌∷◌, ◌++◌, length, Some, None, refl, sym, ap, ◌∙◌, ⊎_elim, eqb-true, eq-eqb, arith, is_some, Option, subst}
+use Rattle.review_machine_rows.proofs.Common.{AHeader, APart, APatch, Header, IsAtPlace, IsCurrent, IsJoinedAt, JoinedChange, Key, PartKey, PartRow, PatchOf, PatchRow, Row, at_place, cases_Bool, cases_lt}
 use Rattle.review_machine_rows.specs.declared.rows.BranchKey.{BranchKey as Branch}
 
 -- ==== lists by their places, which are counted from 1
@@ -41,8 +36,7 @@ placed_other (y ∷ xs) x _ ne = refl
 
 -- one more stands at the place after the last
 pub placed_more : {X : Type 0} (xs : List X) (x : X) (n : ℕ) → at_place (xs ++ x ∷ []) n ≡ cond (length xs + 1 == n) (Some x) (at_place xs n)
-placed_more xs x n =
-    ⊎_elim
+placed_more xs x n = ⊎_elim
     (λ (t : (length xs + 1 == n) ≡ true).
     let here : n ≡ suc (length xs) = let e = eqb-true (length xs + 1) n t in omega arith in
     ap (at_place (xs ++ x ∷ [])) here ∙ (placed_last xs x ∙ sym (ap (λ b. cond b (Some x) (at_place xs n)) t)))
@@ -83,3 +77,14 @@ module _ (row : Key → Option Row) (key : Branch) where
       let patch = one_patch k.change a.patch b.patch (subst (λ n. IsCurrent row n a.patch) same a.current) b.current in
       let commit = sym a.commit ∙ ap (λ (x : PatchRow). x.commit) patch ∙ b.commit in
       λ i. record { change = same i; commit = commit i }
+
+-- ==== what the row of a part says
+
+pub unsent_from : (o : Option PatchRow) → option_map APart (option_map APatch o) ≡ None → o ≡ None
+unsent_from None e = refl
+unsent_from (Some x) e = absurd (cc)
+
+pub part_from : (o p : Option PartRow) → option_map APart o ≡ option_map APart p → o ≡ p
+part_from None None e = refl
+part_from (Some x) (Some y) e = let same : x ≡ y = cc in ap Some same
+part_from _ _ e = absurd (cc)

@@ -1,18 +1,15 @@
 -- Rows that learn what a look-up finds.
 use denote.Enum.Declared.{values_one}
 use Rattle.std.proofs.Common.{◌≡◌, ◌⊎◌, ℕ, List, Option, Some, None, true, false, cond, refl, sym, ap, ◌∙◌, inl, inr, ⊎_elim}
-use Rattle.std.proofs.lemmas.{Bool.cases_Bool, Cmp.then_total, Cmp.on_total, Cmp.nat_list_cmp_total, Cmp.tied_itself}
 use Rattle.std.proofs.lemmas.Map.Lookups.{CmpEqualImpliesEq, exact_unsigned, exact_bytes}
-use Rattle.std.{proofs.lemmas.Map.Views.tells_apart, specs.BTreeMap.is_at, specs.Cmp.IsTotalOrder}
-use Rattle.std.specs.{Cmp.Lexicographic.slice_cmp, Ordering.nat_cmp, Ordering.ordering_then, Ordering.is_eq}
-use Rattle.std.specs.{Prelude.option_map, declared.cmp.Ordering.Ordering, declared.cmp.Ordering.TheVariants.Equal}
+use Rattle.std.specs.{Ordering.nat_cmp, Ordering.ordering_then, Ordering.is_eq, Prelude.option_map}
 use Rattle.review_table.proofs.Places.{both_equal, exact_by_parts, by_exact}
-use Rattle.review_table.specs.Rows.{row_in, rows_of}
+use Rattle.review_machine_rows.proofs.Common.{Base, Equal, IsTotalOrder, Ordering, Rows, Want, cases_Bool, is_at, nat_list_cmp_total, on_total, row_in, rows_of, slice_cmp, tells_apart, then_total, tied_itself}
 use Rattle.review_machine_rows.specs.Known.{Found, Members, known, known_by, group_of, held, meaning, want_cmp, Learns}
 use Rattle.review_machine_rows.specs.Rows.{member_cmp, branch_cmp, base_cmp}
-use Rattle.review_machine_rows.specs.{contracts.rows.WantOrd.TheImpl.Laws.total-law, declared.rows.Base.Base}
+use Rattle.review_machine_rows.specs.contracts.rows.WantOrd.TheImpl.Laws.{total-law}
 use Rattle.review_machine_rows.specs.declared.rows.{BranchKey.BranchKey as Branch, Counted.Counted, Found.Found as Kept}
-use Rattle.review_machine_rows.specs.declared.rows.{MemberKey.MemberKey as Member, Rows.Rows, Want.Want}
+use Rattle.review_machine_rows.specs.declared.rows.MemberKey.{MemberKey as Member}
 use Rattle.review_machine_rows.specs.declared.rows.Counted.TheVariants as counted
 use Rattle.review_machine_rows.specs.declared.rows.Want.TheVariants as want
 use Rattle.review_machine_rows.specs.contracts.rows.CountedOrd.TheImpl as counted_order
@@ -53,8 +50,7 @@ learned_here {R = R} total wrap old new key row with =
 
 learned_there : {K X : Type 0} {R : K → K → Ordering} (exact : CmpEqualImpliesEq R) (wrap : X → Found) (ask : K → Want) (old new : List (K × Option X)) (key : K) (row : X) → WithRow R old key row new →
     (q : K) → (option_map wrap (row_in R (rows_of new) q) ≡ option_map wrap (row_in R (rows_of old) q)) ⊎ ((ask q ≡ ask key) × (option_map wrap (row_in R (rows_of new) q) ≡ Some (wrap row)))
-learned_there {R = R} exact wrap ask old new key row with q =
-    ⊎_elim
+learned_there {R = R} exact wrap ask old new key row with q = ⊎_elim
     (λ (t : is_at (R key) q ≡ true).
     inr (ap ask (sym (tells_apart exact key q t)), ap (option_map wrap) (with q ∙ ap (λ b. cond b (Some row) (row_in R (rows_of old) q)) t)))
     (λ (f : is_at (R key) q ≡ false). inl (ap (option_map wrap) (with q ∙ ap (λ b. cond b (Some row) (row_in R (rows_of old) q)) f)))

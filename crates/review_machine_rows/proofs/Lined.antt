@@ -1,13 +1,8 @@
 -- The texts of a line that rows know are those of the history.
 use Rattle.std.proofs.Common.{◌≡◌, ℕ, zero, suc, List, [], ◌∷◌, Option, Some, None, cond, not, refl, sym, ap, ◌∙◌, subst, is_some, option_and_then, option_map}
-use Rattle.std.specs.{List.AllByRecursion, Option.option_map_or}
-use Rattle.review_words.specs.History.{Entry, file_text, is_project}
 use Rattle.review_machine_rows.proofs.Asked.{each_known, found_of}
-use Rattle.review_machine_rows.specs.Changes.{Reading, own_of, placed, texts_of}
-use Rattle.review_machine_rows.specs.Known.{Agrees, IsKnown, file_in}
-use Rattle.review_machine_rows.specs.{Lines.line_of, Lines.most_depth, Lines.with_above, Rows.FileRow}
+use Rattle.review_machine_rows.proofs.Common.{Agrees, AllByRecursion, Entry, FileRow, IsKnown, Reading, Rows, StoredFile, file_in, file_text, is_project, line_of, most_depth, option_map_or, own_of, placed, texts_of, view, with_above}
 use Rattle.review_machine_rows.specs.Steps.{line_steps, line_wants, own_in, known_parent, unknown}
-use Rattle.review_machine_rows.specs.{View.view, declared.rows.Rows.Rows, declared.rows.StoredFile.StoredFile}
 use Rattle.review_machine_rows.specs.declared.rows.Want.TheVariants as want
 
 file_from : (o p : Option StoredFile) → option_map FileRow o ≡ option_map FileRow p → o ≡ p
@@ -31,7 +26,7 @@ there_is h q = by (file_text h q)
     by (Some t) = refl
 
 -- fewer steps ask for less
-fewer : (rows : Rows) (n : ℕ) (p : Option (List ℕ)) → AllByRecursion (λ s. unknown rows s ≡ []) (line_steps rows (suc n) p) → AllByRecursion (λ s. unknown rows s ≡ []) (line_steps rows n p)
+pub fewer : (rows : Rows) (n : ℕ) (p : Option (List ℕ)) → AllByRecursion (λ s. unknown rows s ≡ []) (line_steps rows (suc n) p) → AllByRecursion (λ s. unknown rows s ≡ []) (line_steps rows n p)
 fewer rows zero p all = tt
 fewer rows (suc n) p all = (all.0, fewer rows n (option_and_then (known_parent rows) p) all.1)
 

@@ -1,12 +1,9 @@
 -- What rows know, and what they learn.
 use Rattle.std.proofs.Common.{◌≡◌, ℕ, List, [], ◌∷◌, Option, Some, None, Bool, true, false, cond, refl, sym, ap, ◌∙◌, nat_cmp, option_map, ◌+◌, ◌<◌, ◌++◌, length, get_or, take, subst, ⊎_elim, All, Contains, is_some}
-use Rattle.std.proofs.lemmas.List.{take_more}
 use Rattle.std.proofs.lemmas.List.Elements.{All-more, All-weaker, Contains-append_left, Contains-push}
-use Rattle.std.proofs.lemmas.Option.{same_Some}
-use Rattle.std.specs.{BTreeMap.is_at, Cmp.Lexicographic.slice_cmp, Option.option_or, declared.cmp.Ordering.Ordering}
-use Rattle.review_table.specs.Rows.{row_in, rows_of}
+use Rattle.review_table.proofs.Plain.{or_none}
+use Rattle.review_machine_rows.proofs.Common.{BaseRow, Ordering, Rows, Tables, Want, is_at, option_or, row_in, rows_of, same_Some, slice_cmp, take_more}
 use Rattle.review_machine_rows.specs.Known.{known, known_by, group_of, held, meaning, want_cmp, AreAdded, Found, IsFound, IsKnown, AreAsked, Agrees, Learns, LearnsFound}
-use Rattle.review_machine_rows.specs.{Rows.BaseRow, Rows.Tables, declared.rows.Rows.Rows, declared.rows.Want.Want}
 
 -- ==== rows that know nothing, and rows that are added
 
@@ -54,10 +51,6 @@ one_done R old new left rest e q is one =
 -- no row is left
 pub none_left : {K X : Type 0} (R : K → K → Ordering) (rows : List (K × Option X)) (left : List (K × X)) (q : K) → left ≡ [] → option_or (row_in R (rows_of rows) q) (row_in R left q) ≡ row_in R (rows_of rows) q
 none_left R rows left q is = ap (λ xs. option_or (row_in R (rows_of rows) q) (row_in R xs q)) is ∙ or_none (row_in R (rows_of rows) q)
-  where
-    or_none : {X : Type 0} (a : Option X) → option_or a None ≡ a
-    or_none None = refl
-    or_none (Some x) = refl
 
 -- ==== what rows learn, look-up by look-up
 
@@ -81,8 +74,7 @@ asked_more wants i w f old new below is asked learns = record {
 
 -- rows that agree with tables still do
 agrees_more : (t : Tables) (w : Want) (f : Found) (old new : Rows) → IsFound t w f → Learns w f old new → Agrees t old → Agrees t new
-agrees_more t w f old new is learns agree x g there =
-    ⊎_elim
+agrees_more t w f old new is learns agree x g there = ⊎_elim
     (λ same. agree x g (sym same ∙ there))
     (λ now. let found : f ≡ g = same_Some f g (sym now.1 ∙ there) in
     subst (λ y. IsFound t y g) (sym now.0) (subst (IsFound t w) found is))

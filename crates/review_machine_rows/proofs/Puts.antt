@@ -1,18 +1,11 @@
 -- What a file or a base that is put leaves, and what a delta without one does.
 use Rattle.std.proofs.Common.{◌≡◌, ◌∙◌, ◌&&◌, ◌==◌, ℕ, List, Option, None, true, refl, ap, is_eq, nat_cmp, bytes_eq}
-use Rattle.std.proofs.lemmas.Cmp.{then_total, on_total, nat_cmp_total, nat_list_cmp_total}
 use Rattle.std.proofs.lemmas.Map.Lookups.{CmpEqualImpliesEq, exact_unsigned, exact_bytes}
-use Rattle.std.{proofs.lemmas.Map.Text.is_eq-slice_cmp, specs.BTreeMap.is_at}
-use Rattle.std.specs.{Cmp.unsigned_tied, Cmp.IsTotalOrder, Cmp.Lexicographic.slice_cmp, Ordering.ordering_then}
-use Rattle.std.specs.declared.cmp.Ordering.{Ordering, TheVariants.Less, TheVariants.Equal}
+use Rattle.review_table.proofs.Places.{both_equal}
+use Rattle.review_machine_rows.proofs.Common.{Delta, IsTotalOrder, Less, Ordering, PlaceKey, is_at, is_eq-slice_cmp, nat_cmp_total, nat_list_cmp_total, on_total, ordering_then, slice_cmp, then_total, unsigned_tied}
 use Rattle.review_machine_rows.specs.Rows.{Key, FileKey, BaseKey, Row, FileRow, BaseRow, Projects, BasesOf, place_cmp, after, after_put, count_after, count_put}
-use Rattle.review_machine_rows.specs.declared.rows.{Delta.Delta, PlaceKey.PlaceKey}
 
 -- ---- places of branches as keys
-
-pub both_equal : (a b : Ordering) → ordering_then a b ≡ Equal → (a ≡ Equal) × (b ≡ Equal)
-both_equal Equal b e = (refl, e)
-both_equal _ b e = absurd (cc)
 
 pub is_eq-then : (a b : Ordering) → is_eq (ordering_then a b) ≡ (is_eq a && is_eq b)
 is_eq-then Less b = refl

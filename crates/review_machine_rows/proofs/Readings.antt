@@ -1,18 +1,12 @@
 -- What is read of a history, and what is known of an accepted command.
-use Rattle.std.proofs.Common.{◌≡◌, ℕ, List, [], ◌∷◌, Option, Some, None, Bool, true, false, refl, arith, MatchOption, nat_le, nat_lt, ◌⊎◌, inl, inr, ◌∙◌, cond, sym, ap, subst, ⊎_elim, MatchBool, ◌&&◌, bytes_eq}
-use Rattle.std.proofs.lemmas.{Bool.cases_Bool, Bool.Decides.nat_tests, Slice.Eq.bytes_eq-Decides}
+use Rattle.std.proofs.Common.{◌≤◌, length, ◌≡◌, ℕ, List, [], ◌∷◌, Option, Some, None, Bool, true, false, refl, arith, MatchOption, nat_le, nat_lt, ◌⊎◌, inl, inr, ◌∙◌, cond, sym, ap, subst, ⊎_elim, MatchBool, ◌&&◌, bytes_eq}
 use Rattle.review_words.specs.History.{Entry, is_closed, least_open, raised, accepted, if_done, Asking, asking_of, file_text, text_put}
-use Rattle.review_words.specs.declared.changes.NewPatch.{NewPatch}
-use Rattle.review_words.specs.declared.command.ChangeCommand.{ChangeCommand, TheVariants.Upload}
-use Rattle.review_words.specs.declared.command.Command.{Command, TheVariants.PutProject, TheVariants.CloseEpoch}
+use Rattle.review_words.specs.declared.command.ChangeCommand.TheVariants.{Upload}
 use Rattle.review_words.specs.declared.faults.FileFault.TheVariants.{UnknownKey}
-use Rattle.review_words.specs.declared.reply.{Answer.Answer, Answer.TheVariants.Nothing, Refusal.Refusal}
-use Rattle.review_words.specs.declared.reply.Refusal.TheVariants.{EpochAhead, SameState, BadFile}
-use Rattle.review_words.specs.declared.reply.Reply.{Reply, TheVariants.Done, TheVariants.Refused}
 use Rattle.review_file_rules.specs.Inherited.{no_file}
-use Rattle.review_machine_rows.specs.Answer.{IsAnswerBy, IsAnswerAt, epoch_checks, first_refusal, refused_by, refused_or, IsRequestOutcome, done_on, IsAnswer, IsAnswerIn, IsAnswerWithoutParents, IsHistory, IsFaultAnswer, IsFileAnswer, puts_parent}
+use Rattle.review_machine_rows.proofs.Common.{Answer, BadFile, ChangeCommand, CloseEpoch, Command, Done, EpochAhead, File, IsRead, NewPatch, Nothing, PutProject, Refusal, Refused, Reply, SameState, bytes_eq-Decides, cases_Bool, nat_tests}
+use Rattle.review_machine_rows.specs.Answer.{most_requests, IsAnswerBy, IsAnswerAt, epoch_checks, first_refusal, refused_by, refused_or, IsRequestOutcome, done_on, IsAnswer, IsAnswerIn, IsAnswerWithoutParents, IsHistory, IsFaultAnswer, IsFileAnswer, puts_parent}
 use Rattle.review_machine_rows.specs.Changes.{Reading, change, Reads, IsReadRight}
-use Rattle.review_machine_rows.specs.Files.{File, IsRead}
 
 -- ==== epochs of histories, and what is known of an accepted command whatever its epoch
 
@@ -85,8 +79,7 @@ abbrev reading_with : Reading → List ℕ → File → Reading
 reading_with reading text file t = cond (bytes_eq t text) file (reading t)
 
 read_with : (reading : Reading) (text : List ℕ) (file : File) → IsRead text file → (t : List ℕ) → (bytes_eq t text ≡ true) ⊎ IsRead t (reading t) → IsRead t (reading_with reading text file t)
-read_with reading text file is t either =
-    ⊎_elim
+read_with reading text file is t either = ⊎_elim
     (λ (same : bytes_eq t text ≡ true).
     subst (IsRead t) (sym (ap (λ b. cond b file (reading t)) same)) (subst (λ x. IsRead x file) (sym ((bytes_eq-Decides t text).0 same)) is))
     (λ (other : bytes_eq t text ≡ false). subst (IsRead t) (sym (ap (λ b. cond b file (reading t)) other)) (⊎_elim (λ same. let e : true ≡ false = sym same ∙ other in absurd (cc)) (λ right. right) either))
@@ -101,12 +94,12 @@ reads_with reading text file is [] reads = tt
 reads_with reading text file is (e ∷ h) reads = (right_with reading text file is (accepted e) reads.0, reads_with reading text file is h reads.1)
 
 -- an answer that is no refusal is given where no check refuses
-not_refused : {A : Type 0} (o : Option Refusal) (a : Answer) → MatchOption o A (λ r. Done a ≡ Refused r) → A
+pub not_refused : {A : Type 0} (o : Option Refusal) (a : Answer) → MatchOption o A (λ r. Done a ≡ Refused r) → A
 not_refused None a outcome = outcome
 not_refused (Some r) a refused = absurd (cc)
 
 -- the file that an accepted PutProject puts
-put_file : (reading : Reading) (h : List Entry) (caller : ℕ) (project text : List ℕ) (a : Answer) → IsAnswerBy reading h caller (PutProject project text) (Done a) → (f : File) × IsRead text f
+pub put_file : (reading : Reading) (h : List Entry) (caller : ℕ) (project text : List ℕ) (a : Answer) → IsAnswerBy reading h caller (PutProject project text) (Done a) → (f : File) × IsRead text f
 put_file reading h caller project text a answer =
     ⊎_elim (λ (fault : IsFaultAnswer text (Done a)). let e : Done a ≡ Refused (BadFile fault.0) = fault.2 in absurd (cc)) (λ (file : IsFileAnswer reading h project text (Done a)). (file.0, file.1))
     (not_refused (refused_by reading h caller (PutProject project text)) a answer)
@@ -152,8 +145,7 @@ put_before false given text before is = inr is
 
 read_by : (reading : Reading) (o : Option Command) (project text : List ℕ) (before : Option (List ℕ)) → IsReadRight reading o → (before ≡ Some text → IsRead text (reading text)) →
     text_put o project before ≡ Some text → IsRead text (reading text)
-read_by reading (Some (PutProject given put)) project text before right later is =
-    ⊎_elim
+read_by reading (Some (PutProject given put)) project text before right later is = ⊎_elim
     (λ (here : (bytes_eq given project ≡ true) × (put ≡ text)). subst (λ t. IsRead t (reading t)) here.1 right)
     (λ (there : before ≡ Some text). later there)
     (put_before (bytes_eq given project) put text before is)
@@ -163,3 +155,8 @@ read_by reading _ project text before right later is = later is
 pub read_of : (reading : Reading) (h : List Entry) (project text : List ℕ) → Reads reading h → file_text h project ≡ Some text → IsRead text (reading text)
 read_of reading [] project text reads is = absurd (cc)
 read_of reading (e ∷ h) project text reads is = read_by reading (accepted e) project text (file_text h project) reads.0 (λ before. read_of reading h project text reads.1 before) is
+
+-- a history has no more requests than may be
+pub history_length : (h : List Entry) → IsHistory h → length h ≤ most_requests
+history_length [] history = omega arith
+history_length (e ∷ h) history = let below = history.2 in omega arith

@@ -1,46 +1,40 @@
 -- A submit: the members of its chain, what it makes of the rows, and how it is decided.
 use Rattle.std.proofs.Common.{◌≡◌, ◌⊎◌, ℕ, List, [], ◌∷◌, Option, Some, None, IsSome, Bool, true, false, cond, ◌&&◌, refl, sym, ap, ◌∙◌, subst, ⊎_elim, map, All, bytes_eq, ◌==◌, arith, nat_cmp, find, ◌+◌, length, eqb-true, option_map, unwrap_or, inl, inr, is_some, not, option_and_then, option_to_list, MatchOption, if◌then◌else◌, ◌<◌, ◌≤◌, ◌^◌}
-use Rattle.std.proofs.lemmas.{Bool.Decides.nat_tests, List.Elements.All-head, List.Elements.All-tail}
-use Rattle.std.{proofs.lemmas.Slice.Eq.bytes_eq-Decides, specs.List.AllByRecursion, specs.List.IsDistinct}
+use Rattle.std.specs.List.{AllByRecursion, IsDistinct}
 use Rattle.review_table.specs.Rows.{NamesOnce, after_row_edit, row_edit_of}
 use Rattle.review_words.specs.History.{Entry, entry_of, base_count, project_count, least_open, is_account}
-use Rattle.review_words.specs.declared.command.Command.TheVariants.{Submit}
-use Rattle.review_words.specs.declared.reply.{Answer.TheVariants.Submitted, NotTaken.NotTaken as Cause}
+use Rattle.review_words.specs.declared.reply.NotTaken.{NotTaken as Cause}
 use Rattle.review_words.specs.declared.reply.NotTaken.TheVariants.{Memory, Damaged, Pattern}
-use Rattle.review_words.specs.declared.reply.Refusal.{Refusal}
 use Rattle.review_words.specs.declared.reply.Refusal.TheVariants.{UnknownCaller, NoChange, NotAllowed, Closed, WorkInProgress, RequirementUnsatisfied}
-use Rattle.review_words.specs.declared.reply.Reply.{Reply, TheVariants.Refused, TheVariants.Done}
-use Rattle.review_words.specs.declared.shown.ShownRequirement.{ShownRequirement}
 use Rattle.review_chain.proofs.Parting.{bad_kept, whole_sound, Says, wanted_says, chain_kept}
 use Rattle.review_chain.proofs.Walking.{chain_ready, one_end, wanted_meets}
 use Rattle.review_chain.specs.Branches.{Branch, IsWhole}
 use Rattle.review_chain.specs.{Parts.IsPart, Parts.IsWanted, Parts.Want as ChainWant, Places.places_from}
 use Rattle.review_chain.specs.{Steps.IsFault, Steps.Wants, Steps.wanted, Walks.IsChain, Walks.IsReady}
-use Rattle.review_chain.specs.declared.{links.Link.Link, walks.ChainFault.ChainFault}
 use Rattle.review_chain.specs.declared.walks.ChainFault.TheVariants.{Outdated, Abandoned, Wip, TooLong, Broken}
-use Rattle.review_file_rules.specs.Trees.{file_trees}
 use Rattle.review_core_rules.specs.Change.{Change, joined_at, Setting, is_open}
 use Rattle.review_core_rules.specs.Facts.{AreStanding, IsFirstUnsatisfied, unsatisfied_in}
 use Rattle.review_core_rules.specs.Parts.{Part, PartRow, part_row}
 use Rattle.review_machine_rows.proofs.Asked.{all_made, change_asked, each_known, file_asked, line_asked, found_of}
+use Rattle.review_machine_rows.proofs.Common.{All-head, All-tail, ChainFault, ChangeEdit, Delta, Done, File, Link, Refusal, Refused, Reply, Rows, ShownRequirement, Submit, Submitted, and_parts, bytes_eq-Decides, file_trees, most_depth}
 use Rattle.review_machine_rows.proofs.{Lined.texts_told, Puts.no_base, Puts.no_base_more, Puts.no_file, Puts.no_project}
 use Rattle.review_machine_rows.specs.Answer.{IsAnswerBy, IsHistory, first_refusal, of_change, refused_by, submit_checks, most_requests}
 use Rattle.review_machine_rows.specs.Changes.{Reading, change, joined, joining, joining_at, place_in, Reads, file_of, setting_of, texts_of, change_count}
 use Rattle.review_machine_rows.specs.Decisions.{NamesChangesOnce, NamesEachOnce, NamesRowsOnce, IsUndecided}
-use Rattle.review_machine_rows.specs.Files.{File}
 use Rattle.review_machine_rows.specs.Known.{part_of, Agrees, Found, IsKnown, known, change_in, IsLastJoined, number_of}
-use Rattle.review_machine_rows.specs.{Lines.most_depth, Links.is_for, Links.link_for, Links.link_of, Links.links_in}
+use Rattle.review_machine_rows.specs.Links.{is_for, link_for, link_of, links_in}
 use Rattle.review_machine_rows.specs.Rows.{member_cmp, Key, AccountKey, MemberKey, FileKey, BaseKey, PartKey, OddKey, APart, Count, Projects, BasesOf, ClosedEpochs, account_change, member_change, edited, after, count_after, part_change}
 use Rattle.review_machine_rows.specs.Steps.{HasFile, OfCommand, caller_in, chain_wants, last_wants, line_steps, look_up, known_parent, project_for, submit_wants, texts_in, unknown, wanted_for, wants_by}
 use Rattle.review_machine_rows.specs.Submits.{HasBadLink, refusal_of, branch_after, judged_after, IsOf, IsSubmitAnswer, checked_reply}
 use Rattle.review_machine_rows.specs.View.{IsDecided, counted, fact, AreEnough, view}
-use Rattle.review_machine_rows.specs.declared.rows.{ChangeEdit.ChangeEdit, Delta.Delta, Rows.Rows}
-use Rattle.review_machine_laws.proofs.{Changes.changes_bound, SoundProjects.has_project}
+use Rattle.review_core_standing.proofs.InThreads.{other_way}
+use Rattle.review_machine_laws.proofs.{Changes.changes_bound, Histories.OneEffective, SoundProjects.has_project}
 use Rattle.review_machine_accounts.proofs.Decided.{outcome_answer, refused_decided}
-use Rattle.{review_machine_accounts.specs.Decisions.IsEmpty, review_machine_changes.proofs.Made.request_is}
-use Rattle.review_machine_changes.proofs.Told.{lacks_project, OneFile, change_told, right_told, ChangesAreSound}
+use Rattle.review_machine_accounts.specs.Decisions.{IsEmpty}
+use Rattle.review_machine_changes.proofs.{Made.request_is, Requested.same_trees, Requested.split_all}
+use Rattle.review_machine_changes.proofs.Told.{lacks_project, change_told, right_told, ChangesAreSound}
 use Rattle.review_machine_changes.specs.Facts.{setting_in, next_request}
-use Rattle.review_machine_submits.proofs.Loaded.{same_trees, GroupsSuffice, split_all, standing_told}
+use Rattle.review_machine_submits.proofs.Loaded.{GroupsSuffice, standing_told}
 use Rattle.review_machine_submits.specs.Submits.{IsThere, change_at, AreJoinEdits, EditsChanges, IsJoinEdit, HasUnsound, judged_in, submit_list, JoinsChain, Makes, last_in}
 use Rattle.review_machine_submits.specs.inner.Words.{IsUnchained, IsUnlinked, IsSubmitted}
 use Rattle.review_file_rules.specs.declared.parts.Right.TheVariants as right
@@ -54,10 +48,6 @@ pub record IsMember (rows : Rows) (project branch : List ℕ) (n : ℕ) : Type 0
   pub there : change_at rows n ≡ Some of
   pub project_is : of.project ≡ project
   pub branch_is : of.branch ≡ branch
-
-and_parts : (a b : Bool) → a && b ≡ true → (a ≡ true) × (b ≡ true)
-and_parts true b e = (refl, e)
-and_parts false b e = absurd (cc)
 
 linked_member : (rows : Rows) (project branch : List ℕ) (n : ℕ) (o : Option Change) (l : Link) → change_at rows n ≡ o → link_for project branch o ≡ Some l → IsMember rows project branch n
 linked_member rows project branch n None l at is = absurd (let f : None ≡ Some l = is in cc)
@@ -98,16 +88,13 @@ there_placed rows js ds order all = at js (subst (AllByRecursion (IsThere rows))
 
 -- ==== the edits of a chain name each change once
 
-turned : (a b : ℕ) → (a == b) ≡ false → (b == a) ≡ false
-turned a b e = grind (arith, nat_tests)
-
 -- no edit of the others is for a change that isn't among them
 none_named : (rows : Rows) (request d : ℕ) (js : List (ℕ × ℕ)) (es : List ChangeEdit) → AreJoinEdits rows request js es → AllByRecursion (λ y. (d == y) ≡ false) (map (λ j. j.0) js) → find (λ x. x.change == d) es ≡ None
 none_named rows request d [] [] are others = refl
 none_named rows request d [] (e ∷ es) are others = absurd are
 none_named rows request d (j ∷ js) [] are others = absurd are
 none_named rows request d (j ∷ js) (e ∷ es) are others =
-    let other : (e.change == d) ≡ false = ap (λ n. n == d) are.0.named ∙ turned d j.0 others.0 in
+    let other : (e.change == d) ≡ false = ap (λ n. n == d) are.0.named ∙ other_way d j.0 others.0 in
     ap (λ b. cond b (Some e) (find (λ x. x.change == d) es)) other ∙ none_named rows request d js es are.1 others.1
 
 each_once : (rows : Rows) (request : ℕ) (js : List (ℕ × ℕ)) (es : List ChangeEdit) → AreJoinEdits rows request js es → IsDistinct ◌==◌ (map (λ j. j.0) js) → AllByRecursion NamesRowsOnce es → NamesChangesOnce es
@@ -262,10 +249,6 @@ WantedIsUnmade = (reading : Reading) (h : List Entry) (rows : Rows) (n : ℕ) (c
 
 -- ---- the change and its project's file
 
-pub not_true : (b : Bool) → not b ≡ true → b ≡ false
-not_true true e = absurd (let f : false ≡ true = e in cc)
-not_true false e = refl
-
 -- a change that rows know is that of the history
 pub change_known : (reading : Reading) (h : List Entry) (rows : Rows) (n : ℕ) (c : Change) → Agrees (view reading h) rows → change_at rows n ≡ Some c → change reading h n ≡ Some c
 change_known reading h rows n c agree found = sym (change_told reading h rows n agree (by (is_some (known rows (want.Change n))) refl)) ∙ found
@@ -310,7 +293,7 @@ lacking_undecided caller n rows c found reading h history l =
     absurd (cc)
 
 -- what refuses a submit is what rows tell
-pub refused_told : OneFile → (reading : Reading) (h : List Entry) (caller n : ℕ) (file : File) (rows : Rows) (c : Change) → is_account h caller ≡ true → change_at rows n ≡ Some c →
+pub refused_told : OneEffective → (reading : Reading) (h : List Entry) (caller n : ℕ) (file : File) (rows : Rows) (c : Change) → is_account h caller ≡ true → change_at rows n ≡ Some c →
     AreEnough reading h caller (OfCommand (Submit n)) (Some file) rows → refused_by reading h caller (Submit n) ≡ first_refusal (submit_list file rows caller c)
 refused_told one reading h caller n file rows c account found l =
     let told = change_known reading h rows n c l.agree found in
@@ -340,7 +323,7 @@ abbrev Judged : (ℕ → Option (Setting × Change)) → ℕ → List ℕ → Op
 Judged at n ns found c =
     (shown : List ShownRequirement) × AreStanding c.0 c.1 shown × MatchOption (unsatisfied_in shown) (IsFirstUnsatisfied at ns found) (λ requirement. found ≡ Some (n, requirement))
 
-standing_of_one : OneFile → GroupsSuffice → (reading : Reading) (h : List Entry) (caller n : ℕ) (file : File) (rows : Rows) (c x : Change) (shown : List ShownRequirement) → change_at rows n ≡ Some c →
+standing_of_one : OneEffective → GroupsSuffice → (reading : Reading) (h : List Entry) (caller n : ℕ) (file : File) (rows : Rows) (c x : Change) (shown : List ShownRequirement) → change_at rows n ≡ Some c →
     AreEnough reading h caller (OfCommand (Submit n)) (Some file) rows → x.project ≡ c.project → AreStanding (setting_in file rows) x shown → AreStanding (setting_of reading h x.project) x shown
 standing_of_one one law reading h caller n file rows c x shown found l same is =
     let groups = split_all (IsKnown rows) (caller_in caller file.access.submit) (map want.Group _) (file_asked (Some file) rows caller (OfCommand (Submit n)) l.nothing_left) in
@@ -348,7 +331,7 @@ standing_of_one one law reading h caller n file rows c x shown found l same is =
     standing_told law reading h rows file x shown l.agree (trees ∙ ap (λ p. file_trees (file_of reading h p)) (sym same)) groups.1 is
 
 -- how requirements stand for the changes of a chain, by what rows tell, is how they stand after the history
-pub unsatisfied_told : OneFile → GroupsSuffice → (reading : Reading) (h : List Entry) (caller n : ℕ) (file : File) (rows : Rows) (c : Change) → change_at rows n ≡ Some c →
+pub unsatisfied_told : OneEffective → GroupsSuffice → (reading : Reading) (h : List Entry) (caller n : ℕ) (file : File) (rows : Rows) (c : Change) → change_at rows n ≡ Some c →
     AreEnough reading h caller (OfCommand (Submit n)) (Some file) rows → (ds : List ℕ) (found : Option (ℕ × List ℕ)) → AllByRecursion (IsMember rows c.project c.branch) ds →
     IsFirstUnsatisfied (judged_in file rows) ds found → IsFirstUnsatisfied (judged_after reading h) ds found
 unsatisfied_told one law reading h caller n file rows c there l [] found all is = is
@@ -461,7 +444,7 @@ chain_joins law few reading h caller n file rows c delta chain room history foun
         let big : 4294967296 ≡ 2 ^ 32 = refl in
         subst (λ (bound : ℕ). last_in rows c + length chain < bound) big (omega arith)
 
-pub submit_decided : OneFile → GroupsSuffice → RowsKnowBranches → LastIsLength → JoinedFew → (reading : Reading) (h : List Entry) (caller n : ℕ) (file : File) (rows : Rows) (c : Change) (delta : Delta) (reply : Reply) →
+pub submit_decided : OneEffective → GroupsSuffice → RowsKnowBranches → LastIsLength → JoinedFew → (reading : Reading) (h : List Entry) (caller n : ℕ) (file : File) (rows : Rows) (c : Change) (delta : Delta) (reply : Reply) →
     length h < most_requests → IsHistory h → change_at rows n ≡ Some c → AreEnough reading h caller (OfCommand (Submit n)) (Some file) rows → refused_by reading h caller (Submit n) ≡ None →
     IsSubmitted file rows n c delta reply → IsDecided reading h caller (Submit n) delta reply
 submit_decided one law part last few reading h caller n file rows c delta reply room history found l passes (inl (bad, empty)) =

@@ -1,51 +1,44 @@
 -- What loaded rows tell for a question, and its answer.
-use Rattle.std.proofs.Common.{◌≡◌, ◌⊎◌, inl, inr, ℕ, List, [], ◌∷◌, Option, Some, None, true, false, refl, sym, ap, ◌∙◌, subst, ⊎_elim, is_some, option_and_then, IfErr, Result, IsErr, IsErrAnd, ◌≤◌, arith, length, Bool, cond, map, nat_le, ◌++◌, not, ◌||◌, nat_cmp, find, flat_map, option_map, if◌then◌else◌, bytes_eq, ℤ, ◌&&◌, ◌==◌, eqb-true, slice_get, ◌-◌, filter}
-use Rattle.std.proofs.lemmas.{Bool.Decides.nat_tests, Map.Entries.option_filter, Result.err_from_is_err_and}
-use Rattle.std.specs.{Cmp.Lexicographic.slice_cmp, List.AllByRecursion, List.Sorted.IsStrictlySortedBy, Map.keys_of}
-use Rattle.std.specs.Option.{option_map_or}
-use Rattle.review_names.specs.{Forms.is_within, Forms.most_patches, Groups.GroupList, Names.registered_users}
+use Rattle.std.proofs.Common.{◌≡◌, ◌⊎◌, inl, inr, ℕ, List, [], ◌∷◌, Option, Some, None, true, false, refl, sym, ap, ◌∙◌, subst, ⊎_elim, is_some, option_and_then, ◌≤◌, arith, length, Bool, cond, map, nat_le, ◌++◌, not, nat_cmp, find, flat_map, option_map, if◌then◌else◌, bytes_eq, ℤ, ◌&&◌, ◌==◌, eqb-true, slice_get, ◌-◌, filter}
+use Rattle.std.{proofs.lemmas.Map.Entries.option_filter, specs.List.Sorted.IsStrictlySortedBy}
+use Rattle.review_names.specs.Forms.{is_within, most_patches}
 use Rattle.review_table.specs.Rows.{row_in, rows_of}
 use Rattle.review_words.specs.History.{Entry, is_project, is_account, is_branch, bases}
-use Rattle.review_words.specs.declared.changes.Role.{Role, TheVariants.Reviewer, TheVariants.Cc}
+use Rattle.review_words.specs.declared.changes.Role.TheVariants.{Reviewer, Cc}
 use Rattle.review_words.specs.declared.command.ChangeQuery.{ChangeQuery, TheVariants.Requirements}
-use Rattle.review_words.specs.declared.{command.Query.TheVariants.OnChange, reply.Answer.Answer}
+use Rattle.review_words.specs.declared.command.Query.TheVariants.{OnChange}
 use Rattle.review_words.specs.declared.reply.NotTaken.{NotTaken as Cause, TheVariants.Damaged, TheVariants.Memory}
-use Rattle.review_words.specs.declared.reply.Refusal.{Refusal}
 use Rattle.review_words.specs.declared.reply.Refusal.TheVariants.{UnknownCaller, NoProject, NoBranch, NoChange}
-use Rattle.review_words.specs.declared.reply.Reply.TheVariants.{Done, Refused}
 use Rattle.review_words.specs.declared.shown.{ShownRequirement.ShownRequirement, ShownVote.ShownVote}
 use Rattle.review_words.specs.declared.shown.Status.TheVariants.{NotApplicable, Overridden, Satisfied, Unsatisfied}
-use Rattle.review_expr_judging.specs.Holds.{holds, requirement_holds}
-use Rattle.review_expr_judging.specs.declared.facts.{ChangeFacts.ChangeFacts, ValueRange.ValueRange}
-use Rattle.review_expr.specs.{Exprs.holds_for, declared.expr.Expr.Expr}
+use Rattle.review_expr_judging.specs.{Holds.holds, Holds.requirement_holds, declared.facts.ChangeFacts.ChangeFacts}
+use Rattle.{review_expr_judging.specs.declared.facts.ValueRange.ValueRange, review_expr.specs.Exprs.holds_for}
 use Rattle.review_file_rules.specs.Named.{SameIn, SameInAll, groups_in, groups_of_requirement, required_groups}
 use Rattle.review_file_rules.specs.Rights.{greatest_value, least_value}
 use Rattle.review_file_rules.specs.Trees.{file_trees, ExprTree, OfCopy, OfRequirement, label_trees, requirement_trees, tree_of}
 use Rattle.review_file_rules.specs.View.{LabelView, RequirementView}
-use Rattle.review_core_rules.proofs.Stays.{within_parts}
 use Rattle.review_core_rules.specs.Change.{Change, label_in, range_of, current, last_uploader, of_number}
 use Rattle.review_core_rules.specs.Facts.{AreStanding, stands, unless_zero}
 use Rattle.review_core_rules.specs.{Listed.AreListed, Listed.AreThose, Seen.seen, Seen.value_of, Seen.vote_cmp}
-use Rattle.review_core_rules.specs.{Shown.AreVotes, Shown.shown_vote, Shown.IsToldOf, Sound.IsSound, Votes.voted}
-use Rattle.review_core_rules.specs.declared.rows.{ChangeRows.ChangeRows, PatchRow.PatchRow, VoteKey.VoteKey}
-use Rattle.review_core_tables.proofs.Accounts.{in_table, is_listed, accounts_tell, has_row}
-use Rattle.review_core_tables.{proofs.Copied.vote_key, proofs.Copied.votes_tell, specs.Copies.group_list}
+use Rattle.review_core_rules.specs.Shown.{AreVotes, shown_vote, IsToldOf}
+use Rattle.review_core_tables.proofs.{Accounts.accounts_tell, Accounts.has_row, Copied.vote_key, Copied.votes_tell}
 use Rattle.review_machine_rows.proofs.Asked.{all_asked, change_asked, found_of, line_asked, file_asked}
+use Rattle.review_machine_rows.proofs.Common.{AllByRecursion, Answer, ChangeRows, Done, Expr, File, GroupList, IsSound, PatchRow, Refusal, Refused, Role, Rows, StoredFile, VoteKey, keys_of, nat_tests, option_map_or, voted, within_parts}
 use Rattle.review_machine_rows.proofs.Lined.{texts_told, there_is}
 use Rattle.review_machine_rows.specs.Answer.{IsHistory, has_role, IsOf, first_refusal}
-use Rattle.review_machine_rows.specs.Changes.{Reading, Reads, change, file_of, own_of, texts_of, joined, groups_of, setting_of}
-use Rattle.review_machine_rows.specs.{Decisions.IsUnshown, Files.File}
-use Rattle.review_machine_rows.specs.Known.{IsKnown, change_in, known, is_so, commits_of, joined_of, Members, members_of}
+use Rattle.review_machine_rows.specs.Changes.{Reading, change, file_of, own_of, texts_of, joined, groups_of, setting_of}
+use Rattle.review_machine_rows.specs.Decisions.{IsUnshown}
+use Rattle.review_machine_rows.specs.Known.{IsKnown, change_in, known, is_so, commits_of, joined_of}
 use Rattle.review_machine_rows.specs.Lines.{line_of, most_depth, with_above}
 use Rattle.review_machine_rows.specs.Questions.{joined_change, query_refused_by, IsQueryAnswerBy}
 use Rattle.review_machine_rows.specs.Steps.{HasFile, OfQuery, line_steps, known_parent, project_for, question_wants, texts_in, unknown, wants_by}
 use Rattle.review_machine_rows.specs.View.{AreEnough, view}
-use Rattle.review_machine_rows.specs.declared.rows.{Rows.Rows, StoredFile.StoredFile}
-use Rattle.review_core_standing.proofs.Made.{order_kept, row_kept}
-use Rattle.review_machine_laws.proofs.{Grouped.in_group, Histories.OneEffective, Histories.same_file}
-use Rattle.review_machine_laws.proofs.{Rows.rows_tell, Rows.joined_rows, SoundProjects.has_project}
-use Rattle.review_machine_accounts.proofs.Told.{project_told, bases_told, Agree, held_told, refused_question, told_question}
-use Rattle.review_machine_accounts.specs.inner.Words.{is_held}
+use Rattle.review_core_standing.proofs.Made.{value_kept, some_where, order_kept, row_kept}
+use Rattle.review_machine_laws.proofs.{Histories.OneEffective, Rows.rows_tell, Rows.joined_rows}
+use Rattle.review_machine_laws.proofs.SoundProjects.{has_project}
+use Rattle.review_machine_accounts.proofs.Told.{project_told, bases_told, Agree, refused_question, told_question}
+use Rattle.review_machine_changes.proofs.Requested.{same_trees, same_in_all, split_all}
+use Rattle.review_machine_changes.proofs.Told.{ChangesAreSound, no_text}
 use Rattle.review_machine_submits.specs.inner.Told.{LacksFile, setting_by, is_on, IsToldBy}
 use Rattle.review_words.specs.declared.command.Query.TheVariants as asked
 use Rattle.review_machine_rows.specs.declared.rows.Want.TheVariants as want
@@ -53,14 +46,6 @@ use Rattle.review_expr.specs.declared.expr.Expr.TheVariants as expr
 use Rattle.review_expr.specs.declared.expr.Facts.TheVariants as facts
 
 -- ==== what the rows of a question about a change tell of the history
-
--- the files that a text spells have the same trees
-abbrev pub OneFile : Type 0
-OneFile = OneEffective
-
--- every change of a history is sound
-abbrev pub ChangesAreSound : Type 0
-ChangesAreSound = (reading : Reading) (h : List Entry) (n : ℕ) (c : Change) → IsHistory h → Reads reading h → change reading h n ≡ Some c → IsSound c
 
 -- the change that rows know is that of the history
 pub change_told : (reading : Reading) (h : List Entry) (caller n : ℕ) (query : ChangeQuery) (effective : Option File) (rows : Rows) → AreEnough reading h caller (OfQuery (asked.OnChange n query)) effective rows →
@@ -76,10 +61,6 @@ unsound_unshown law caller n query effective rows c e found =
     ⊎_elim (λ m. subst (λ x. IsUnshown caller (asked.OnChange n query) effective rows x) (sym m) tt)
     (λ d. subst (λ x. IsUnshown caller (asked.OnChange n query) effective rows x) (sym d.0)
     (λ reading h history l. d.1 (law reading h n c history l.reads (sym (change_told reading h caller n query effective rows l) ∙ found))))
-
-no_text : (texts : List (List ℕ)) → HasFile texts None → texts ≡ []
-no_text [] has = refl
-no_text (t ∷ ts) has = let bad = has.2 in absurd (cc)
 
 -- the file that was read is that of the change's project
 pub has_file : (reading : Reading) (h : List Entry) (caller n : ℕ) (effective : Option File) (rows : Rows) (c : Change) → change_in (known rows (want.Change n)) ≡ Some c → AreEnough reading h caller (OfQuery (asked.OnChange n Requirements)) effective rows →
@@ -123,14 +104,6 @@ pub untold : ChangesAreSound → (caller n : ℕ) (query : ChangeQuery) (effecti
 untold law caller n query effective rows c e found =
     ⊎_elim (λ m. unsound_unshown law caller n query effective rows c e found (inl m))
     (λ d. ⊎_elim (λ u. unsound_unshown law caller n query effective rows c e found (inr (d.0, u))) (λ l. missing_unshown caller n query effective rows c e found (inr (d.0, l))) d.1)
-
--- the file that was read has the trees of the one that is read
-pub same_trees : OneFile → (reading : Reading) (h : List Entry) (project : List ℕ) (file : File) → Reads reading h → HasFile (texts_of h project) (Some file) → file_trees file ≡ file_trees (file_of reading h project)
-same_trees one reading h project file reads has = same_file one reading h project file reads has
-
--- an error that is known
-pub err_with : {T : Type 0} (P : Cause → Type 0) (r : Result T Cause) (e : Cause) → IsErr r × IsErrAnd r (λ d. d ≡ e) → P e → IfErr r P
-err_with P r e is p = let q = err_from_is_err_and r is.1 in subst (λ x. IfErr x P) (sym q.1) (subst P (sym q.2) p)
 
 -- ==== what the loaded rows tell of the history, for a question about a branch
 
@@ -179,26 +152,6 @@ abbrev pub GroupsSuffice : Type 0
 GroupsSuffice = (e : Expr) (f : ChangeFacts) (other : GroupList) → SameInAll f.groups other (groups_in e) → holds_for (facts.Change f) e ≡ holds_for (facts.Change (record f { groups = other })) e
 
 -- ---- the groups
-
-pub split_all : {X : Type 0} (P : X → Type 0) (xs ys : List X) → AllByRecursion P (xs ++ ys) → AllByRecursion P xs × AllByRecursion P ys
-split_all P [] ys all = (tt, all)
-split_all P (x ∷ xs) ys all = let rest = split_all P xs ys all.1 in ((all.0, rest.0), rest.1)
-
-held_in : (o : Option (List (ℕ × Option (Unit {0})))) (account : ℕ) → is_listed o account ≡ is_held (members_of (option_map (λ t. Members (rows_of t)) o)) account
-held_in None account = refl
-held_in (Some t) account = refl
-
--- a group whose members were asked has those of the history
-same_in : (reading : Reading) (h : List Entry) (rows : Rows) (group : List ℕ) → Agree reading h rows → IsKnown rows (want.Group group) → SameIn (group_list rows.groups) (groups_of h) group
-same_in reading h rows group agree there account =
-    in_table rows.groups group account
-    ∙ (ap (λ b. bytes_eq group registered_users || b)
-    (held_in (row_in (slice_cmp nat_cmp) (rows_of rows.groups) group) account ∙ held_told reading h rows group account agree there)
-    ∙ sym (in_group h group account))
-
-same_in_all : (reading : Reading) (h : List Entry) (rows : Rows) (groups : List (List ℕ)) → Agree reading h rows → AllByRecursion (IsKnown rows) (map want.Group groups) → SameInAll (group_list rows.groups) (groups_of h) groups
-same_in_all reading h rows [] agree all = tt
-same_in_all reading h rows (g ∷ gs) agree all = (same_in reading h rows g agree all.0, same_in_all reading h rows gs agree all.1)
 
 option_alike : GroupsSuffice → (o : Option Expr) (d : Bool) (f : ChangeFacts) (other : GroupList) → SameInAll f.groups other (option_map_or groups_in o []) →
     option_map_or (holds_for (facts.Change f)) o d ≡ option_map_or (holds_for (facts.Change (record f { groups = other }))) o d
@@ -301,10 +254,6 @@ standing_told law reading h rows f c shown agree same asked s = record {
 
 -- ==== what a change is shown as, from its tables
 
-some_where : {X : Type 0} (b : Bool) (x : X) → is_some (cond b (Some x) None) ≡ b
-some_where true x = refl
-some_where false x = refl
-
 role_kept : (asked : Role) (o : Option Role) → is_some (option_filter (λ r. has_role asked (Some r)) o) ≡ has_role asked o
 role_kept asked (Some r) = some_where (has_role asked (Some r)) r
 role_kept Reviewer None = refl
@@ -317,10 +266,6 @@ those_listed asked rows s = record {
   each = λ u. has_row (filter (λ e. has_role asked (Some e.1)) rows) u
       ∙ (ap is_some (row_kept accounts_tell (λ e. has_role asked (Some e.1)) rows s u) ∙ role_kept asked (row_in nat_cmp rows u));
 }
-
-value_kept : (o : Option ℤ) → option_filter voted o ≡ unless_zero (value_of o)
-value_kept None = refl
-value_kept (Some v) = refl
 
 never_kept : {X : Type 0} (o : Option X) → option_filter (λ x. false) o ≡ None
 never_kept None = refl
@@ -388,7 +333,7 @@ told_there reading h caller n query c told account there is =
     (subst (IsOf (λ x. IsToldOf (setting_of reading h x.project) n query x told)) (sym there) is)
 
 -- what is told by what was loaded is what the history says
-told_of : OneFile → GroupsSuffice → (reading : Reading) (h : List Entry) (caller n : ℕ) (query : ChangeQuery) (effective : Option File) (rows : Rows) (c : Change) (told : Answer) → change_in (known rows (want.Change n)) ≡ Some c →
+told_of : OneEffective → GroupsSuffice → (reading : Reading) (h : List Entry) (caller n : ℕ) (query : ChangeQuery) (effective : Option File) (rows : Rows) (c : Change) (told : Answer) → change_in (known rows (want.Change n)) ≡ Some c →
     AreEnough reading h caller (OfQuery (OnChange n query)) effective rows → IsToldBy effective rows.groups n query c told → IsToldOf (setting_of reading h c.project) n query c told
 told_of one law reading h caller n query None rows c told found l is = is (setting_of reading h c.project)
 told_of one law reading h caller n Requirements (Some f) rows c told found l is =
@@ -397,7 +342,7 @@ told_of one law reading h caller n Requirements (Some f) rows c told found l is 
 told_of one law reading h caller n _ (Some f) rows c told found l is = is
 
 -- the answer that is told of the change that was loaded
-pub answered : OneFile → GroupsSuffice → (reading : Reading) (h : List Entry) (caller n : ℕ) (query : ChangeQuery) (effective : Option File) (rows : Rows) (c : Change) (told : Answer) → is_account h caller ≡ true →
+pub answered : OneEffective → GroupsSuffice → (reading : Reading) (h : List Entry) (caller n : ℕ) (query : ChangeQuery) (effective : Option File) (rows : Rows) (c : Change) (told : Answer) → is_account h caller ≡ true →
     change_in (known rows (want.Change n)) ≡ Some c → AreEnough reading h caller (OfQuery (OnChange n query)) effective rows → IsToldBy effective rows.groups n query c told → IsQueryAnswerBy reading h caller (OnChange n query) (Done told)
 answered one law reading h caller n query effective rows c told account found l is =
     told_there reading h caller n query c told account (sym (change_told reading h caller n query effective rows l) ∙ found) (told_of one law reading h caller n query effective rows c told found l is)

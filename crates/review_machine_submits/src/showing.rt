@@ -8,6 +8,7 @@ ghost use Rattle.review_core_rules.specs.Shown.{AreAttentionEntries, AreVotes, I
 ghost use Rattle.{review_core_rules.specs.Sound.IsSound, review_machine_rows.specs.Answer.has_role};
 ghost use Rattle.review_machine_submits.specs.inner.Told.{is_on};
 
+use review_core::current_patch;
 use review_core_rules::{AttentionEntry, ChangeRows, PatchRow, Vote, VoteKey};
 use review_table::Table;
 use review_words::{
@@ -133,17 +134,6 @@ pub fn shown_attention(
     Ok(Listed::from_vec(shown))
 }
 
-/// The number of the last of some patch sets.
-fn last_number(patches: &[PatchRow]) -> PatchNo
-    requires { is_within most_patches (length patches.now) ≡ true }
-    ensures { result ≡ length patches.now }
-{
-    match PatchNo::from_number(patches.len() as u64) {
-        Some(patch) => patch,
-        None => unreachable!(),
-    }
-}
-
 /// The last of some patch sets.
 fn last_patch(patches: &[PatchRow]) -> &PatchRow
     requires { is_within most_patches (length patches.now) ≡ true }
@@ -164,7 +154,7 @@ pub fn shown_change(
     requires { IsSound (seen rows.now) }
     ensures { IfOk result (IsShown change (seen rows.now)) }
 {
-    let patch = last_number(&rows.patches);
+    let patch = current_patch(&rows.patches);
     let last = last_patch(&rows.patches);
     let header = &rows.header;
     let reviewers = accounts_having(alloc, &rows.roles, Role::Reviewer)?;

@@ -3,21 +3,17 @@ use Rattle.std.proofs.Common.{◌≡◌, ℕ, true, false, cond, ◌&&◌, not, 
 use Rattle.std.proofs.lemmas.Cmp.{then_total, on_total, nat_cmp_total, nat_list_cmp_total, tied_itself}
 use Rattle.std.proofs.lemmas.List.Elements.{All-head, All-tail, All-contains, All-weaker, Contains-append_left, Contains-push, Contains-push_cases}
 use Rattle.std.proofs.lemmas.Map.Lookups.{CmpEqualImpliesEq, exact_unsigned, exact_bytes}
-use Rattle.std.proofs.lemmas.{Map.Text.is_eq-slice_cmp, Map.Views.tells_apart, Option.same_Some}
-use Rattle.std.specs.{BTreeMap.is_at, Cmp.IsTotalOrder, Cmp.unsigned_ties, Cmp.Lexicographic.slice_cmp}
-use Rattle.std.specs.{Option.option_or, Ordering.ordering_then, declared.alloc.AllocError.AllocError}
-use Rattle.std.specs.declared.cmp.Ordering.{Ordering, TheVariants.Less, TheVariants.Equal, TheVariants.Greater}
+use Rattle.std.{proofs.lemmas.Map.Text.is_eq-slice_cmp, specs.Cmp.IsTotalOrder, specs.Cmp.unsigned_ties}
+use Rattle.std.specs.declared.cmp.Ordering.TheVariants.{Less, Equal, Greater}
 use Rattle.review_table.proofs.Places.{exact_by_parts}
 use Rattle.review_table.specs.Rows.{row_in, rows_of, row_edit_of, after_row_edit, changed, HasNoEmptyPlace}
-use Rattle.review_table.specs.declared.table.RowEdit.{RowEdit}
 use Rattle.review_words.specs.History.{Identity, is_same}
-use Rattle.review_core_rules.specs.Parts.{PartRow}
+use Rattle.review_machine_rows.proofs.Common.{AllocError, Delta, IsCommitted, Ordering, PartRow, PlaceKey, Put, RowEdit, StoredFile, is_at, option_or, ordering_then, same_Some, slice_cmp, some_mapped, tells_apart}
+use Rattle.review_machine_rows.proofs.Puts.{is_eq-then}
 use Rattle.review_machine_rows.specs.Rows.{member_cmp, Key, AccountKey, MemberKey, FileKey, BaseKey, PartKey, OddKey, Row, AccountRow, FileRow, BaseRow, APart, Count, Projects, BasesOf, ClosedEpochs, AnswerRow, Answered, Tables, member_row, member_change, account_change, after_put, count_put, place_cmp, after, count_after, kept_row, edited}
-use Rattle.review_machine_rows.specs.Shelf.{IsCommitted}
-use Rattle.review_machine_rows.specs.declared.rows.{Delta.Delta, Kept.Kept, MemberKey.MemberKey as Member}
-use Rattle.review_machine_rows.specs.declared.rows.{PlaceKey.PlaceKey, Put.Put, StoredFile.StoredFile}
-use Rattle.review_memory_rows.proofs.Dropped.{at_account, is_eq-then, exact_answer, at_answer}
-use Rattle.review_memory_rows.{proofs.Turned.made_by, specs.Answers.key_of, specs.Answers.answer_cmp}
+use Rattle.review_machine_rows.specs.declared.rows.{Kept.Kept, MemberKey.MemberKey as Member}
+use Rattle.review_memory_rows.proofs.{Dropped.at_account, Dropped.exact_answer, Dropped.at_answer, Turned.made_by}
+use Rattle.review_memory_rows.specs.Answers.{key_of, answer_cmp}
 use Rattle.review_memory_rows.specs.{Bases.BranchesView, Bases.total_in, Kept.ArePrepared, Kept.part_at}
 use Rattle.review_memory_rows.specs.declared.answer_keys.{AnswerKey.AnswerKey, StoredAnswer.StoredAnswer}
 use Rattle.review_memory.specs.Desk.{name_cmp, IsNumber, beside_epoch, Desk, desk_of, desk_with, tables_of, row_of, count_of, stored_row, file_changes, AddsNames, AreInUse, IsIndexed, IsNumbered, IsBounded, IsSound, IsGiven, IsHeld, IsNameOf, IsStored, IsUsed, AreIndexed, KeepsNames, AreChangesOf, AreApplied, IsWithBase, HasChanged, HasNoSpareRoom, HasRoom, HasRoomOnlyFor, PutsAnswer, with_stored}
@@ -107,8 +103,7 @@ pub applied_indexed : (delta : Delta) (changes : Changes) (given : List NameKey)
 applied_indexed delta changes given projects old new copies are listed keeps applied indexed number name is =
     let G : Type 0 = IsNumber number × (row_in name_cmp (rows_of new.names) (record { name = name; account = number }) ≡ Some tt) in
     let was = row_in nat_cmp (rows_of old.accounts) number in
-    let change = row_edit_of nat_cmp delta.accounts.items number in
-    account_indexed change was name G
+    account_indexed (row_edit_of nat_cmp delta.accounts.items number) was name G
     (ap (λ cs. changed nat_cmp cs number was) (sym copies.accounts) ∙ (sym (applied.accounts number) ∙ is))
     (λ row found named.
     let h = change_holds exact_unsigned (λ n r. IsNumber n × IfSome r (λ x. Contains given (record { name = x; account = n }))) delta.accounts.items are number row found in
@@ -170,10 +165,6 @@ part_after : (change : Option (Option PartRow)) (was : Option PartRow) → optio
 part_after None was = refl
 part_after (Some row) was = refl
 
-some_based : (o : Option (List ℕ)) → is_some (option_map BaseRow o) ≡ is_some o
-some_based None = refl
-some_based (Some c) = refl
-
 -- the rows of projects and those of bases, each by its key
 abbrev files_of : (Key → Option Row) → List ℕ → Option Row
 files_of row p = row (FileKey p)
@@ -187,7 +178,7 @@ total_after None old new same p = ap (λ (v : BranchesView). total_in v.totals p
 total_after (Some base) old new put p =
     put.totals p
     ∙ ap (λ t. cond (bytes_eq base.key.project p) (cond t (total_in old.branches.totals p) (total_in old.branches.totals p + 1)) (total_in old.branches.totals p))
-    (sym (some_based (row_in place_cmp old.branches.bases base.key)))
+    (sym (some_mapped BaseRow (row_in place_cmp old.branches.bases base.key)))
 
 pub committed : (delta : Delta) (kept : Kept) (changes : Changes) (projects : ℕ) (answer : Put AnswerKey StoredAnswer) (old new : Desk) → AreChangesOf delta changes → ArePrepared old.changes delta.changes.items changes.edits →
     PutsAnswer kept answer → AreApplied old changes projects new → IsWithBase delta.base old.branches new.branches → IsStored answer old.answers new.answers → projects ≡ count_put (λ p. true) delta.file (files_of (row_of old)) old.projects →

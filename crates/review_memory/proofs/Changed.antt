@@ -1,12 +1,9 @@
 -- Rows of changes on a desk.
-use Rattle.std.proofs.Common.{◌≡◌, inl, inr, ⊎_elim, ℕ, false, List, Option, Some, None, get_or, ap, refl, ◌∙◌, option_map}
-use Rattle.review_words.specs.declared.shown.JoinedChange.{JoinedChange}
-use Rattle.review_chain.specs.declared.links.Standing.TheVariants.{PatchSet, Nowhere}
-use Rattle.review_core_rules.specs.{Parts.Part, Parts.TheHeader, Parts.PatchOf, declared.rows.PatchRow.PatchRow}
-use Rattle.review_machine_rows.{proofs.Readings.reading_of, specs.Changes.change}
+use Rattle.std.proofs.Common.{◌≡◌, inl, inr, ⊎_elim, ℕ, false, List, Option, Some, None, get_or, refl, ◌∙◌}
+use Rattle.review_machine_rows.proofs.Common.{Base, IsDamaged, JoinedChange, Key, Nowhere, Part, PartKey, PatchOf, PatchRow, PatchSet, Row, TheHeader, change}
+use Rattle.review_machine_rows.proofs.{Looked.based_from, Readings.reading_of}
 use Rattle.review_machine_rows.specs.Known.{IsAtPlace, IsCurrent, IsInBranch, IsLastJoined, IsMergedWith, IsSender, IsSentBy, StandsAs, HaveJoined, IsJoinedAt}
-use Rattle.review_machine_rows.specs.{Rows.Key, Rows.PartKey, Rows.Row, Rows.BaseRow, Shelf.IsDamaged}
-use Rattle.review_machine_rows.specs.declared.rows.{Base.Base, BranchKey.BranchKey as Branch}
+use Rattle.review_machine_rows.specs.declared.rows.BranchKey.{BranchKey as Branch}
 use Rattle.review_machine_change_rows.specs.{Tables.fault_of, declared.loading.ChangeFault.ChangeFault}
 use Rattle.review_machine_change_rows.specs.declared.loading.ChangeFault.TheVariants.{Memory, Gap}
 use Rattle.review_memory_rows.specs.Bases.{base_at, IsCommitThere}
@@ -65,14 +62,10 @@ merged_as f g base n same s = record {
   commit = s.commit;
 }
 
-base_from : (o : Option (List ℕ)) (commit : List ℕ) → option_map BaseRow o ≡ Some (BaseRow commit) → o ≡ Some commit
-base_from None commit is = absurd (let f : None ≡ Some (BaseRow commit) = is in cc)
-base_from (Some c) commit is = let same : c ≡ commit = cc in ap Some same
-
 -- a commit that is no base and of no merged change is not in the branch
 pub outside_here : (d : Desk) (base : Base) → IsCommitThere d.branches.bases base false → ((n : ℕ) → IsMergedWith (kept_row d.changes) base n → ⊥) → IsInBranch (row_of d) base → ⊥
 outside_here d base no_base none is =
-    ⊎_elim (λ b. no_base b.0 (base_from (base_at d.branches.bases base.project base.branch b.0) base.commit b.1)) (λ m. none m.0 (merged_as (row_of d) (kept_row d.changes) base m.0 (λ k part. refl) m.1)) is
+    ⊎_elim (λ b. no_base b.0 (based_from (base_at d.branches.bases base.project base.branch b.0) (Some base.commit) b.1)) (λ m. none m.0 (merged_as (row_of d) (kept_row d.changes) base m.0 (λ k part. refl) m.1)) is
 
 number_as : (f g : Key → Option Row) (base : Base) (n k : ℕ) → ((m : ℕ) (part : Part) → g (PartKey m part) ≡ f (PartKey m part)) → (sent : IsSender f base n) × (sent.number ≡ k) → (sent : IsSender g base n) × (sent.number ≡ k)
 unfolding sender_as

@@ -1,26 +1,21 @@
 -- Desks of histories: that of no request, and what is on no desk.
 use Rattle.std.proofs.Common.{◌≡◌, ℕ, ◌+◌, ◌<◌, ◌⊎◌, inl, inr, Bool, true, false, cond, List, [], ◌∷◌, ◌++◌, length, get_or, take, Option, Some, None, ap, sym, ◌∙◌, subst, refl, ⊎_elim, Contains, nat_cmp, is_eq, ◌&&◌, ◌==◌, arith, option_map, nat_lt, bytes_eq, Result, Ok, Err, IfErr, IsErr, IsErrAnd, ◌≤◌}
-use Rattle.std.proofs.lemmas.{Bool.cases_Bool, Cmp.tied_itself, Cmp.nat_eq_equiv, List.take_more}
-use Rattle.std.proofs.lemmas.List.Elements.{Contains-append_left, Contains-push}
-use Rattle.std.proofs.lemmas.{Map.Lookups.exact_unsigned, Map.Views.tells_apart, Option.same_Some}
-use Rattle.std.specs.{BTreeMap.is_at, List.list_any}
+use Rattle.std.proofs.lemmas.Cmp.{tied_itself, nat_eq_equiv}
+use Rattle.std.proofs.lemmas.{List.Elements.Contains-append_left, List.Elements.Contains-push, Option.cond_some}
 use Rattle.review_names.specs.Names.{administrators, admin_name}
-use Rattle.review_table.specs.Rows.{row_in}
 use Rattle.review_words.specs.History.{bases as bases_in, Entry}
-use Rattle.review_machine_rows.proofs.{Looked.based_from, Readings.reading_of}
-use Rattle.review_machine_rows.specs.{Answer.IsHistory, Answer.most_requests, Changes.Reading, Known.at_place}
+use Rattle.review_machine_rows.proofs.Common.{BranchKey, IsDamaged, IsHistory, IsView, Reading, ShelfFault, at_place, cases_Bool, counted, exact_unsigned, fact, is_at, list_any, most_requests, row_in, take_more, tells_apart}
+use Rattle.review_machine_rows.proofs.{Looked.based_from, Readings.history_length, Readings.reading_of}
 use Rattle.review_machine_rows.specs.Rows.{Key, AccountKey, MemberKey, BaseKey, AccountRow, MemberRow, Count, Projects, BasesOf, ClosedEpochs, Stored, member_cmp, member_row, Tables}
-use Rattle.review_machine_rows.specs.{Shelf.IsDamaged, View.IsView, View.fact, View.counted}
-use Rattle.review_machine_rows.specs.declared.rows.{BranchKey.BranchKey, MemberKey.MemberKey as Member}
-use Rattle.review_machine_rows.specs.declared.shelf.ShelfFault.{ShelfFault}
+use Rattle.review_machine_rows.specs.declared.rows.MemberKey.{MemberKey as Member}
+use Rattle.review_machine_change_rows.specs.{Tables.fault_of, declared.loading.ChangeFault.ChangeFault}
 use Rattle.review_memory_rows.proofs.Dropped.{at_account}
 use Rattle.review_memory_rows.specs.Bases.{IsUnlisted, AreBases, base_at}
-use Rattle.review_memory_rows.specs.{Loads.fault_of, declared.bases.BasesFault.BasesFault}
 use Rattle.review_memory.proofs.Applied.{name_total, exact_name, exact_member, at_member}
 use Rattle.review_memory.specs.Desk.{name_cmp, AddsNames, IsIndexed, KeepsNames, Desk, tables_of, row_of, count_of, AreInUse, IsNumber, IsNumbered}
 use Rattle.review_memory.specs.First.{first_name, first_member, HasAccount, HasName, HasMember}
 use Rattle.review_memory.specs.{Loads.IsUnread, declared.keys.NameKey.NameKey}
-use Rattle.review_memory_rows.specs.declared.bases.BasesFault.TheVariants as bases
+use Rattle.review_machine_change_rows.specs.declared.loading.ChangeFault.TheVariants as bases
 
 -- ==== the index of accounts by name
 
@@ -70,16 +65,12 @@ put_only first old new keys i key below is with only q there =
 
 -- ==== the desk of no request
 
-if_there : {X : Type 0} (b : Bool) (x y : X) → cond b (Some x) None ≡ Some y → (b ≡ true) × (x ≡ y)
-if_there true x y is = (refl, same_Some x y is)
-if_there false x y is = absurd (cc)
-
 one_number : IsNumber 1
 one_number = (omega arith, omega arith)
 
 pub first_indexed : (accounts : List (ℕ × List ℕ)) (names : List (NameKey × Unit {0})) → HasAccount accounts → HasName names → IsIndexed accounts names
 first_indexed accounts names account named number name is =
-    let there = if_there (is_at (nat_cmp 1) number) admin_name name (sym (account number) ∙ is) in
+    let there = cond_some (is_at (nat_cmp 1) number) admin_name name (sym (account number) ∙ is) in
     let same = tells_apart exact_unsigned 1 number there.0 in (
       subst IsNumber same one_number,
       subst (λ k. row_in name_cmp names k ≡ Some tt) (λ i. record { name = there.1 i; account = same i }) (named first_name ∙ ap (λ b. cond b (Some tt) None) (at_itself first_name)),
@@ -87,12 +78,12 @@ first_indexed accounts names account named number name is =
 
 pub first_in_use : (accounts : List (ℕ × List ℕ)) (names : List (NameKey × Unit {0})) → HasAccount accounts → HasName names → AreInUse accounts names
 first_in_use accounts names account named k is =
-    let there = if_there (is_at (name_cmp first_name) k) tt tt (sym (named k) ∙ is) in
+    let there = cond_some (is_at (name_cmp first_name) k) tt tt (sym (named k) ∙ is) in
     subst (λ (q : NameKey). row_in nat_cmp accounts q.account ≡ Some q.name) (tells_apart exact_name first_name k there.0) (account 1)
 
 pub first_numbered : (members : List (Member × Unit {0})) → HasMember members → IsNumbered members
 first_numbered members member k is =
-    let there = if_there (is_at (member_cmp first_member) k) tt tt (sym (member k) ∙ is) in
+    let there = cond_some (is_at (member_cmp first_member) k) tt tt (sym (member k) ∙ is) in
     subst (λ (m : Member). IsNumber m.account) (tells_apart exact_member first_member k there.0) one_number
 
 member_fact : (b t : Bool) (p : ℕ → Bool) → p 1 ≡ t → member_row (cond (b && t) (Some tt) None) ≡ cond (list_any p (cond b (1 ∷ []) [])) (Some MemberRow) None
@@ -139,7 +130,7 @@ unlisted_damaged d key none h hist v =
     (λ n. based_from (base_at d.branches.bases key.project key.branch n) (at_place (bases_in h key.project key.branch) n) ((v read.0 read.1).row_is (BaseKey key.project key.branch n)))
 
 -- bases that are not given are those of no history
-pub bases_unread : (d : Desk) (key : BranchKey) (f : BasesFault) → IsUnlisted d.branches.bases key f → IsUnread (tables_of d) (fault_of f)
+pub bases_unread : (d : Desk) (key : BranchKey) (f : ChangeFault) → IsUnlisted d.branches.bases key f → IsUnread (tables_of d) (fault_of f)
 bases_unread d key bases.Memory none = tt
 bases_unread d key bases.Gap none = unlisted_damaged d key none
 
@@ -149,10 +140,6 @@ passed_on t of f (Ok x) e unread = tt
 passed_on t of f (Err x) e unread = subst (IsUnread t) (sym e.1) unread
 
 -- ==== no history is as long as the greatest count of requests
-
-pub history_length : (h : List Entry) → IsHistory h → length h ≤ most_requests
-history_length [] hist = omega arith
-history_length (e ∷ h) hist = let below = hist.2 in omega arith
 
 -- nor do its tables count more requests
 pub view_length : (h : List Entry) (t : Tables) → IsHistory h → IsView h t → t.requests ≤ most_requests

@@ -1,16 +1,11 @@
 -- What is given up, and the places that it leaves.
 use Rattle.std.proofs.Common.{ℕ, ◌≤◌, List, length, take, sym, take_all, All, ◌≡◌, Bool, true, false, cond, ◌||◌, Option, Some, None, refl, ap, ◌∙◌, subst, ⊎_elim, nat_lt, option_map, unwrap_or, [], ◌∷◌, Result, Ok, Err, arith, drop, length-drop, is_some, nat_cmp, OnErr, OnOk}
-use Rattle.std.proofs.lemmas.{Bool.cases_Bool, List.Elements.All-same, List.Folds.list_any-append}
-use Rattle.std.proofs.lemmas.Map.Views.{tells_apart}
-use Rattle.std.specs.{BTreeMap.is_at, Cmp.Lexicographic.slice_cmp, declared.cmp.Ordering.Ordering}
+use Rattle.std.proofs.lemmas.{Bool.or_parts, Bool.cases_Bool, List.Elements.All-same}
 use Rattle.review_table.specs.Rows.{HasNoEmptyPlace, row_in, rows_of, after_row_edit, row_edit_of, changed, is_named, place_at, HasEmptyOnly}
-use Rattle.review_table.specs.declared.table.RowEdit.{RowEdit}
-use Rattle.review_words.specs.History.{Identity, is_same}
+use Rattle.review_machine_rows.proofs.Common.{Delta, Identity, IsCommitted, Ordering, Put, RowEdit, StoredFile, is_at, is_same, list_any-append, slice_cmp, tells_apart}
 use Rattle.review_machine_rows.specs.Rows.{Key, AccountKey, Row, Count, Projects, BasesOf, ClosedEpochs, Stored, Answered, after, count_after, is_below, kept_row}
-use Rattle.review_machine_rows.specs.Shelf.{IsCommitted}
-use Rattle.review_machine_rows.specs.declared.rows.{Delta.Delta, Kept.Kept, Put.Put, StoredFile.StoredFile}
-use Rattle.review_memory_rows.proofs.Based.{none_spare}
-use Rattle.review_memory_rows.proofs.Dropped.{among_lower, among_own, not_lower, not_own, or_parts, at_answer, exact_answer}
+use Rattle.{review_machine_rows.specs.declared.rows.Kept.Kept, review_memory_rows.proofs.Based.none_spare}
+use Rattle.review_memory_rows.proofs.Dropped.{among_lower, among_own, not_lower, not_own, at_answer, exact_answer}
 use Rattle.review_memory_rows.specs.Answers.{answer_cmp, key_of, is_among, if_lower, lower, lower_of}
 use Rattle.review_memory_rows.specs.Kept.{KeptView, IsFull, IsFullBut, place_cmp, sent_cmp}
 use Rattle.review_memory_rows.specs.declared.answer_keys.{AnswerKey.AnswerKey, StoredAnswer.StoredAnswer}
@@ -35,8 +30,7 @@ no_row least rows i below none = at (row_in answer_cmp rows (key_of i)) refl
 
 -- nor has the request that is stored
 not_kept : (least : ℕ) (kept i : Identity) → nat_lt i.epoch least ≡ true → is_among (if_lower least (key_of kept)) (key_of i) ≡ false → is_same kept i ≡ false
-not_kept least kept i below none =
-    ⊎_elim
+not_kept least kept i below none = ⊎_elim
     (λ (t : is_same kept i ≡ true).
     absurd (let e = among_own least (key_of kept) (key_of i) (tells_apart exact_answer (key_of kept) (key_of i) (at_answer (key_of kept) (key_of i) ∙ t)) below in cc))
     (λ (f : is_same kept i ≡ false). f)
@@ -47,8 +41,7 @@ given_up : (o : Option ℕ) (rows : List (AnswerKey × StoredAnswer)) (kept i : 
     option_map Answered (stored_row i mid) ≡ cond (is_same kept i) (Some x) (answer_of rows i) →
     option_map Answered (stored_row i (cond (is_among (lower_of o rows (key_of kept)) (key_of i)) None mid)) ≡ cond (is_below o i.epoch) None (cond (is_same kept i) (Some x) (answer_of rows i))
 given_up None rows kept i x mid is = is
-given_up (Some least) rows kept i x mid is =
-    ⊎_elim
+given_up (Some least) rows kept i x mid is = ⊎_elim
     (λ (below : nat_lt i.epoch least ≡ true).
     at below (is_among (lower_of (Some least) rows (key_of kept)) (key_of i)) refl ∙ sym (ap (λ b. cond b None (cond (is_same kept i) (Some x) (answer_of rows i))) below))
     (λ (above : nat_lt i.epoch least ≡ false).
@@ -112,10 +105,6 @@ sound_beside old new least rest filled sound = subst IsSound (sym rest) (record 
 })
 
 -- ==== places without a row: none, or only those of keys that changes name
-
--- a table without rows
-pub none_empty : {K X : Type 0} (R : K → K → Ordering) (t : List (K × Option X)) → t ≡ [] → HasNoEmptyPlace R t
-none_empty R t none q empty = let bad : None ≡ Some None = ap (λ xs. place_at R xs q) (sym none) ∙ empty in absurd (cc)
 
 -- what holds whatever a call gave
 pub on_ok : {X E : Type 0} (r : Result X E) (P : Type 0) → P → OnOk r P

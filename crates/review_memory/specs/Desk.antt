@@ -73,47 +73,15 @@ count_of d ClosedEpochs = d.least
 
 -- the same tables but for those of branches and what is stored of requests
 abbrev pub with_stored : MemoryTables → BranchesView → List (AnswerKey × Option StoredAnswer) → MemoryTables
-with_stored t branches answers = record {
-  accounts = t.accounts;
-  names = t.names;
-  members = t.members;
-  files = t.files;
-  branches = branches;
-  changes = t.changes;
-  projects = t.projects;
-  answers = answers;
-  least = t.least;
-  requests = t.requests;
-}
+with_stored t branches answers = record t { branches = branches; answers = answers }
 
 -- the same desk but for branches and what is stored of requests
 abbrev pub desk_with : Desk → BranchesView → List (AnswerKey × StoredAnswer) → Desk
-desk_with d branches answers = record {
-  accounts = d.accounts;
-  members = d.members;
-  files = d.files;
-  branches = branches;
-  changes = d.changes;
-  projects = d.projects;
-  answers = answers;
-  least = d.least;
-  requests = d.requests;
-}
+desk_with d branches answers = record d { branches = branches; answers = answers }
 
 -- the same tables but for what is stored of requests, and the least open epoch
 abbrev pub with_answers : MemoryTables → List (AnswerKey × Option StoredAnswer) → ℕ → MemoryTables
-with_answers t answers least = record {
-  accounts = t.accounts;
-  names = t.names;
-  members = t.members;
-  files = t.files;
-  branches = t.branches;
-  changes = t.changes;
-  projects = t.projects;
-  answers = answers;
-  least = least;
-  requests = t.requests;
-}
+with_answers t answers least = record t { answers = answers; least = least }
 
 -- a delta but for the epoch that it names
 abbrev pub beside_epoch : Delta → Delta

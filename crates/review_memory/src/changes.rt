@@ -5,7 +5,7 @@ ghost use Rattle.review_memory.specs.Desk.{IsNumber, IsHeld, IsGiven, IsNameOf, 
 
 use crate::keys::NameKey;
 use review_machine_rows::{Delta, Kept, MemberKey, Put, StoredFile};
-use review_memory_rows::{AnswerKey, KeptChanges, Prepared, StoredAnswer};
+use review_memory_rows::{AnswerKey, KeptChanges, Prepared, StoredAnswer, copied_changes};
 use review_table::{Key, RowEdit, Table};
 use review_words::{AccountName, AccountNo, ProjectName};
 use std::alloc::{AllocError, Global};
@@ -25,7 +25,7 @@ impl Changes {
         ensures copied { IfOk result (AreChangesOf delta.now) }
         ensures edits { IfOk result (λ c. ArePrepared (rows_of changes.now.kept) delta.now.changes.items c.edits) }
     {
-        let accounts = copied_accounts(alloc, &delta.accounts)?;
+        let accounts = copied_changes(alloc, &delta.accounts)?;
         let members = copied_members(alloc, &delta.members)?;
         let files = copied_file(alloc, &delta.file)?;
         let edits = changes.prepare(alloc, &delta.changes)?;
@@ -36,35 +36,6 @@ impl Changes {
             edits,
         })
     }
-}
-
-fn copied_accounts(
-    alloc: Global,
-    changes: &[RowEdit<AccountNo, AccountName>],
-) -> Result<Vec<RowEdit<AccountNo, AccountName>>, AllocError>
-    ensures copied { IfOk result (λ copies. copies.items ≡ changes.now) }
-{
-    let mut copies = Vec::new(alloc);
-    for change in changes {
-        copies.push(copied_account(alloc, change)?)?;
-    }
-    Ok(copies)
-}
-
-fn copied_account(
-    alloc: Global,
-    change: &RowEdit<AccountNo, AccountName>,
-) -> Result<RowEdit<AccountNo, AccountName>, AllocError>
-    ensures { IfOk result (λ copy. copy ≡ change.now) }
-{
-    let row = match &change.row {
-        Some(name) => Some(name.copy(alloc)?),
-        None => None,
-    };
-    Ok(RowEdit {
-        key: change.key,
-        row,
-    })
 }
 
 fn copied_members(

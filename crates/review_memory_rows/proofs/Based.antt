@@ -3,16 +3,12 @@ use Rattle.std.proofs.Common.{zero, suc, ◌≡◌, ℕ, ◌+◌, ◌<◌, ◌�
 use Rattle.std.proofs.lemmas.Bool.{cases_Bool, and_parts, cases_lt, eqb-false}
 use Rattle.std.proofs.lemmas.Cmp.{then_total, on_total, nat_cmp_total, nat_list_cmp_total, tied_itself}
 use Rattle.std.proofs.lemmas.Map.Lookups.{CmpEqualImpliesEq, exact_unsigned, exact_bytes}
-use Rattle.std.proofs.lemmas.Map.{Text.is_eq-slice_cmp, Views.tells_apart}
-use Rattle.std.proofs.lemmas.{Option.same_Some, Slice.Eq.bytes_eq-Decides}
-use Rattle.std.specs.{BTreeMap.is_at, Cmp.IsTotalOrder, Cmp.unsigned_ties, Cmp.Lexicographic.slice_cmp, Int.from_bool}
-use Rattle.std.specs.{Ordering.ordering_then, declared.cmp.Ordering.Ordering}
+use Rattle.std.specs.{Cmp.IsTotalOrder, Cmp.unsigned_ties, Int.from_bool}
+use Rattle.review_table.proofs.Places.{both_equal}
 use Rattle.review_table.specs.Rows.{row_in, after_row_edit, changed, HasNoEmptyPlace, HasEmptyOnly}
-use Rattle.review_table.specs.declared.table.RowEdit.{RowEdit}
+use Rattle.review_machine_rows.proofs.Common.{BranchKey, Ordering, PlaceKey, Put, RowEdit, at_place, branch_cmp, bytes_eq-Decides, is_at, is_eq-slice_cmp, ordering_then, place_cmp, same_Some, slice_cmp, tells_apart}
 use Rattle.review_machine_rows.proofs.Joins.{nothing_at_zero, past_end, some_at, placed_more}
-use Rattle.review_machine_rows.proofs.Puts.{at_place_of, is_eq-then, exact_place, place_total, both_equal}
-use Rattle.review_machine_rows.specs.{Known.at_place, Rows.branch_cmp, Rows.place_cmp}
-use Rattle.review_machine_rows.specs.declared.rows.{BranchKey.BranchKey, PlaceKey.PlaceKey, Put.Put}
+use Rattle.review_machine_rows.proofs.Puts.{at_place_of, is_eq-then, exact_place, place_total}
 use Rattle.review_memory_rows.specs.Bases.{commit_cmp, base_at, total_in, last_in, AreLast, IsLastPlace, commit_at, greatest_place, has_commit, is_stale, AreListed, AreBases}
 use Rattle.review_memory_rows.specs.declared.keys.CommitKey.{CommitKey}
 
@@ -55,8 +51,7 @@ branch_of base = record { project = base.key.project; branch = base.key.branch }
 pub last_more : (base : Put PlaceKey (List ℕ)) (last : ℕ) (lasts after : List (BranchKey × ℕ)) (old new : List (PlaceKey × List ℕ)) → AreLast lasts old →
     IsGreater (last_in lasts base.key.project base.key.branch) base.key.place last → WithRow branch_cmp lasts (record { project = base.key.project; branch = base.key.branch }) last after →
     WithRow place_cmp old base.key base.row new → AreLast after new
-last_more base last lasts after old new all greater ended put p b =
-    ⊎_elim
+last_more base last lasts after old new all greater ended put p b = ⊎_elim
     (λ (t : (bytes_eq base.key.project p && bytes_eq base.key.branch b) ≡ true). here (and_parts (bytes_eq base.key.project p) (bytes_eq base.key.branch b) t) t)
     (λ (f : (bytes_eq base.key.project p && bytes_eq base.key.branch b) ≡ false). there f)
     (cases_Bool (bytes_eq base.key.project p && bytes_eq base.key.branch b))
@@ -110,8 +105,7 @@ last_more base last lasts after old new all greater ended put p b =
         put_here false e same = absurd (eqb-false base.key.place last e (sym same))
 
         reached : last_in lasts base.key.project base.key.branch ≡ last_in lasts p b → (last ≡ 0) ⊎ IsSome (base_at new p b last)
-        reached was =
-            ⊎_elim
+        reached was = ⊎_elim
             (λ (same : last ≡ last_in lasts base.key.project base.key.branch). ⊎_elim
             (λ z. inl (same ∙ (was ∙ z)))
             (λ s. inr (still (base.key.place == last) refl (subst (λ n. IsSome (base_at old p b n)) (sym (same ∙ was)) s)))
@@ -140,8 +134,7 @@ none_of None e = refl
 none_of (Some x) e = absurd (cc)
 
 not_above : (rows : List (PlaceKey × List ℕ)) (p b : List ℕ) (m n : ℕ) → IsLastPlace rows p b m → IsLastPlace rows p b n → n ≤ m
-not_above rows p b m n one other =
-    ⊎_elim
+not_above rows p b m n one other = ⊎_elim
     (λ (lt : m < n).
     ⊎_elim
     (λ (z : n ≡ 0). absurd (omega arith))
@@ -256,8 +249,7 @@ module _ (base : Put PlaceKey (List ℕ)) (before : Option CommitKey) (commits m
   stays r q f there = r.dropped q ∙ (ap (λ b. cond b None (row_in commit_cmp mid q)) f ∙ there)
 
   there : Relisted → (k : PlaceKey) (commit : List ℕ) → row_in place_cmp new k ≡ Some commit → row_in commit_cmp after (commit_at k commit) ≡ Some tt
-  there r k commit is =
-      ⊎_elim
+  there r k commit is = ⊎_elim
       (λ (t : is_at (place_cmp base.key) k ≡ true).
       let same = tells_apart exact_place base.key k t in
       let text = same_Some base.row commit (sym (at_here r k t) ∙ is) in
@@ -270,8 +262,7 @@ module _ (base : Put PlaceKey (List ℕ)) (before : Option CommitKey) (commits m
       ∙ ap (λ b. cond b (Some tt) (row_in commit_cmp commits (commit_at base.key base.row))) (itself (commit_at base.key base.row))))
       (cases_Bool (is_stale before base.row (commit_at base.key base.row)))))
       (λ (f : is_at (place_cmp base.key) k ≡ false).
-      let had = (r.all.listed k commit).0 (sym (elsewhere r k f) ∙ is) in
-      ⊎_elim
+      let had = (r.all.listed k commit).0 (sym (elsewhere r k f) ∙ is) in ⊎_elim
       (λ (s : is_stale before base.row (commit_at k commit) ≡ true). let bad : true ≡ false = sym (at_itself k (stale_here r k commit s).0) ∙ f in absurd (cc))
       (λ (g : is_stale before base.row (commit_at k commit) ≡ false). stays r (commit_at k commit) g (kept r (commit_at k commit) had))
       (cases_Bool (is_stale before base.row (commit_at k commit))))
@@ -279,17 +270,14 @@ module _ (base : Put PlaceKey (List ℕ)) (before : Option CommitKey) (commits m
 
   only : Relisted → (k : PlaceKey) (commit : List ℕ) → row_in commit_cmp after (commit_at k commit) ≡ Some tt → row_in place_cmp new k ≡ Some commit
   only r k commit is =
-      let rest = left (is_stale before base.row (commit_at k commit)) (row_in commit_cmp mid (commit_at k commit)) (sym (r.dropped (commit_at k commit)) ∙ is) in
-      ⊎_elim
+      let rest = left (is_stale before base.row (commit_at k commit)) (row_in commit_cmp mid (commit_at k commit)) (sym (r.dropped (commit_at k commit)) ∙ is) in ⊎_elim
       (λ (t : is_at (commit_cmp (commit_at base.key base.row)) (commit_at k commit) ≡ true).
       let same = tells_apart exact_commit (commit_at base.key base.row) (commit_at k commit) t in
       at_here r k (at_itself k (same_place base.key k base.row commit same)) ∙ ap Some (ap (λ (q : CommitKey). q.commit) same))
       (λ (f : is_at (commit_cmp (commit_at base.key base.row)) (commit_at k commit) ≡ false).
-      let had = (r.all.listed k commit).1 (sym (ap (λ b. cond b (Some tt) (row_in commit_cmp commits (commit_at k commit))) f) ∙ (sym (r.listed (commit_at k commit)) ∙ rest.1)) in
-      ⊎_elim
+      let had = (r.all.listed k commit).1 (sym (ap (λ b. cond b (Some tt) (row_in commit_cmp commits (commit_at k commit))) f) ∙ (sym (r.listed (commit_at k commit)) ∙ rest.1)) in ⊎_elim
       (λ (t : is_at (place_cmp base.key) k ≡ true).
-      let same = tells_apart exact_place base.key k t in
-      at_here r k t ∙ ap Some (sym (replaced k commit r same had rest.0)))
+      at_here r k t ∙ ap Some (sym (replaced k commit r (tells_apart exact_place base.key k t) had rest.0)))
       (λ (g : is_at (place_cmp base.key) k ≡ false). elsewhere r k g ∙ had)
       (cases_Bool (is_at (place_cmp base.key) k)))
       (cases_Bool (is_at (commit_cmp (commit_at base.key base.row)) (commit_at k commit)))
@@ -324,8 +312,7 @@ stood_before base before commits bases all was =
     by : (o : Option (List ℕ)) → row_in place_cmp bases base.key ≡ o →
         row_in commit_cmp commits (commit_at base.key base.row) ≡ cond (has_commit (option_map (commit_at base.key) o) base.row) (Some tt) None
     by None is = none_unless _ (λ stands. absurd (let e = sym is ∙ (all.listed base.key base.row).1 stands in cc))
-    by (Some c) is =
-        ⊎_elim
+    by (Some c) is = ⊎_elim
         (λ (same : bytes_eq c base.row ≡ true). (all.listed base.key base.row).0 (is ∙ ap Some ((bytes_eq-Decides c base.row).0 same)) ∙ ap (λ b. cond b (Some tt) None) (sym same))
         (λ (other : bytes_eq c base.row ≡ false).
         none_unless _ (λ stands. let same = same_Some c base.row (sym is ∙ (all.listed base.key base.row).1 stands) in
@@ -362,8 +349,7 @@ listed_alike commits after bases rows alike same all =
 -- a place before the last one that has none makes a gap
 pub gap : (rows : List (PlaceKey × List ℕ)) (key : BranchKey) (last place : ℕ) → IsLastPlace rows key.project key.branch last → 1 ≤ place → place ≤ last →
     base_at rows key.project key.branch place ≡ None → (commits : List (List ℕ)) → AreBases rows key commits → ⊥
-gap rows key last place l low high none commits are =
-    ⊎_elim
+gap rows key last place l low high none commits are = ⊎_elim
     (λ (z : last ≡ 0). absurd (omega arith))
     (λ (s : IsSome (base_at rows key.project key.branch last)).
     ⊎_elim
@@ -405,8 +391,7 @@ up_to_more rows key count commits commit up is = record {
 pub all_listed : (rows : List (PlaceKey × List ℕ)) (key : BranchKey) (last : ℕ) (commits : List (List ℕ)) → IsLastPlace rows key.project key.branch last →
     base_at rows key.project key.branch 0 ≡ None → AreUpTo rows key last commits → AreBases rows key commits
 all_listed rows key last commits l none up zero = none ∙ sym (nothing_at_zero commits)
-all_listed rows key last commits l none up (suc n) =
-    ⊎_elim
+all_listed rows key last commits l none up (suc n) = ⊎_elim
     (λ (lt : last < suc n). l.above (suc n) lt ∙ sym (past_end commits (suc n) (let f = up.count_is in omega arith)))
     (λ (ge : suc n ≤ last). up.each (suc n) (omega arith) ge)
     (cases_lt last (suc n))

@@ -1,28 +1,22 @@
 -- Keys of answers: their order, and which of them are dropped.
-use Rattle.std.proofs.Common.{◌≡◌, ℕ, Bool, true, false, ◌&&◌, ◌==◌, refl, sym, ◌∙◌, is_eq, nat_cmp, bytes_eq, Option, Some, None, Bor, option_map, option_copied, is_some, cond, List, ◌∷◌, subst, [], ap, ◌+◌, ◌<◌, ◌||◌, ◌++◌, length, get_or, take, map, ⊎_elim, append_assoc, append-nil, flat_map, nat_lt}
-use Rattle.std.proofs.lemmas.Bool.{cases_Bool}
+use Rattle.std.proofs.Common.{◌≡◌, ℕ, Bool, true, false, ◌&&◌, ◌==◌, refl, sym, ◌∙◌, is_eq, nat_cmp, bytes_eq, Option, Some, None, Bor, option_copied, is_some, cond, List, ◌∷◌, subst, [], ap, ◌+◌, ◌<◌, ◌||◌, ◌++◌, length, get_or, take, map, ⊎_elim, append-nil, nat_lt}
+use Rattle.std.proofs.lemmas.Bool.{or_right, cases_Bool}
 use Rattle.std.proofs.lemmas.Cmp.{then_total, on_total, nat_cmp_total, nat_list_cmp_total, tied_itself}
-use Rattle.std.proofs.lemmas.List.{map-append, take_more, Folds.list_any-append}
+use Rattle.std.proofs.lemmas.Grind.{flat_map-append}
 use Rattle.std.proofs.lemmas.Map.Lookups.{CmpEqualImpliesEq, exact_unsigned, exact_bytes}
-use Rattle.std.proofs.lemmas.Map.{Text.is_eq-slice_cmp, Views.tells_apart}
-use Rattle.std.specs.{BTreeMap.is_at, Cmp.IsTotalOrder, Cmp.unsigned_ties, Cmp.Lexicographic.slice_cmp}
-use Rattle.std.specs.{Map.Iter.deref_pair, Ordering.ordering_then}
-use Rattle.std.specs.declared.cmp.Ordering.{Ordering, TheVariants.Less, TheVariants.Equal}
+use Rattle.review_table.proofs.Places.{both_equal}
 use Rattle.review_table.specs.Rows.{row_in, is_named, place_at, HasEmptyOnly, HasNoEmptyPlace}
-use Rattle.review_table.specs.declared.table.RowEdit.{RowEdit}
+use Rattle.review_machine_rows.proofs.Common.{IsTotalOrder, Ordering, RowEdit, deref_pair, is_at, is_eq-slice_cmp, list_any-append, map-append, ordering_then, slice_cmp, take_more, tells_apart, unsigned_ties}
+use Rattle.review_machine_rows.proofs.Puts.{is_eq-then}
 use Rattle.review_memory_rows.specs.Answers.{answer_cmp, is_among, if_lower, lower}
 use Rattle.review_memory_rows.specs.declared.answer_keys.{AnswerKey.AnswerKey, StoredAnswer.StoredAnswer}
 
 -- ==== the order of the keys of answers: it is total, and ties only equal keys
 
-equal_parts : (a b : Ordering) → ordering_then a b ≡ Equal → (a ≡ Equal) × (b ≡ Equal)
-equal_parts Equal b e = (refl, e)
-equal_parts _ b e = absurd (cc)
-
 pub exact_answer : CmpEqualImpliesEq answer_cmp
 exact_answer x y e =
-    let one = equal_parts (nat_cmp x.epoch y.epoch) (ordering_then (nat_cmp x.caller y.caller) (slice_cmp nat_cmp x.id y.id)) e in
-    let two = equal_parts (nat_cmp x.caller y.caller) (slice_cmp nat_cmp x.id y.id) one.1 in
+    let one = both_equal (nat_cmp x.epoch y.epoch) (ordering_then (nat_cmp x.caller y.caller) (slice_cmp nat_cmp x.id y.id)) e in
+    let two = both_equal (nat_cmp x.caller y.caller) (slice_cmp nat_cmp x.id y.id) one.1 in
     let epoch = exact_unsigned x.epoch y.epoch one.0 in
     let caller = exact_unsigned x.caller y.caller two.0 in
     let id = exact_bytes x.id y.id two.1 in
@@ -30,10 +24,6 @@ exact_answer x y e =
 
 pub answer_total : IsTotalOrder answer_cmp
 answer_total = then_total (on_total (λ (k : AnswerKey). k.epoch) nat_cmp_total) (then_total (on_total (λ (k : AnswerKey). k.caller) nat_cmp_total) (on_total (λ (k : AnswerKey). k.id) nat_list_cmp_total))
-
-pub is_eq-then : (a b : Ordering) → is_eq (ordering_then a b) ≡ (is_eq a && is_eq b)
-is_eq-then Less b = refl
-is_eq-then _ b = refl
 
 pub at_account : (a b : ℕ) → is_at (nat_cmp a) b ≡ (a == b)
 at_account a b = sym (unsigned_ties a b)
@@ -56,10 +46,6 @@ at_answer a b =
 pub copied_some : {X : Type 0} (o : Option (Bor X)) → is_some (option_copied o) ≡ is_some o
 copied_some None = refl
 copied_some (Some x) = refl
-
-pub some_mapped_is : {X Y : Type 0} (f : X → Y) (o : Option X) → is_some (option_map f o) ≡ is_some o
-some_mapped_is f None = refl
-some_mapped_is f (Some x) = refl
 
 -- ==== keys that are left once one is looked at
 
@@ -86,10 +72,6 @@ pub only_for : {K X Y : Type 0} (R : K → K → Ordering) (t : List (K × Optio
 only_for R t cs items is only = subst (λ xs. HasEmptyOnly R (is_named R xs) t) is only
 
 -- ==== which keys are those of lower epochs, and what stands without them
-
-flat_map-append : {A B : Type 0} (f : A → List B) (xs ys : List A) → flat_map f (xs ++ ys) ≡ flat_map f xs ++ flat_map f ys
-flat_map-append f [] ys = refl
-flat_map-append f (x ∷ xs) ys = ap (λ l. f x ++ l) (flat_map-append f xs ys) ∙ sym (append_assoc (f x) (flat_map f xs) (flat_map f ys))
 
 one_more : (least : ℕ) (e : AnswerKey × StoredAnswer) → lower least (e ∷ []) ≡ if_lower least e.0
 one_more least e = append-nil (if_lower least e.0)
@@ -124,10 +106,6 @@ drop_more false false old mid new m n = n ∙ m
 answer_itself : (k : AnswerKey) → is_at (answer_cmp k) k ≡ true
 answer_itself k = ap is_eq (tied_itself answer_total k)
 
-or_right : (a b : Bool) → b ≡ true → (a || b) ≡ true
-or_right true b t = refl
-or_right false b t = t
-
 -- a lower key is among those of the rows where it has one
 pub among_own : (least : ℕ) (k q : AnswerKey) → k ≡ q → nat_lt q.epoch least ≡ true → is_among (if_lower least k) q ≡ true
 among_own least k q same below =
@@ -145,8 +123,7 @@ among_lower least (e ∷ rows) q v below is =
 
 -- and no other is among them
 pub not_own : (least : ℕ) (k q : AnswerKey) → nat_lt q.epoch least ≡ false → is_among (if_lower least k) q ≡ false
-not_own least k q above =
-    ⊎_elim
+not_own least k q above = ⊎_elim
     (λ (t : nat_lt k.epoch least ≡ true). ap (λ b. is_among (cond b (k ∷ []) []) q) t ∙ at (is_at (answer_cmp k) q) refl t)
     (λ (f : nat_lt k.epoch least ≡ false). ap (λ b. is_among (cond b (k ∷ []) []) q) f)
     (cases_Bool (nat_lt k.epoch least))
@@ -159,7 +136,3 @@ pub not_lower : (least : ℕ) (rows : List (AnswerKey × StoredAnswer)) (q : Ans
 not_lower least [] q above = refl
 not_lower least (e ∷ rows) q above =
     list_any-append (λ x. is_at (answer_cmp x) q) (if_lower least e.0) (lower least rows) ∙ (λ i. not_own least e.0 q above i || not_lower least rows q above i)
-
-pub or_parts : (a b : Bool) → (a || b) ≡ false → (a ≡ false) × (b ≡ false)
-or_parts true b e = absurd (cc)
-or_parts false b e = (refl, e)

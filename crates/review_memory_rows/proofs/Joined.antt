@@ -1,35 +1,25 @@
 -- Changes that joined a branch, by the index of their places.
 use Rattle.std.proofs.Common.{◌≡◌, ℕ, ◌<◌, ◌==◌, List, [], ◌∷◌, ◌++◌, Option, Some, None, Bool, true, false, cond, refl, sym, ap, ◌∙◌, subst, eqb-true, arith, nat_cmp, flat_map, ◌≤◌, ◌⊎◌, inl, inr, ⊎_elim, ◌&&◌, not, max, eq-eqb, option_map, is_le, is_lt, bytes_eq, zero, suc, get_or, All, Contains, filter, AllPairs, option_to_list}
-use Rattle.std.proofs.lemmas.Bool.{and_parts, Decides.nat_tests}
 use Rattle.std.proofs.lemmas.Cmp.{then_total, on_total, nat_cmp_total, tied_itself, ranked}
 use Rattle.std.proofs.lemmas.List.Elements.{All-push, Contains-append_left, Contains-push}
 use Rattle.std.proofs.lemmas.List.{Kept.IsStrictlySortedBy-filter, Quantifiers.all_pairs_push}
 use Rattle.std.proofs.lemmas.Map.Lookups.{CmpEqualImpliesEq, exact_unsigned}
-use Rattle.std.proofs.lemmas.{Map.Views.tells_apart, Slice.Eq.bytes_eq-Decides}
-use Rattle.std.specs.{BTreeMap.is_at, BTreeMap.Range.range_contains, Cmp.IsTotalOrder, Cmp.nat_cmp_is}
-use Rattle.std.specs.{List.AllByRecursion, List.Sorted.IsStrictlySortedBy, Map.keys_of, Ordering.ordering_then}
-use Rattle.std.specs.declared.cmp.Ordering.{Ordering, TheVariants.Less, TheVariants.Equal, TheVariants.Greater}
-use Rattle.std.specs.declared.ops.Bound.TheVariants.{Included}
-use Rattle.review_table.proofs.{Lasts.between, Lasts.keys_filtered, Places.row_between}
+use Rattle.std.specs.{Cmp.IsTotalOrder, Cmp.nat_cmp_is, List.Sorted.IsStrictlySortedBy}
+use Rattle.std.specs.declared.cmp.Ordering.TheVariants.{Less, Equal, Greater}
+use Rattle.review_table.proofs.{Lasts.between, Lasts.keys_filtered, Places.both_equal, Places.row_between}
 use Rattle.review_table.specs.Rows.{after_row_edit, is_named, row_in, rows_of}
-use Rattle.review_table.specs.declared.table.RowEdit.{RowEdit}
-use Rattle.review_words.specs.declared.shown.JoinedChange.{JoinedChange}
 use Rattle.review_core_rules.specs.Parts.{Part, TheHeader, PartRow, AHeader}
-use Rattle.review_core_rules.specs.declared.rows.{Header.Header, PatchRow.PatchRow}
+use Rattle.review_machine_rows.proofs.Common.{AllByRecursion, ChangeEdit, Header, Included, JoinedChange, Ordering, PatchRow, RowEdit, and_parts, bytes_eq-Decides, is_at, keys_of, nat_tests, ordering_then, range_contains, tells_apart}
 use Rattle.review_machine_rows.proofs.{Joins.one_joined, Joins.one_place, Learning.branch_total, Learning.exact_branch}
 use Rattle.review_machine_rows.specs.Known.{IsAtPlace, IsLastJoined, HaveJoined, IsBefore, IsJoinedAt}
 use Rattle.review_machine_rows.specs.Rows.{branch_cmp, edited, part_change, APart, Key, Row}
-use Rattle.review_machine_rows.specs.declared.rows.{BranchKey.BranchKey as Branch, ChangeEdit.ChangeEdit}
+use Rattle.review_machine_rows.specs.declared.rows.BranchKey.{BranchKey as Branch}
 use Rattle.review_machine_change_rows.specs.declared.tables.ChangeTables.{ChangeTables}
 use Rattle.review_memory_rows.proofs.Sent.{current_is, no_patch, all_so, first_named, named_left, named_right, put_there, puts_append, stays_there, OnlyPuts, WithKeys, between_parts, header_is}
 use Rattle.review_memory_rows.specs.Kept.{part_at, place_cmp, place_of, placed_in, ArePlaced, ArePlaceKeys, IsPlaceKey, is_placed, part_where, row_of, AddsJoined, IsCurrentOf, IsJoinedOrNot}
 use Rattle.review_memory_rows.specs.declared.places.PlaceKey.{PlaceKey}
 
 -- ==== the index of changes by their places in branches, once changes are edited
-
-both_equal : (a b : Ordering) → ordering_then a b ≡ Equal → (a ≡ Equal) × (b ≡ Equal)
-both_equal Equal b e = (refl, e)
-both_equal _ b e = absurd (cc)
 
 pub exact_place : CmpEqualImpliesEq place_cmp
 exact_place x y e =
@@ -299,10 +289,9 @@ module _ (row : Key → Option Row) (key : Branch) where
         ordered = all_pairs_push (IsBefore row key) joined j so.ordered
             (λ i d below p q before at.
             let a = get_or joined i d in
-            let less = (so.behind i d below p before).0 in
             let place = one_place row key j.change k.place q is.at at in
             ⊎_elim (λ lower. inl (subst (λ x. p < x) place lower)) (λ tied. inr (tied.0 ∙ place, subst (λ x. a.change < x) (sym found.0) tied.1))
-            (less_parts p k.place a.change k.change k.branch own.0 less));
+            (less_parts p k.place a.change k.change k.branch own.0 ((so.behind i d below p before).0)));
         sorted = so.sorted.1;
         own = so.own.1;
         behind = All-push (λ x. (place : ℕ) → IsAtPlace row key place x.change → AllByRecursion (λ y. place_cmp (key_at key place x.change) y ≡ Less) (keys_of rest)) joined j

@@ -1,21 +1,16 @@
 -- Patch sets by their commits.
 use Rattle.std.proofs.Common.{◌≡◌, List, [], ◌∷◌, ◌++◌, Option, Some, None, Bool, true, false, cond, refl, sym, ap, ◌∙◌, subst, All, is_some, is_eq, IsSome, ℕ, ◌==◌, eqb-true, option_map, nat_cmp, ◌≤◌, ◌&&◌, not, arith, is_le, is_lt, bytes_eq, Result, Ok, Err, IfOk, MatchBool}
-use Rattle.std.proofs.lemmas.Bool.{and_parts}
 use Rattle.std.proofs.lemmas.Cmp.{tied_itself, then_total, on_total, nat_cmp_total, nat_list_cmp_total}
 use Rattle.std.proofs.lemmas.List.Elements.{All-from_recursion, recursion_from_All}
 use Rattle.std.proofs.lemmas.Map.Lookups.{CmpEqualImpliesEq, exact_unsigned, exact_bytes}
-use Rattle.std.proofs.lemmas.{Map.Views.tells_apart, Option.same_Some, Slice.Eq.bytes_eq-Decides}
-use Rattle.std.specs.BTreeMap.{is_at}
-use Rattle.std.specs.Cmp.{IsTotalOrder, unsigned_tied, unsigned_ties, nat_cmp_is, Lexicographic.slice_cmp}
-use Rattle.std.specs.{List.AllByRecursion, Ordering.ordering_then, declared.alloc.AllocError.AllocError}
-use Rattle.std.specs.declared.cmp.Ordering.{Ordering, TheVariants.Less, TheVariants.Equal, TheVariants.Greater}
+use Rattle.std.specs.Cmp.{IsTotalOrder, unsigned_tied, unsigned_ties, nat_cmp_is}
+use Rattle.review_table.proofs.Places.{both_equal}
 use Rattle.review_table.specs.Rows.{after_row_edit, changed, row_edit_of, is_named, row_in, rows_of}
-use Rattle.review_table.specs.declared.table.RowEdit.{RowEdit}
 use Rattle.review_core_rules.specs.Parts.{Part, PatchOf, PartRow, APatch, TheHeader, AHeader}
-use Rattle.review_core_rules.specs.declared.rows.{Header.Header, PatchRow.PatchRow}
+use Rattle.review_machine_rows.proofs.Common.{AllByRecursion, AllocError, Base, ChangeEdit, Equal, Greater, Header, Less, Ordering, PatchRow, RowEdit, and_parts, bytes_eq-Decides, is_at, ordering_then, same_Some, slice_cmp, tells_apart}
+use Rattle.review_machine_rows.proofs.Joins.{unsent_from}
 use Rattle.review_machine_rows.specs.Known.{IsSender, IsCurrent, IsMergedWith, IsSentBy}
 use Rattle.review_machine_rows.specs.Rows.{edited, part_change, APart}
-use Rattle.review_machine_rows.specs.declared.rows.{Base.Base, ChangeEdit.ChangeEdit}
 use Rattle.review_machine_change_rows.specs.declared.tables.ChangeTables.{ChangeTables}
 use Rattle.review_memory_rows.specs.Kept.{part_at, sent_by, sent_cmp, sent_in, with_sent, AreListed, AreNumbered, IsNumbered, has_commit, is_sent, part_where, row_of, IsCurrentOf, IsFoundSent, IsLastOf, IsSentAs, IsSentIn}
 use Rattle.review_memory_rows.specs.declared.kept.SentKey.{SentKey}
@@ -106,10 +101,6 @@ pub all_put : {K : Type 0} (cs all : List (RowEdit K (Unit {0}))) → OnlyPuts a
 all_put {K} cs all puts is = subst (All (λ (c : RowEdit K (Unit {0})). IsSome c.row)) (sym is) (All-from_recursion (λ c. IsSome c.row) all (only_some all puts))
 
 -- ==== the index of patch sets by commit, once changes are edited
-
-both_equal : (a b : Ordering) → ordering_then a b ≡ Equal → (a ≡ Equal) × (b ≡ Equal)
-both_equal Equal b e = (refl, e)
-both_equal _ b e = absurd (cc)
 
 pub exact_sent : CmpEqualImpliesEq sent_cmp
 exact_sent x y e =
@@ -330,10 +321,6 @@ pub sent_patch_by : (kept : List (ℕ × ChangeTables)) (base : Base) (r : Resul
 sent_patch_by kept base (Ok found) is = sent_patch kept base found is
 sent_patch_by kept base (Err error) none = none
 
-none_patch : (o : Option PatchRow) → option_map APart (option_map APatch o) ≡ None → o ≡ None
-none_patch None is = refl
-none_patch (Some x) is = absurd (cc)
-
 -- the current patch set of a change
 pub current_is : (kept : List (ℕ × ChangeTables)) (n : ℕ) (t : ChangeTables) (p : ℕ) (patch : PatchRow) → row_in nat_cmp kept n ≡ Some t → row_in nat_cmp (rows_of t.patches) p ≡ Some patch → IsLastOf (rows_of t.patches) p →
     IsCurrent (row_of kept) n patch
@@ -344,7 +331,7 @@ current_is kept n t p patch is sent last = record {
 }
 
 pub last_of : (kept : List (ℕ × ChangeTables)) (n : ℕ) (t : ChangeTables) (patch : PatchRow) → row_in nat_cmp kept n ≡ Some t → (c : IsCurrent (row_of kept) n patch) → IsLastOf (rows_of t.patches) c.number
-last_of kept n t patch is c m less = none_patch (row_in nat_cmp (rows_of t.patches) m) (sym (ap (λ o. option_map APart (part_where o (PatchOf m))) is) ∙ c.later m less)
+last_of kept n t patch is c m less = unsent_from (row_in nat_cmp (rows_of t.patches) m) (sym (ap (λ o. option_map APart (part_where o (PatchOf m))) is) ∙ c.later m less)
 
 module _ (kept : List (ℕ × ChangeTables)) (base : Base) (n : ℕ) where
   merged_by : (p : ℕ) (o : Option ChangeTables) → row_in nat_cmp kept n ≡ o → IsSentAs true o base p → IsMergedWith (row_of kept) base n

@@ -1,15 +1,10 @@
 -- What edits make of the tables of a change.
-use Rattle.std.proofs.Common.{◌≡◌, ℕ, ◌==◌, List, [], ◌∷◌, Option, Some, None, Bool, true, false, cond, refl, sym, ap, ◌∙◌, eqb-true, All, IsSome, nat_cmp, zero, suc, arith, ◌+◌, ◌<◌, ◌++◌, length, take, drop, get_or, subst, flat_map, ℤ, option_map}
-use Rattle.std.proofs.lemmas.List.{take_more, Elements.All-from_recursion}
-use Rattle.std.specs.{Cmp.unsigned_tied, List.AllByRecursion}
+use Rattle.std.proofs.Common.{drop-cons, append_assoc, ◌≡◌, ℕ, ◌==◌, List, [], ◌∷◌, Option, Some, None, Bool, true, false, cond, refl, sym, ap, ◌∙◌, eqb-true, All, IsSome, nat_cmp, suc, arith, ◌+◌, ◌<◌, ◌++◌, length, take, drop, get_or, subst, flat_map, ℤ, option_map}
 use Rattle.review_table.specs.Rows.{after_row_edit, changed, row_edit_of, row_in, rows_of}
-use Rattle.{review_table.specs.declared.table.RowEdit.RowEdit, review_words.specs.declared.changes.Role.Role}
-use Rattle.review_core_rules.specs.Change.{Change}
 use Rattle.review_core_rules.specs.Parts.{Part, TheHeader, PatchOf, VoteOf, RoleOf, CommentOf, AttentionOf, PartRow, AHeader, APatch, ARole, AComment, AnAttentionEntry, part_row}
-use Rattle.review_core_rules.specs.{Seen.vote_cmp, declared.rows.AttentionEntry.AttentionEntry}
-use Rattle.review_core_rules.specs.declared.rows.{CommentRow.CommentRow, PatchRow.PatchRow, VoteKey.VoteKey}
-use Rattle.review_machine_rows.specs.{Known.HasChange, Rows.edited, Rows.part_change, Rows.vote_row, Rows.APart}
-use Rattle.review_machine_rows.specs.declared.rows.ChangeEdit.{ChangeEdit}
+use Rattle.review_core_rules.specs.declared.rows.AttentionEntry.{AttentionEntry}
+use Rattle.review_machine_rows.proofs.Common.{APart, All-from_recursion, AllByRecursion, Change, ChangeEdit, CommentRow, PatchRow, Role, RowEdit, VoteKey, edited, part_change, take_more, unsigned_tied, vote_cmp, vote_row}
+use Rattle.review_machine_rows.{proofs.Joins.part_from, specs.Known.HasChange}
 use Rattle.review_machine_change_rows.specs.Tables.{part_in, HaveFault, Show}
 use Rattle.review_machine_change_rows.specs.declared.loading.ChangeFault.{ChangeFault}
 use Rattle.review_machine_change_rows.specs.declared.loading.ChangeFault.TheVariants.{Memory, Gap}
@@ -59,31 +54,18 @@ made_by kept mid new es cs puts same put n part =
 
 -- ==== lists of edits and of keys, one more each
 
-assoc : {X : Type 0} (xs ys zs : List X) → (xs ++ ys) ++ zs ≡ xs ++ (ys ++ zs)
-assoc [] ys zs = refl
-assoc (x ∷ xs) ys zs = ap (λ l. x ∷ l) (assoc xs ys zs)
-
-nothing_more : {X : Type 0} (xs : List X) → xs ++ [] ≡ xs
-nothing_more [] = refl
-nothing_more (x ∷ xs) = ap (λ l. x ∷ l) (nothing_more xs)
-
 with_apart : (n p : ℕ) (row : Option PatchRow) (rest : List (RowEdit SentKey (Unit {0}))) → with_sent n p row rest ≡ with_sent n p row [] ++ rest
 with_apart n p None rest = refl
 with_apart n p (Some patch) rest = refl
 
-drop_first : {X : Type 0} (xs : List X) (i : ℕ) (d : X) → i < length xs → drop i xs ≡ get_or xs i d ∷ drop (suc i) xs
-drop_first [] i d below = absurd (omega arith)
-drop_first (x ∷ xs) zero d below = refl
-drop_first (x ∷ xs) (suc i) d below = drop_first xs i d (omega arith)
-
 drop_one : {X : Type 0} (xs : List X) (i : ℕ) (d : X) → i < length xs → drop i xs ≡ get_or xs i d ∷ drop (i + 1) xs
-drop_one xs i d below = let e : suc i ≡ i + 1 = omega arith in drop_first xs i d below ∙ ap (λ n. get_or xs i d ∷ drop n xs) e
+drop_one xs i d below = let e : suc i ≡ i + 1 = omega arith in drop-cons xs i d below ∙ ap (λ n. get_or xs i d ∷ drop n xs) e
 
 pub sent_more : (n : ℕ) (cs : List (RowEdit ℕ PatchRow)) (i : ℕ) (c : RowEdit ℕ PatchRow) (old new all : List (RowEdit SentKey (Unit {0}))) → i < length cs → c ≡ get_or cs i c →
     new ≡ old ++ with_sent n c.key c.row [] → old ++ sent_in n (drop i cs) ≡ all → new ++ sent_in n (drop (i + 1) cs) ≡ all
 sent_more n cs i c old new all below is new_is whole =
     ap (λ l. l ++ sent_in n (drop (i + 1) cs)) new_is
-    ∙ assoc old (with_sent n c.key c.row []) (sent_in n (drop (i + 1) cs))
+    ∙ append_assoc old (with_sent n c.key c.row []) (sent_in n (drop (i + 1) cs))
     ∙ ap (λ l. old ++ l) (sym (with_apart n c.key c.row (sent_in n (drop (i + 1) cs))) ∙ ap (sent_in n) (sym (drop_one cs i c below ∙ ap (λ x. x ∷ drop (i + 1) cs) (sym is))))
     ∙ whole
 
@@ -92,7 +74,7 @@ pub flat_more : {X Y : Type 0} (f : X → List Y) (xs : List X) (i : ℕ) (x : X
     new ≡ old ++ f x → old ++ flat_map f (drop i xs) ≡ all → new ++ flat_map f (drop (i + 1) xs) ≡ all
 flat_more f xs i x old new all below is new_is whole =
     ap (λ l. l ++ flat_map f (drop (i + 1) xs)) new_is
-    ∙ assoc old (f x) (flat_map f (drop (i + 1) xs))
+    ∙ append_assoc old (f x) (flat_map f (drop (i + 1) xs))
     ∙ ap (λ l. old ++ l) (ap (flat_map f) (sym (drop_one xs i x below ∙ ap (λ y. y ∷ drop (i + 1) xs) (sym is))))
     ∙ whole
 
@@ -100,7 +82,7 @@ pub sent_by_more : (es : List ChangeEdit) (i : ℕ) (e : ChangeEdit) (old new al
     new ≡ old ++ sent_in e.change e.patches.items → old ++ sent_by (drop i es) ≡ all → new ++ sent_by (drop (i + 1) es) ≡ all
 sent_by_more es i e old new all below is new_is whole =
     ap (λ l. l ++ sent_by (drop (i + 1) es)) new_is
-    ∙ assoc old (sent_in e.change e.patches.items) (sent_by (drop (i + 1) es))
+    ∙ append_assoc old (sent_in e.change e.patches.items) (sent_by (drop (i + 1) es))
     ∙ ap (λ l. old ++ l) (ap sent_by (sym (drop_one es i e below ∙ ap (λ x. x ∷ drop (i + 1) es) (sym is))))
     ∙ whole
 
@@ -199,12 +181,6 @@ bare_before e t bare (CommentOf n) = λ i. after_row_edit (part_change e (Commen
 bare_before e t bare (AttentionOf u) = λ i. after_row_edit (part_change e (AttentionOf u)) (option_map AnAttentionEntry (row_in nat_cmp (bare.attention i) u))
 
 -- ==== the change of a number
-
-part_from : (o p : Option PartRow) → option_map APart o ≡ option_map APart p → o ≡ p
-part_from None None e = refl
-part_from None (Some y) e = absurd (cc)
-part_from (Some x) None e = absurd (cc)
-part_from (Some x) (Some y) e = let same : x ≡ y = cc in ap Some same
 
 -- the change of a number
 pub has_change : (kept : List (ℕ × ChangeTables)) (n : ℕ) (t : ChangeTables) (c : Change) → row_in nat_cmp kept n ≡ Some t → Show t c → HasChange (row_of kept) n (Some c)

@@ -5,9 +5,9 @@ use Rattle.std.specs.{Str.bytes_eq, declared.cmp.Ordering.Ordering}
 use Rattle.review_table.specs.Rows.{row_in, is_named, HasNoEmptyPlace, HasEmptyOnly}
 use Rattle.review_machine_rows.specs.{Known.at_place, Rows.branch_cmp, Rows.place_cmp}
 use Rattle.review_machine_rows.specs.declared.rows.{Base.Base, BranchKey.BranchKey, PlaceKey.PlaceKey, Put.Put}
-use Rattle.review_memory_rows.specs.declared.bases.{BaseChanges.BaseChanges, BasesFault.BasesFault}
-use Rattle.review_memory_rows.specs.declared.bases.BasesFault.TheVariants.{Memory, Gap}
-use Rattle.review_memory_rows.specs.declared.keys.CommitKey.{CommitKey}
+use Rattle.review_machine_change_rows.specs.declared.loading.ChangeFault.{ChangeFault}
+use Rattle.review_machine_change_rows.specs.declared.loading.ChangeFault.TheVariants.{Memory, Gap}
+use Rattle.review_memory_rows.specs.declared.{bases.BaseChanges.BaseChanges, keys.CommitKey.CommitKey}
 
 -- by commit, then by project, then by branch, then by place
 abbrev pub commit_cmp : CommitKey → CommitKey → Ordering
@@ -74,7 +74,7 @@ abbrev pub AreBases : List (PlaceKey × List ℕ) → BranchKey → List (List �
 AreBases rows key commits = (place : ℕ) → base_at rows key.project key.branch place ≡ at_place commits place
 
 -- why the bases of a branch are not given: where they have a gap, no list has them at its places
-abbrev pub IsUnlisted : List (PlaceKey × List ℕ) → BranchKey → BasesFault → Type 0
+abbrev pub IsUnlisted : List (PlaceKey × List ℕ) → BranchKey → ChangeFault → Type 0
 IsUnlisted rows key Memory = Unit {0}
 IsUnlisted rows key Gap = (commits : List (List ℕ)) → AreBases rows key commits → ⊥
 

@@ -1,4 +1,3 @@
 pub mod Answers
 pub mod Kept
 pub mod Bases
-pub mod Loads

@@ -7,7 +7,8 @@ ghost use Rattle.review_memory_rows.specs.Bases.{commit_cmp, base_at, total_in, 
 ghost use Rattle.review_memory_rows.specs.declared.keys.CommitKey.{CommitKey};
 
 use crate::keys::CommitKey;
-use review_machine_rows::{Base, BranchKey, PlaceKey, Put, ShelfFault};
+use review_machine_change_rows::ChangeFault;
+use review_machine_rows::{Base, BranchKey, PlaceKey, Put};
 use review_table::{Key, RowEdit, Table};
 use review_words::{Bases, CommitName, ProjectName};
 use std::alloc::{AllocError, Global};
@@ -21,40 +22,6 @@ pub struct Branches {
     commits: Table<CommitKey, ()>,
     lasts: Table<BranchKey, u64>,
     totals: Table<ProjectName, u64>,
-}
-
-/// Why the bases of a branch are not given.
-#[derive(Clone, Copy, PartialEq, Eq, Drop)]
-pub enum BasesFault {
-    /// There was no memory for them.
-    Memory,
-    /// A place has none, or place 0 has one.
-    Gap,
-}
-
-impl From<AllocError> for BasesFault {
-    ghost use Rattle.std.specs.Prelude.{◌≡◌};
-    ghost use Rattle.review_memory_rows.specs.declared.bases.BasesFault.TheVariants.{Memory};
-
-    ghost from_gives = { λ _ f. f ≡ Memory };
-
-    fn from(_error: AllocError) -> BasesFault {
-        BasesFault::Memory
-    }
-}
-
-impl From<BasesFault> for ShelfFault {
-    ghost use Rattle.std.specs.Prelude.{◌≡◌};
-    ghost use Rattle.review_memory_rows.specs.Loads.{fault_of};
-
-    ghost from_gives = { λ f e. e ≡ fault_of f };
-
-    fn from(fault: BasesFault) -> ShelfFault {
-        match fault {
-            BasesFault::Memory => ShelfFault::Memory,
-            BasesFault::Gap => ShelfFault::Damaged,
-        }
-    }
 }
 
 impl Model for Branches {
@@ -92,7 +59,7 @@ impl Branches {
     }
 
     /// The bases of a branch in the order of their places, none where it has none, or that these have a gap.
-    pub fn bases_of(&self, alloc: Global, branch: &BranchKey) -> Result<Bases, BasesFault>
+    pub fn bases_of(&self, alloc: Global, branch: &BranchKey) -> Result<Bases, ChangeFault>
         ensures bases { IfOk result (AreBases self.now.bases branch.now) }
         ensures gap { IfErr result (IsUnlisted self.now.bases branch.now) }
     {
@@ -102,13 +69,13 @@ impl Branches {
             place: 0,
         };
         if self.bases.get(&key).is_some() {
-            return Err(BasesFault::Gap);
+            return Err(ChangeFault::Gap);
         }
         let mut bases = Bases::new(alloc);
         for before in 0..self.last_place(branch) {
             key.place = before + 1;
             let Some(commit) = self.bases.get(&key) else {
-                return Err(BasesFault::Gap);
+                return Err(ChangeFault::Gap);
             };
             bases.push(commit.copy(alloc)?)?;
         }
@@ -207,16 +174,11 @@ impl Branches {
             Some(commit) => commit.copy(alloc)?,
             None => return Ok(None),
         };
-        let PlaceKey {
-            project,
-            branch,
-            place,
-        } = key;
         Ok(Some(CommitKey {
             commit,
-            project,
-            branch,
-            place,
+            project: key.project,
+            branch: key.branch,
+            place: key.place,
         }))
     }
 }
@@ -277,9 +239,9 @@ fn changes_of(
 ) -> Result<BaseChanges, AllocError>
     ensures { IfOk result (PutsBase base.now is_listed branch last total) }
 {
-    let ended = ended_change(alloc, branch, last)?;
+    let ended = put_number(alloc, branch, last)?;
     let listed = listed_of(alloc, base)?;
-    let counted = counted_change(alloc, &base.key.project, total)?;
+    let counted = put_number(alloc, base.key.project.copy(alloc)?, total)?;
     Ok(BaseChanges {
         listed,
         is_listed,
@@ -301,35 +263,18 @@ fn placed_base(
     })
 }
 
-// The change of a branch's last place.
-fn ended_change(
+// The change that puts a number under a key.
+fn put_number<K: Drop>(
     alloc: Global,
-    branch: BranchKey,
-    last: u64,
-) -> Result<Vec<RowEdit<BranchKey, u64>>, AllocError>
-    ensures { IfOk result (λ changes. changes.items ≡ record { key = branch; row = Some last } ∷ []) }
+    key: K,
+    number: u64,
+) -> Result<Vec<RowEdit<K, u64>>, AllocError>
+    ensures { IfOk result (λ changes. changes.items ≡ record { key = key; row = Some number } ∷ []) }
 {
-    Ok(vec![in alloc;
-        RowEdit {
-            key: branch,
-            row: Some(last),
-        },
-    ]?)
-}
-
-// The change of the number of a project's bases.
-fn counted_change(
-    alloc: Global,
-    project: &ProjectName,
-    total: u64,
-) -> Result<Vec<RowEdit<ProjectName, u64>>, AllocError>
-    ensures { IfOk result (λ changes. changes.items ≡ record { key = project.now; row = Some total } ∷ []) }
-{
-    let key = project.copy(alloc)?;
     Ok(vec![in alloc;
         RowEdit {
             key,
-            row: Some(total),
+            row: Some(number),
         },
     ]?)
 }

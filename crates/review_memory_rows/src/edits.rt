@@ -121,7 +121,8 @@ fn change_one<K: Key, V: Drop>(
     }
 }
 
-fn copied_changes<K: Key, V: Copied>(
+/// Edits once more. An error where there was no memory for them.
+pub fn copied_changes<K: Key, V: Copied>(
     alloc: Global,
     changes: &[RowEdit<K, V>],
 ) -> Result<Vec<RowEdit<K, V>>, AllocError>

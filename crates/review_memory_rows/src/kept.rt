@@ -199,14 +199,9 @@ impl KeptChanges {
         ensures done { (n : ℕ) → row_in nat_cmp (rows_of self.new.kept) n ≡ changed nat_cmp prepared.tables.items n (row_in nat_cmp (rows_of self.old.kept) n) }
         ensures full { IsFullBut prepared self.old → IsFull self.new }
     {
-        let Prepared {
-            tables,
-            keys,
-            places,
-        } = prepared;
-        self.kept.apply(tables);
-        self.sent.apply(keys);
-        self.placed.apply(places);
+        self.kept.apply(prepared.tables);
+        self.sent.apply(prepared.keys);
+        self.placed.apply(prepared.places);
     }
 
     /// Drops the places that hold no row, of those that edits name.

@@ -20,7 +20,8 @@ pub mod lower;
 pub mod places;
 
 pub use answer_keys::{AnswerKey, StoredAnswer};
-pub use bases::{BasesFault, Branches};
+pub use bases::Branches;
+pub use edits::copied_changes;
 pub use kept::{KeptChanges, Prepared};
 pub use keys::CommitKey;
 pub use lower::{key_of, lower_keys, remove_keys};

@@ -1,5 +1,6 @@
 -- The components of a text, the first one taken off.
 use Rattle.std.proofs.Common.{◌≡◌, ℕ, suc, ◌+◌, ◌<◌, ◌==◌, ◌&&◌, Bool, true, false, not, List, [], ◌∷◌, length, take, drop, refl, sym, ap, ap₂, ◌∙◌, arith, cond}
+use Rattle.std.proofs.Math.Bool.{and-true}
 use Rattle.std.specs.List.{list_all, position_or_len, before_first, after_first}
 use Rattle.review_names.specs.Forms.{components, with_front}
 
@@ -52,9 +53,5 @@ refused f s front rest all e h differs = sym (all_split f s front rest false h d
 pub left : (f : List ℕ → Bool) (s front rest : List ℕ) (all : Bool) → list_all f (components s) ≡ all → Splits s front rest → f front ≡ true → list_all f (components rest) ≡ all
 left f s front rest all e h same = sym (all_split f s front rest true h same) ∙ e
 
-and_true : (b : Bool) → b && true ≡ b
-and_true true = refl
-and_true false = refl
-
 pub last : (f : List ℕ → Bool) (s : List ℕ) (all : Bool) → list_all f (components s) ≡ all → first s ≡ length s → f s ≡ all
-last f s all e h = sym (ap (list_all f) (components_whole s h) ∙ and_true (f s)) ∙ e
+last f s all e h = sym (ap (list_all f) (components_whole s h) ∙ and-true (f s)) ∙ e

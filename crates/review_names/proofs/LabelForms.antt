@@ -1,7 +1,8 @@
 -- The form of a label's name.
-use Rattle.std.proofs.Common.{◌≡◌, ℕ, List, [], ◌∷◌, length, Bool, true, false, not, ◌&&◌, ◌||◌, ◌==◌, refl, ap, ◌∙◌, subst, eqb-true}
-use Rattle.std.specs.{Char.is_ascii_alphabetic, Char.is_ascii_alphanumeric, Int.is_in_range, List.list_all}
-use Rattle.{std.specs.Prelude.nat_le, review_names.specs.Forms.goes_on, review_names.specs.Forms.is_label}
+use Rattle.std.proofs.Common.{◌≡◌, ℕ, List, [], ◌∷◌, length, Bool, true, false, not, ◌&&◌, ◌||◌, ◌==◌, refl, sym, ap, ◌∙◌, subst, eqb-true}
+use Rattle.std.{proofs.Math.Bool.and_assoc, specs.Char.is_ascii_alphabetic, specs.Char.is_ascii_alphanumeric}
+use Rattle.std.specs.{Int.is_in_range, List.list_all, Prelude.nat_le}
+use Rattle.review_names.specs.Forms.{goes_on, is_label}
 use Rattle.review_names.specs.Laws.{is_label_character, begins_with_letter, has_letters_after_hyphens}
 
 -- a letter is a letter or a digit, and no hyphen
@@ -16,10 +17,6 @@ no_hyphen : (c : ℕ) (b : Bool) → (c == 45) ≡ b → is_ascii_alphabetic c �
 no_hyphen c false e letter = e
 no_hyphen c true e letter = let wrong : false ≡ true = subst (λ d. is_ascii_alphabetic d ≡ true) (eqb-true c 45 e) letter in absurd (cc)
 
-grouped : (x a h : Bool) → (x && (a && h)) ≡ ((x && a) && h)
-grouped true a h = refl
-grouped false a h = refl
-
 crossed : (x l a h : Bool) → (x && (l && (a && h))) ≡ ((x && a) && (l && h))
 crossed false l a h = refl
 crossed true true a h = refl
@@ -29,7 +26,7 @@ crossed true false false h = refl
 -- what follows a character, which is a hyphen or not
 behind : (x b : Bool) (cs : List ℕ) (l a h : Bool) → goes_on false cs ≡ (a && h) → goes_on true cs ≡ (l && (a && h)) → (x && goes_on b cs) ≡ ((x && a) && ((not b || l) && h))
 behind x true cs l a h free bound = ap (λ g. x && g) bound ∙ crossed x l a h
-behind x false cs l a h free bound = ap (λ g. x && g) free ∙ grouped x a h
+behind x false cs l a h free bound = ap (λ g. x && g) free ∙ sym (and_assoc x a h)
 
 first_letter : (c : ℕ) (b : Bool) → is_ascii_alphabetic c ≡ b → (l a h g : Bool) → g ≡ (a && h) → (b && g) ≡ (b && ((is_label_character c && a) && ((not (c == 45) || l) && h)))
 first_letter c false e l a h g is = refl

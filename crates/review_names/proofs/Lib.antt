@@ -2,5 +2,5 @@ pub mod Numerals
 mod Searches
 pub mod Accounts
 pub mod Components
-mod Bounds
 mod LabelForms
+mod Spans

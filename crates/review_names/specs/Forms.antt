@@ -1,8 +1,8 @@
 -- The forms of the names of labels, projects, branches, commits and paths, of subjects and messages, and of the numbers of changes, patch sets and comments.
 use Rattle.std.specs.{BTreeSet.insert_key, Char.is_ascii_alphabetic, Char.is_ascii_alphanumeric, Char.is_ascii_control}
 use Rattle.std.specs.{Cmp.Lexicographic.slice_cmp, Int.is_in_range, List.list_all, Ordering.nat_cmp}
-use Rattle.std.specs.Prelude.{ℕ, List, [], ◌∷◌, Bool, true, false, not, ◌&&◌, ◌||◌, ◌==◌, nat_le, if◌then◌else◌, length, codes}
-use Rattle.{std.specs.Str.bytes_eq, review_names.specs.Names.is_plain}
+use Rattle.std.specs.Prelude.{ℕ, List, [], ◌∷◌, Bool, true, false, not, ◌&&◌, ◌||◌, ◌==◌, ◌≡◌, refl, nat_le, if◌then◌else◌, length, codes}
+use Rattle.{std.specs.Str.bytes_eq, review_names.specs.Names.is_plain, review_names.specs.Names.is_account_number}
 
 -- letters, digits and hyphens to the end, each hyphen before a letter; the flag: a letter has to come first
 abbrev pub goes_on : Bool → List ℕ → Bool
@@ -70,6 +70,11 @@ is_message s = nat_le (length s) 8192 && list_all (λ c. not (c == 0)) s
 -- a number from 1 to the greatest one
 unfoldable pub is_within : ℕ → ℕ → Bool
 is_within most n = nat_le 1 n && nat_le n most
+
+-- The numbers of accounts are those from 1 to 1,000,000.
+pub accounts_span : (n : ℕ) → is_account_number n ≡ is_within 1000000 n
+unfolding is_account_number is_within
+accounts_span n = refl
 
 -- the set of the texts in a list: in the order of their bytes, each once
 abbrev pub text_set : List (List ℕ) → List (List ℕ)

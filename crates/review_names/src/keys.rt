@@ -1,31 +1,16 @@
-//! Names and numbers as keys of tables.
+//! Numbers as keys of tables.
 ghost use Rattle.std.specs.Prelude.{◌≡◌, IfOk};
 
 use crate::Key;
-use crate::changes::{ChangeNo, CommentNo, PatchNo};
-use crate::names::AccountNo;
+use crate::numbers::{Number, NumberKind};
 use std::alloc::{AllocError, Global};
+use std::marker::PhantomData;
 
-impl Key for AccountNo {
-    fn copy(&self, _alloc: Global) -> Result<AccountNo, AllocError> {
-        Ok(*self)
-    }
-}
-
-impl Key for ChangeNo {
-    fn copy(&self, _alloc: Global) -> Result<ChangeNo, AllocError> {
-        Ok(*self)
-    }
-}
-
-impl Key for PatchNo {
-    fn copy(&self, _alloc: Global) -> Result<PatchNo, AllocError> {
-        Ok(*self)
-    }
-}
-
-impl Key for CommentNo {
-    fn copy(&self, _alloc: Global) -> Result<CommentNo, AllocError> {
-        Ok(*self)
+impl<K: NumberKind> Key for Number<K> {
+    fn copy(&self, _alloc: Global) -> Result<Number<K>, AllocError> {
+        Ok(Number {
+            number: self.number,
+            kind: PhantomData,
+        })
     }
 }

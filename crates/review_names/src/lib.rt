@@ -33,5 +33,5 @@ pub use names::{
     AccountName, AccountNo, BadName, GroupName, Members, RequestId, admin_name, administrators,
     read_account,
 };
-pub use numbers::read_number;
+pub use numbers::{Number, NumberKind, read_number};
 pub use places::{BranchName, CommitName, LabelName, Path, Place, ProjectName, patch_set_level};

@@ -1,13 +1,14 @@
 //! Names and numbers of fixed forms. Contracts see a name's bytes, and a number itself.
 ghost use Rattle.std.specs.Cmp.Lexicographic.{pointwise, slice_cmp, nat_list_eq_equiv, nat_list_cmp_total, texts_ties, texts_po};
 ghost use Rattle.std.specs.{List.list_all, List.list_any, List.Sorted.IsStrictlySortedBy, Ordering.nat_cmp};
-ghost use Rattle.std.specs.Prelude.{◌≡◌, ◌+◌, ◌≤◌, ◌<◌, ◌==◌, ℕ, List, Bool, Option, Some, None, Err, true, false, IfOk, IfErr, IfSome, length, IsTrue, if◌then◌else◌, refl};
+ghost use Rattle.std.specs.Prelude.{◌≡◌, ◌≤◌, ◌<◌, ◌==◌, ℕ, List, Bool, Option, Some, None, Err, true, false, IfOk, IfSome, length, IsTrue, refl};
+ghost use Rattle.review_names.specs.Forms.{accounts_span};
 ghost use Rattle.review_names.specs.Names.{administrators, admin_name, is_word, is_plain, is_account_number, set_of, most_members};
-ghost use Rattle.review_names.specs.Numerals.{numeral, account_of};
+ghost use Rattle.review_names.specs.Numerals.{account_of};
 ghost use Rattle.std.specs.Cmp as Cmp;
 
 use crate::forms::{Form, Name};
-use crate::numbers::read_number;
+use crate::numbers::{Number, NumberKind, read_number};
 use std::alloc::{AllocError, AllocFailed, Global};
 use std::cmp::Ordering;
 use std::collections::BTreeSet;
@@ -44,89 +45,8 @@ impl<T: Drop> From<AllocFailed<T>> for BadName {
     }
 }
 
-/// The number of an account, from 1 to 1,000,000. Contracts see the number.
-#[derive(Clone, Copy, Debug, PartialEq, Eq, PartialOrd, Ord)]
-pub struct AccountNo {
-    number: u32,
-}
-
-impl Model for AccountNo {
-    ghost use Rattle.{std.specs.Prelude.ℕ, std.specs.Prelude.IsTrue, review_names.specs.Names.is_account_number};
-
-    ghost Value = { ℕ };
-
-    ghost view = { λ a. a.number };
-
-    ghost invariant = { λ a. IsTrue (is_account_number a.number) };
-
-    ghost inverse = { λ n. record { number = n } };
-}
-
-impl AccountNo {
-    /// The account of a number, or none where the number is 0 or above 1,000,000.
-    #[tactic(auto, unfolding(crate::specs::Names::is_account_number))]
-    pub fn from_number(number: u64) -> Option<AccountNo>
-        ensures { result ≡ (if is_account_number number then Some number else None) }
-    {
-        if number >= 1 && number <= 1_000_000 {
-            Some(AccountNo {
-                number: number as u32,
-            })
-        } else {
-            None
-        }
-    }
-
-    /// The account whose number a text is, in decimal without leading zeros, from 1 to 1,000,000.
-    /// Any other text is answered by Form. This takes no memory, so Memory is never answered.
-    pub fn read(text: &str) -> Result<AccountNo, BadName>
-        ensures ok { IfOk result (λ n. (numeral n ≡ text.now) × (is_account_number n ≡ true)) }
-        ensures form { IfErr result (λ e. (e ≡ BadName.Form) × ((n : ℕ) → is_account_number n ≡ true → numeral n ≡ text.now → ⊥)) }
-    {
-        read_account(text.as_bytes()).ok_or(BadName::Form)
-    }
-
-    /// The account after one of a number, or none where that is the last.
-    #[tactic(auto, unfolding(crate::specs::Names::is_account_number))]
-    pub fn after(last: u32) -> Option<AccountNo>
-        ensures some { IfSome result (λ n. (n ≡ last + 1) × (last < 1000000)) }
-        ensures none { result ≡ None → 1000000 ≤ last }
-    {
-        if last >= 1_000_000 {
-            return None;
-        }
-        Some(AccountNo { number: last + 1 })
-    }
-
-    /// The first account, whose number is 1.
-    #[tactic(auto, unfolding(crate::specs::Names::is_account_number))]
-    pub fn first() -> AccountNo
-        ensures { result ≡ 1 }
-    {
-        AccountNo { number: 1 }
-    }
-
-    /// The last account that there can be, whose number is 1,000,000.
-    #[tactic(auto, unfolding(crate::specs::Names::is_account_number))]
-    pub fn last() -> AccountNo
-        ensures { result ≡ 1000000 }
-    {
-        AccountNo { number: 1_000_000 }
-    }
-
-    /// The number, from 1 to 1,000,000.
-    #[tactic(auto, unfolding(crate::specs::Names::is_account_number))]
-    pub fn get(self) -> u32
-        ensures value { result ≡ self }
-        ensures least { 1 ≤ self }
-        ensures most { self ≤ 1000000 }
-    {
-        self.number
-    }
-}
-
-/// The form of an account's name: 1 to 64 of `A-Z a-z 0-9 . _ -`.
-#[derive(Drop)]
+/// The form of an account's name, 1 to 64 of `A-Z a-z 0-9 . _ -`, and the kind of its number.
+#[derive(Clone, Copy)]
 pub struct OfAccount;
 
 /// The form of a group's name, which is that of an account's.
@@ -136,6 +56,9 @@ pub struct OfGroup;
 /// The form of a request's id, which is that of an account's name.
 #[derive(Drop)]
 pub struct OfRequest;
+
+/// The number of an account, from 1 to 1,000,000. Contracts see the number.
+pub type AccountNo = Number<OfAccount>;
 
 /// The name of an account.
 pub type AccountName = Name<OfAccount>;
@@ -173,6 +96,18 @@ impl Form for OfAccount {
     fn is_met(text: &str) -> bool {
         is_word(text)
     }
+}
+
+impl NumberKind for OfAccount {
+    ghost MOST = { 1000000 };
+
+    const MOST: u32 = 1_000_000;
+
+    ghost is_met = { is_account_number };
+
+    ghost spans = { accounts_span };
+
+    ghost fits = { refl };
 }
 
 impl Form for OfGroup {

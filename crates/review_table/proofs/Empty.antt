@@ -1,11 +1,13 @@
 -- Which places have no row.
 use Rattle.std.proofs.Common.{◌≡◌, ℕ, ◌+◌, ◌<◌, suc, List, [], ◌∷◌, ◌++◌, Option, Some, None, IfSome, Bool, true, false, cond, ◌||◌, refl, ap, sym, ◌∙◌, length, take, drop, get_or}
-use Rattle.std.proofs.lemmas.Cmp.{tied_itself}
+use Rattle.std.proofs.Math.Bool.{or_assoc, or-false}
+use Rattle.std.proofs.lemmas.{Bool.or_left, Bool.or_parts, Cmp.tied_itself}
 use Rattle.std.proofs.lemmas.List.{take-append-drop, take_more, Elements.All-head, Elements.All-tail}
 use Rattle.std.proofs.lemmas.Map.{lookup-none, Entries.none_past_head, Keys.IsDistinct-tail}
 use Rattle.std.specs.{BTreeMap.is_at, Cmp.IsTotalOrder, Cmp.eq_by_cmp_equiv, List.All, List.IsDistinct, Map.keys_of}
-use Rattle.std.specs.{Option.IsSome, Option.is_some, Ordering.eq_by_cmp, Prelude.option_map}
-use Rattle.{std.specs.declared.cmp.Ordering.Ordering, review_table.proofs.Places.changed_pushed}
+use Rattle.std.specs.Option.{IsSome, is_some}
+use Rattle.std.specs.{Ordering.eq_by_cmp, Prelude.option_map, declared.cmp.Ordering.Ordering}
+use Rattle.review_table.proofs.{Places.changed_pushed, Plain.some_or}
 use Rattle.review_table.specs.Rows.{flat, rows_of, changed, row_edit_of, after_row_edit, is_named, place_at, HasNoEmptyPlace}
 use Rattle.review_table.specs.declared.table.RowEdit.{RowEdit}
 
@@ -23,34 +25,14 @@ reserved false row was now is full empty = absurd (full (sym is ∙ empty))
 
 -- ---- keys that edits name
 
-some_or : {X : Type 0} (b : Bool) (x : X) (o : Option X) → is_some (cond b (Some x) o) ≡ b || is_some o
-some_or true x o = refl
-some_or false x o = refl
-
-or_assoc : (a b c : Bool) → a || (b || c) ≡ (a || b) || c
-or_assoc true b c = refl
-or_assoc false b c = refl
-
-or_false : (a : Bool) → a || false ≡ a
-or_false true = refl
-or_false false = refl
-
-or_left : (a b : Bool) → a || b ≡ false → a ≡ false
-or_left true b h = h
-or_left false b h = refl
-
-or_true : (a b : Bool) → a ≡ true → a || b ≡ true
-or_true true b h = refl
-or_true false b h = absurd (let none : false ≡ true = h in cc)
-
 pub named_append : {K X : Type 0} (cmp : K → K → Ordering) (cs ds : List (RowEdit K X)) (q : K) → is_named cmp (cs ++ ds) q ≡ is_named cmp cs q || is_named cmp ds q
 named_append cmp [] ds q = refl
 named_append cmp (c ∷ cs) ds q =
     some_or (is_at (cmp c.key) q) c.row (row_edit_of cmp (cs ++ ds) q) ∙ (ap (λ b. is_at (cmp c.key) q || b) (named_append cmp cs ds q)
-    ∙ (or_assoc (is_at (cmp c.key) q) (is_named cmp cs q) (is_named cmp ds q) ∙ ap (λ b. b || is_named cmp ds q) (sym (some_or (is_at (cmp c.key) q) c.row (row_edit_of cmp cs q)))))
+    ∙ (sym (or_assoc (is_at (cmp c.key) q) (is_named cmp cs q) (is_named cmp ds q)) ∙ ap (λ b. b || is_named cmp ds q) (sym (some_or (is_at (cmp c.key) q) c.row (row_edit_of cmp cs q)))))
 
 named_one : {K X : Type 0} (cmp : K → K → Ordering) (c : RowEdit K X) (q : K) → is_named cmp (c ∷ []) q ≡ is_at (cmp c.key) q
-named_one cmp c q = some_or (is_at (cmp c.key) q) c.row None ∙ or_false (is_at (cmp c.key) q)
+named_one cmp c q = some_or (is_at (cmp c.key) q) c.row None ∙ or-false (is_at (cmp c.key) q)
 
 pub named_more : {K X : Type 0} (cmp : K → K → Ordering) (cs : List (RowEdit K X)) (i : ℕ) (d c : RowEdit K X) (q : K) → i < length cs → get_or cs i d ≡ c →
     is_named cmp (take (i + 1) cs) q ≡ is_named cmp (take i cs) q || is_at (cmp c.key) q
@@ -62,10 +44,10 @@ named_front : {K X : Type 0} (cmp : K → K → Ordering) (cs : List (RowEdit K 
 named_front cmp cs i q = ap (λ xs. is_named cmp xs q) (sym (take-append-drop i cs)) ∙ named_append cmp (take i cs) (drop i cs) q
 
 pub unnamed_front : {K X : Type 0} (cmp : K → K → Ordering) (cs : List (RowEdit K X)) (i : ℕ) (q : K) → is_named cmp cs q ≡ false → is_named cmp (take i cs) q ≡ false
-unnamed_front cmp cs i q none = or_left (is_named cmp (take i cs) q) (is_named cmp (drop i cs) q) (sym (named_front cmp cs i q) ∙ none)
+unnamed_front cmp cs i q none = (or_parts (is_named cmp (take i cs) q) (is_named cmp (drop i cs) q) (sym (named_front cmp cs i q) ∙ none)).0
 
 pub named_whole : {K X : Type 0} (cmp : K → K → Ordering) (cs : List (RowEdit K X)) (i : ℕ) (q : K) → is_named cmp (take i cs) q ≡ true → is_named cmp cs q ≡ true
-named_whole cmp cs i q some = named_front cmp cs i q ∙ or_true (is_named cmp (take i cs) q) (is_named cmp (drop i cs) q) some
+named_whole cmp cs i q some = named_front cmp cs i q ∙ or_left (is_named cmp (take i cs) q) (is_named cmp (drop i cs) q) some
 
 -- ---- one edit more was reserved, or released
 

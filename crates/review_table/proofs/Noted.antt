@@ -1,6 +1,7 @@
 -- Edits that are noted beside a table.
 use Rattle.std.proofs.Common.{◌≡◌, List, [], ◌∷◌, ◌++◌, Option, Some, None, Bool, true, false, cond, map, refl, sym, ap, ◌∙◌, ⊎_elim, ◌||◌}
-use Rattle.std.proofs.lemmas.{Bool.cases_Bool, Cmp.tied_back}
+use Rattle.std.proofs.Math.Bool.{or_assoc}
+use Rattle.std.proofs.lemmas.{Bool.or_left, Bool.or_right, Bool.cases_Bool, Cmp.tied_back}
 use Rattle.std.specs.{BTreeMap.is_at, Cmp.IsTotalOrder, Cmp.Equal-is, List.AllByRecursion, List.list_any}
 use Rattle.std.specs.{List.Sorted.IsStrictlySortedBy, Map.lookup, Map.keys_of, Option.IsSome, Option.is_some}
 use Rattle.std.specs.{Ordering.is_eq, declared.cmp.Ordering.Ordering, declared.cmp.Ordering.TheVariants.Less}
@@ -49,21 +50,9 @@ pub found : {K X : Type 0} (test : K → Bool) (t : List (K × X)) → IsSome (l
 found test [] some = absurd (let none : false ≡ true = some in cc)
 found test (e ∷ t) some = found_here (test e.0) (list_any test (keys_of t)) e.1 (lookup test t) (found test t) some
 
-or_assoc : (a b c : Bool) → (a || (b || c)) ≡ ((a || b) || c)
-or_assoc true b c = refl
-or_assoc false b c = refl
-
 any_both : {K : Type 0} (test : K → Bool) (xs ys : List K) → list_any test (xs ++ ys) ≡ (list_any test xs || list_any test ys)
 any_both test [] ys = refl
-any_both test (x ∷ xs) ys = ap (λ b. test x || b) (any_both test xs ys) ∙ or_assoc (test x) (list_any test xs) (list_any test ys)
-
-or_right : (a b : Bool) → b ≡ true → (a || b) ≡ true
-or_right true b h = refl
-or_right false b h = h
-
-or_left : (a b : Bool) → a ≡ true → (a || b) ≡ true
-or_left true b h = refl
-or_left false b h = absurd (let none : false ≡ true = h in cc)
+any_both test (x ∷ xs) ys = ap (λ b. test x || b) (any_both test xs ys) ∙ sym (or_assoc (test x) (list_any test xs) (list_any test ys))
 
 -- a key that has a row after an edit has one in the table or is edited
 pub among : {K X : Type 0} (R : K → K → Ordering) (q : K) (rows : List (K × X)) (edits : List (K × Option X)) → IsSome (after_row_edit (place_at R edits q) (row_in R rows q)) → list_any (is_at (R q)) (keys_of rows ++ keys_of edits) ≡ true

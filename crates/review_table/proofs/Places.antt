@@ -186,8 +186,7 @@ filter_here false x xs ys here same = absurd (cc)
 
 filter_all : {X : Type 0} (p : X → Bool) (xs : List X) → All (λ x. p x ≡ true) xs → filter p xs ≡ xs
 filter_all p [] all = refl
-filter_all p (x ∷ xs) all =
-    filter_here (p x) x xs (filter p xs) (All-head (λ y. p y ≡ true) x xs all) (filter_all p xs (All-tail (λ y. p y ≡ true) x xs all))
+filter_all p (x ∷ xs) all = filter_here (p x) x xs (filter p xs) (All-head (λ y. p y ≡ true) x xs all) (filter_all p xs (All-tail (λ y. p y ≡ true) x xs all))
 
 pub all_placed : {K X : Type 0} (cmp : K → K → Ordering) (t : List (K × Option X)) (cs : List (RowEdit K X)) → HavePlaces cmp t cs → placed cmp t cs ≡ cs
 all_placed cmp t cs places = filter_all (λ c. has_place cmp t c.key) cs places

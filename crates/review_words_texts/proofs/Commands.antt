@@ -10,7 +10,7 @@ use Rattle.review_words.specs.declared.changes.{Given.Given, NewChange.NewChange
 use Rattle.review_words.specs.declared.changes.{NewPatch.NewPatch, Review.Review, Role.Role}
 use Rattle.review_words.specs.declared.command.{ChangeCommand.ChangeCommand, Command.Command}
 use Rattle.review_words.specs.declared.command.Command.TheVariants.{CreateAccount, PutGroup, PutProject, RecordBase, CloseEpoch, CreateChange, OnChange, Submit}
-use Rattle.review_words_texts.specs.Cutting.{at}
+use Rattle.review_words_texts.specs.Reading.{at}
 use Rattle.review_names.specs.declared.kinds.ChangeKind.TheVariants as kind
 use Rattle.review_words.specs.declared.changes.Role.TheVariants as role
 use Rattle.review_words.specs.declared.command.ChangeCommand.TheVariants as asked

@@ -2,12 +2,13 @@
 use Rattle.std.proofs.Common.{◌≡◌, ℕ, suc, ◌+◌, ◌*◌, ◌-◌, ◌<◌, List, [], ◌∷◌, ◌++◌, append_assoc, append-nil, length, map, take, drop, refl, sym, ap, ◌∙◌, arith, cond, Option, Some, None, true, false, length-append, slice_index, take_at, nat_le, nat_lt, ◌&&◌, ◌==◌, flat_map}
 use Rattle.std.proofs.lemmas.Bool.Decides.{nat_tests}
 use Rattle.std.proofs.lemmas.Int.Digits.{all_below_base_digits_of, number_digits_of, number_after_ge}
+use Rattle.std.proofs.lemmas.List.{nil_from_length}
 use Rattle.std.specs.Int.Digits.{digits_of, number_from_digits, number_from_digits_after}
 use Rattle.std.specs.List.{AllByRecursion}
 use Rattle.review_names.specs.Numerals.{shown_digits, numeral}
 use Rattle.review_words.specs.Texts.{field, text_of}
 use Rattle.review_words_texts.proofs.Cutting.{field_shape, field_not_empty}
-use Rattle.review_words_texts.specs.{Cutting.AreShort, inner.Words.taken, inner.Words.split_after}
+use Rattle.review_words_texts.specs.{Reading.AreShort, inner.Words.taken, inner.Words.split_after}
 
 shown_split : (ds : List ℕ) → AllByRecursion (λ d. d < 10) ds → (m : ℕ) (t : List ℕ) → number_from_digits_after 10 m ds < 1000000000
     → split_after m (map (λ x. 48 + x) ds ++ 58 ∷ t) ≡ taken (number_from_digits_after 10 m ds) t
@@ -91,14 +92,10 @@ none_refused fs done rest some e l =
     let next = next_of l.fields rest l.short l.text some in
     no_split (next.0, text_of next.1) (sym next.4 ∙ e)
 
-empty_of : (cs : List ℕ) → length cs ≡ 0 → cs ≡ []
-empty_of [] e = refl
-empty_of (c ∷ cs) e = absurd (omega (arith, e))
-
 nothing_left : (fields : List (List ℕ)) → text_of fields ≡ [] → fields ≡ []
 unfolding text_of
 nothing_left [] e = refl
 nothing_left (f ∷ gs) e = absurd (field_not_empty f (flat_map field gs) e)
 
 pub all_cut : (fs done : List (List ℕ)) (rest : List ℕ) → length rest ≡ 0 → Left fs done rest → done ≡ fs
-all_cut fs done rest e l = sym (append-nil done) ∙ (ap (λ x. done ++ x) (sym (nothing_left l.fields (l.text ∙ empty_of rest e))) ∙ l.all)
+all_cut fs done rest e l = sym (append-nil done) ∙ (ap (λ x. done ++ x) (sym (nothing_left l.fields (l.text ∙ nil_from_length rest e))) ∙ l.all)

@@ -12,8 +12,7 @@ use Rattle.review_words.specs.declared.reply.Answer.TheVariants.{Account, Nothin
 use Rattle.review_words.specs.declared.reply.Refusal.{Refusal}
 use Rattle.review_words.specs.declared.reply.Refusal.TheVariants.{UnknownCaller, NotAdmin, NoProject, NoBranch, NoChange, NoPatchSet, NoAccount, NoComment, NotAllowed, Closed, SameState, WorkInProgress, StalePatchSet, NoLabel, ValueOut, VoteRestricted, CommitKnown, UnknownParent, ChainOutdated, ChainAbandoned, ChainWip, ChainTooLong, RequirementUnsatisfied, NotEligible, NameTaken, BadFile, LabelNarrowed, Limit, NoParent, ParentFixed, ParentDepth, EpochAhead}
 use Rattle.review_words.specs.declared.reply.Reply.{Reply, TheVariants.Done, TheVariants.Refused}
-use Rattle.review_words_texts.specs.Cutting.{AreShort}
-use Rattle.review_words_texts.specs.Reading.{expr_fault_of, file_fault_of, label_of, list_of, new_change_of, new_patch_of, number_within, numbers_in, plain_answer_of, refusal_of, reply_of, unsatisfied_of}
+use Rattle.review_words_texts.specs.Reading.{AreShort, expr_fault_of, file_fault_of, label_of, list_of, new_change_of, new_patch_of, number_within, numbers_in, plain_answer_of, refusal_of, reply_of, unsatisfied_of}
 use Rattle.review_words_texts.specs.{declared.reading.BadReply.BadReply, inner.Words.Gives}
 use Rattle.review_words.specs.declared.faults.ExprCode.TheVariants as code
 use Rattle.review_words.specs.declared.faults.FileFault.TheVariants as file

@@ -1,4 +1,3 @@
 pub mod Shown
-pub mod Cutting
 pub mod Reading
 pub mod inner

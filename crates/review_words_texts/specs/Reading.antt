@@ -1,5 +1,6 @@
--- Numbers and replies read from their fields.
-use Rattle.std.specs.Prelude.{[], ℕ, List, Option, Some, option_map, ◌==◌, if◌then◌else◌, None, ◌∷◌, length, nat_le, codes, drop}
+-- A text cut into its fields, and numbers and replies read from these.
+use Rattle.std.specs.List.{AllByRecursion}
+use Rattle.std.specs.Prelude.{[], ℕ, List, length, ◌<◌, slice_index_or, Option, Some, option_map, ◌==◌, if◌then◌else◌, None, ◌∷◌, nat_le, codes, drop}
 use Rattle.std.specs.Str.{bytes_eq}
 use Rattle.review_names.specs.Forms.{is_within, is_label, most_changes, most_patches, most_comments}
 use Rattle.review_names.specs.Numerals.{◌>>=◌, number_of, account_of}
@@ -9,8 +10,15 @@ use Rattle.review_words.specs.declared.{faults.ExprFault.ExprFault, faults.FileF
 use Rattle.review_words.specs.declared.reply.Answer.TheVariants.{Change, Patch, Account, Nothing, Reviewed, Submitted}
 use Rattle.review_words.specs.declared.reply.Refusal.{Refusal, TheVariants.RequirementUnsatisfied, TheVariants.BadFile}
 use Rattle.review_words.specs.declared.reply.Reply.{Reply, TheVariants.Done, TheVariants.Refused}
-use Rattle.review_words_texts.specs.Cutting.{at}
 use Rattle.review_words.specs.declared.faults.FileFault.TheVariants as file
+
+-- fields that are read: each is below 10^9 bytes
+abbrev pub AreShort : List (List ℕ) → Type 0
+AreShort fields = AllByRecursion (λ f. length f < 1000000000) fields
+
+-- the field at a place, or the empty one where there are not so many
+abbrev pub at : List (List ℕ) → ℕ → List ℕ
+at fields i = slice_index_or fields i []
 
 -- the fault of an expression that fields tell: its code, then its place
 unfoldable pub expr_fault_of : List (List ℕ) → Option ExprFault

@@ -2,7 +2,7 @@
 ghost use Rattle.std.specs.Prelude.{◌≡◌, ◌<◌, ◌++◌, ℕ, List, map, length, option_map, IfOk, OnOk, Some, IfSome, string_bytes};
 ghost use Rattle.review_names.specs.Numerals.{numeral};
 ghost use Rattle.review_words.specs.Texts.{field, signed, text_of};
-ghost use Rattle.review_words_texts.specs.{Cutting.at, Cutting.AreShort, Shown.shown};
+ghost use Rattle.review_words_texts.specs.{Reading.at, Reading.AreShort, Shown.shown};
 ghost use Rattle.review_words_texts.specs.inner.Words.{split_after, taken};
 
 use std::alloc::{AllocError, Global};

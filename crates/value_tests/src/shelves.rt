@@ -5,51 +5,40 @@ use crate::fault::Fault;
 use review_machine_rows::{Delta, Found, Kept, Need, Recalled, Shelf, ShelfFault, Want};
 use review_memory::{FaultyShelf, MemoryShelf, ShuttingShelf};
 use review_table::{Key, RowEdit};
-use review_words::{AccountName, AccountNo, Epoch, Name, RequestId};
+use review_words::{AccountName, AccountNo, Epoch, RequestId};
 use std::alloc::Global;
 use std::test::Fail;
 
-fn account_name(alloc: Global, text: &str) -> Result<AccountName, Fault> {
-    Ok(Name::read(alloc, text)?)
-}
-
-fn request_id(alloc: Global, text: &str) -> Result<RequestId, Fault> {
-    Ok(Name::read(alloc, text)?)
-}
-
-/// Account 2 gets a name.
-fn second_account(alloc: Global, name: &str) -> Result<Delta, Fault> {
-    let name = account_name(alloc, name)?;
-    let change = RowEdit {
-        key: AccountNo::from_number(2).unwrap_or(AccountNo::last()),
-        row: Some(name),
-    };
-    let accounts = vec![in alloc; change]?;
-    Ok(Delta {
+/// What changes accounts alone, and perhaps the least open epoch.
+fn delta(
+    alloc: Global,
+    accounts: Vec<RowEdit<AccountNo, AccountName>>,
+    least_epoch: Option<Epoch>,
+) -> Delta {
+    Delta {
         accounts,
         members: Vec::new(alloc),
         file: None,
         base: None,
         changes: Vec::new(alloc),
-        least_epoch: None,
-    })
+        least_epoch,
+    }
 }
 
-/// Epoch 1 becomes the least open one.
-fn closing(alloc: Global) -> Delta {
-    Delta {
-        accounts: Vec::new(alloc),
-        members: Vec::new(alloc),
-        file: None,
-        base: None,
-        changes: Vec::new(alloc),
-        least_epoch: Epoch::from_number(1),
-    }
+/// Account 2 gets a name.
+fn second_account(alloc: Global, name: &str) -> Result<Delta, Fault> {
+    let name = AccountName::read(alloc, name)?;
+    let change = RowEdit {
+        key: AccountNo::from_number(2).unwrap_or(AccountNo::last()),
+        row: Some(name),
+    };
+    let accounts = vec![in alloc; change]?;
+    Ok(delta(alloc, accounts, None))
 }
 
 /// A request of account 1, of an epoch.
 fn request(alloc: Global, epoch: Epoch, id: &str) -> Result<Kept, Fault> {
-    let id = request_id(alloc, id)?;
+    let id = RequestId::read(alloc, id)?;
     Ok(Kept {
         caller: AccountNo::first(),
         epoch,
@@ -114,7 +103,7 @@ pub fn account_of<S: Shelf>(
     shelf: &mut S,
     name: &str,
 ) -> Result<&'static str, Fault> {
-    let want = Want::AccountNamed(account_name(alloc, name)?);
+    let want = Want::AccountNamed(AccountName::read(alloc, name)?);
     let need = need_of(alloc, &want)?;
     Ok(loaded_word(alloc, shelf, &need, &want))
 }
@@ -126,7 +115,7 @@ fn recall_in<S: Shelf>(
     epoch: Epoch,
     id: &str,
 ) -> Result<&'static str, Fault> {
-    let id = request_id(alloc, id)?;
+    let id = RequestId::read(alloc, id)?;
     match shelf.recall(alloc, AccountNo::first(), epoch, &id) {
         Ok(Recalled::Kept(_)) => Ok("recalled"),
         Ok(Recalled::Fresh) => Ok("unknown"),
@@ -256,10 +245,11 @@ fn next_epoch() -> Epoch {
     Epoch::from_number(1).unwrap_or(Epoch::first())
 }
 
-/// Closes epoch 0 in a request of epoch 1.
+/// Closes epoch 0 in a request of epoch 1, which becomes the least open one.
 fn close<S: Shelf>(alloc: Global, shelf: &mut S) -> Result<&'static str, Fault> {
     let kept = request(alloc, next_epoch(), "close")?;
-    Ok(commit_word(alloc, shelf, &closing(alloc), &kept))
+    let delta = delta(alloc, Vec::new(alloc), Epoch::from_number(1));
+    Ok(commit_word(alloc, shelf, &delta, &kept))
 }
 
 /// Stores ann in epoch 0 and closes this epoch; then what is known of both requests, and of a new one of epoch 1.

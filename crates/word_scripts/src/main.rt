@@ -42,76 +42,33 @@ use std::io::{BufRead, BufReader};
 use std::process::ExitCode;
 use texts::whole_text;
 
-/// What a file or a reply is told as.
-fn reply(alloc: Global, word: &str, text: &str) -> Result<String, Fault> {
-    match word {
-        "file" => names::file_text(alloc, text),
-        _ => replies::reply(alloc, word, text)?.ok_or(Fault::Form),
-    }
-}
-
-/// What a route, a file or a reply is told as.
-fn addressed(alloc: Global, word: &str, text: &str) -> Result<String, Fault> {
-    match bodies::addressed(alloc, word, text)? {
-        Some(answer) => Ok(answer),
-        None => reply(alloc, word, text),
-    }
-}
-
-/// What a line that asks, a route, a file or a reply is told as.
-fn told(alloc: Global, word: &str, text: &str) -> Result<String, Fault> {
-    match lines::line(alloc, word, text)? {
-        Some(answer) => Ok(answer),
-        None => addressed(alloc, word, text),
-    }
-}
-
-/// What the order of two names or a set is, if a word asks that.
-fn compared(alloc: Global, word: &str, text: &str) -> Result<Option<String>, Fault> {
-    match names::compared(alloc, word, text)? {
-        None => sets::set(alloc, word, text),
-        answer => Ok(answer),
-    }
-}
-
-/// What a number, an order or a set is, if a word asks that.
-fn numbered(alloc: Global, word: &str, text: &str) -> Result<Option<String>, Fault> {
-    match names::number(alloc, word, text)? {
-        None => compared(alloc, word, text),
-        answer => Ok(answer),
-    }
-}
-
-/// What a name, a number, an order or a set is, if a word asks that.
-fn named(alloc: Global, word: &str, text: &str) -> Result<Option<String>, Fault> {
-    match names::name(alloc, word, text)? {
-        None => numbered(alloc, word, text),
-        answer => Ok(answer),
-    }
-}
-
-/// What a count, or what has a name of its own, is, if a word asks that.
-fn known(alloc: Global, word: &str, text: &str) -> Result<Option<String>, Fault> {
-    match names::counted(alloc, word, text)? {
-        None => names::known(alloc, word),
-        answer => Ok(answer),
-    }
-}
-
-/// What a count or what has a name of its own is; for another word, what it is told as.
-fn known_or_told(alloc: Global, word: &str, text: &str) -> Result<String, Fault> {
-    match known(alloc, word, text)? {
-        Some(answer) => Ok(answer),
-        None => told(alloc, word, text),
-    }
-}
-
 /// What a word asks of a text.
 fn answer_to(alloc: Global, word: &str, text: &str) -> Result<String, Fault> {
-    match named(alloc, word, text)? {
-        Some(answer) => Ok(answer),
-        None => known_or_told(alloc, word, text),
+    if let Some(answer) = names::name(alloc, word, text)? {
+        return Ok(answer);
     }
+    if let Some(answer) = names::number(alloc, word, text)? {
+        return Ok(answer);
+    }
+    if let Some(answer) = names::compared(alloc, word, text)? {
+        return Ok(answer);
+    }
+    if let Some(answer) = sets::set(alloc, word, text)? {
+        return Ok(answer);
+    }
+    if let Some(answer) = names::counted(alloc, word, text)? {
+        return Ok(answer);
+    }
+    if let Some(answer) = names::known(alloc, word)? {
+        return Ok(answer);
+    }
+    if let Some(answer) = lines::line(alloc, word, text)? {
+        return Ok(answer);
+    }
+    if let Some(answer) = bodies::addressed(alloc, word, text)? {
+        return Ok(answer);
+    }
+    replies::reply(alloc, word, text)?.ok_or(Fault::Form)
 }
 
 /// What a line is answered.

@@ -26,9 +26,10 @@ fn kind_text(alloc: Global, text: &str) -> Result<String, Fault> {
     Ok(String::from_str(alloc, name)?)
 }
 
-/// What a text is as a name, if a word asks that.
+/// What a text is as a name or a file, if a word asks that.
 pub fn name(alloc: Global, word: &str, text: &str) -> Result<Option<String>, Fault> {
     let answer = match word {
+        "file" => file_text(alloc, text),
         "account-name" => name_text(alloc, AccountName::read(alloc, text)),
         "request-id" => name_text(alloc, RequestId::read(alloc, text)),
         "group" => name_text(alloc, GroupName::read(alloc, text)),
@@ -134,7 +135,7 @@ pub fn compared(alloc: Global, word: &str, text: &str) -> Result<Option<String>,
 }
 
 /// The text of a copy of a file.
-pub fn file_text(alloc: Global, text: &str) -> Result<String, Fault> {
+fn file_text(alloc: Global, text: &str) -> Result<String, Fault> {
     let file = FileText::from_str(alloc, text)?;
     on_a_line(alloc, file.copy(alloc)?.as_str())
 }

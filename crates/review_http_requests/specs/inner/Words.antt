@@ -1,14 +1,37 @@
 -- Words that only proofs and private clauses use.
-use Rattle.std.specs.Prelude.{◌≤◌, ℕ, List, length, drop, ◌≡◌, ◌⊎◌, Err, Result, Ok, ◌<◌, ◌+◌, Bool, false}
+use Rattle.std.specs.Prelude.{[], ◌<◌, ◌++◌, ℕ, List, length, ◌+◌, ◌≡◌, Bool, true, false, Result, Ok, Err, ◌≤◌, drop, ◌⊎◌}
 use Rattle.httparse.specs.Grammar.{RequestHead, ReadsRequest, print_request, NeverHasRequest, HasNoRequest, MayBecomeRequest}
-use Rattle.review_http_requests.specs.{Heads.envelope, Wire.most_fields, Wire.HasManyFields, Wire.Follows}
+use Rattle.review_http_requests.specs.Heads.{Occurs, absent, once, again, envelope}
+use Rattle.review_http_requests.specs.Wire.{IsNotWhole, CallsFor, most_fields, HasManyFields, Follows}
 use Rattle.review_http_requests.specs.declared.envelope.Envelope.{Envelope}
 use Rattle.review_http_requests.specs.declared.fault.Refused.{Refused, TheVariants.Http, TheVariants.Memory}
-use Rattle.review_http_requests.specs.declared.{fault.RequestFault.RequestFault, http_fault.HttpFault.HttpFault}
-use Rattle.review_http_requests.specs.declared.judge.Head.{Head, TheVariants.Asks, TheVariants.Partial}
+use Rattle.review_http_requests.specs.declared.{fault.RequestFault.RequestFault, fields.Field.Field}
+use Rattle.review_http_requests.specs.declared.fields.Field.TheVariants.{Absent, Once, Again}
+use Rattle.review_http_requests.specs.declared.{http_fault.HttpFault.HttpFault, judge.Head.Head}
+use Rattle.review_http_requests.specs.declared.judge.Head.TheVariants.{Asks, Partial}
 use Rattle.review_http_requests.specs.declared.judge.Look.{Look, TheVariants.Whole, TheVariants.Wants}
-use Rattle.review_http_requests.specs.declared.http_fault.HttpFault.TheVariants as faults
 use Rattle.review_http_requests.specs.declared.fault.RequestFault.TheVariants as request
+use Rattle.review_http_requests.specs.declared.http_fault.HttpFault.TheVariants as faults
+
+-- how a field that was found stands in its head
+abbrev pub seen : Field → Occurs
+seen Absent = absent
+seen (Once value) = once value.now
+seen Again = again
+
+-- with more bytes behind these no whole request is there, as long as there are fewer than n
+abbrev pub WaitsFor : ℕ → List ℕ → Type 0
+WaitsFor n bytes = (more : List ℕ) → length (bytes ++ more) < n → IsNotWhole (bytes ++ more)
+
+-- the delivery or the fault of the bytes, where they are enough for one, or how many are to come first
+abbrev pub Judges : List ℕ → Bool → Result Look RequestFault → Type 0
+Judges bytes ended (Ok (Whole d)) = CallsFor bytes ended (Ok d)
+Judges bytes ended (Ok (Wants n)) = (ended ≡ false) × IsNotWhole bytes × WaitsFor n bytes
+Judges bytes ended (Err request.Empty) = (ended ≡ true) × (bytes ≡ [])
+Judges bytes ended (Err (request.Http f)) = CallsFor bytes ended (Err f)
+Judges bytes ended (Err request.Read) = ⊥
+Judges bytes ended (Err request.Reads) = ⊥
+Judges bytes ended (Err request.Memory) = Unit {0}
 
 -- a head of few fields stands at the front
 abbrev pub Stands : List ℕ → RequestHead → Type 0

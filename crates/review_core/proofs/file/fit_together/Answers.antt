@@ -20,8 +20,7 @@ returns c =
     let called : c.in_ok-called.called ≡ list_all (call_test rows) (rows_of rows.attention) =
     c.in_ok-called.ensures ∙ (λ i. list_all (is_called_in_place owner (uploader i) (of_account rows.roles)) (rows_of rows.attention)) in
     let whole = c.are_all.ensures ∙ (λ i. counted i && (ordered i && (votes i && called i))) in
-    let fits : c.are_all.result ≡ true → IsSound (seen rows) =
-    λ is.
+    let fits : c.are_all.result ≡ true → IsSound (seen rows) = λ is.
     let p = and_parts (are_counted (length rows.patches.items) (length rows.comments.items)) (are_in_order (length rows.patches.items) 0 rows.comments.items && (list_all (place_test rows) (rows_of rows.votes) && list_all (call_test rows) (rows_of rows.attention)))
     (sym whole ∙ is) in
     let q = and_parts (are_in_order (length rows.patches.items) 0 rows.comments.items) (list_all (place_test rows) (rows_of rows.votes) && list_all (call_test rows) (rows_of rows.attention)) p.1 in

@@ -1,5 +1,5 @@
 use Rattle.{std.proofs.Common.◌≡◌, std.proofs.Common.map, std.proofs.Common.drop, httparse.specs.Spans.header_bytes}
-use Rattle.review_http_requests.specs.{Fields.occurs_from, Fields.absent, Seen.seen}
+use Rattle.review_http_requests.specs.{Heads.occurs_from, Heads.absent, inner.Words.seen}
 use Rattle.review_http_requests.proofs.fields.find_field.Given as goal
 
 abbrev pub invariant-loop-header : goal.invariant-loop-header

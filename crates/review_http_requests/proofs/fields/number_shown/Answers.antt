@@ -1,5 +1,5 @@
 use Rattle.std.proofs.Common.{◌≡◌, ◌+◌, ◌∙◌, ℕ, List, ◌∷◌, drop, get_or, drop-cons, add-one, sym, subst, arith}
-use Rattle.review_http_requests.{proofs.Given.told, proofs.Given.told_next, specs.Fields.digits_after}
+use Rattle.review_http_requests.{proofs.Given.told, proofs.Given.told_next, specs.Heads.digits_after}
 use Rattle.review_http_requests.proofs.fields.number_shown.Goals as goal
 
 pub loop-b-preserved : goal.loop-b-preserved

@@ -1,5 +1,5 @@
 use Rattle.std.proofs.Common.{◌≡◌, ◌≤◌, drop}
-use Rattle.review_http_requests.{proofs.Given.told, specs.Fields.digits_after, specs.Fields.most}
+use Rattle.review_http_requests.{proofs.Given.told, specs.Heads.digits_after, specs.Heads.most}
 use Rattle.review_http_requests.proofs.fields.number_shown.Given as goal
 
 abbrev pub invariant-loop-b : goal.invariant-loop-b

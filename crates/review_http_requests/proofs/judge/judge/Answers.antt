@@ -4,5 +4,4 @@ use Rattle.review_http_requests.proofs.judge.judge.Goals as goal
 
 pub returns-in-Err : goal.returns-in-Err
 returns-in-Err c =
-    let P : List ℕ → Type 0 = λ b. HeadIs b (Err c.in-Err.refused) in
-    rw c.faulted.ensures (judged_refused c.args.bytes.now c.args.ended c.in-Err.refused (subst P c.front_of.ensures c.in-Err.ensures))
+    rw c.faulted.ensures (judged_refused c.args.bytes.now c.args.ended c.in-Err.refused (subst (λ (b : List ℕ). HeadIs b (Err c.in-Err.refused)) c.front_of.ensures c.in-Err.ensures))

@@ -1,6 +1,6 @@
 use Rattle.std.proofs.Common.{◌≡◌, ◌+◌, ◌<◌, ◌≤◌, length, min, false}
-use Rattle.review_http_requests.specs.{Bytes.Gave, Counts.greatest, Judged.WaitsFor}
-use Rattle.review_http_requests.specs.Shown.{inner_of, reads_of, faults_of}
+use Rattle.review_http_requests.specs.{Bytes.Gave, Counts.greatest, Shown.inner_of, Shown.reads_of, Shown.faults_of}
+use Rattle.review_http_requests.specs.inner.Words.{WaitsFor}
 use Rattle.review_http_requests.proofs.request.read_request.Given as goal
 
 -- the bytes so far are those that the reader gave, in so many reads, and with fewer than are wanted no request is whole

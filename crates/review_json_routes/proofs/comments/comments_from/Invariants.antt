@@ -1,5 +1,5 @@
 use Rattle.std.{proofs.Common.◌≡◌, proofs.Common.◌++◌, specs.Prelude.option_map}
-use Rattle.{serde_json.specs.View.members_view, review_json_routes.specs.Comments.comments_from}
+use Rattle.{serde_json.specs.View.members_view, review_json_routes.specs.Reviews.comments_from}
 use Rattle.review_json_routes.proofs.comments.comments_from.Given as goal
 
 abbrev pub invariant-loop-key : goal.invariant-loop-key

@@ -1,5 +1,5 @@
 use Rattle.std.{proofs.Common.◌≡◌, proofs.Common.◌++◌, proofs.Common.drop, specs.Prelude.option_map}
-use Rattle.{serde_json.specs.View.items_view, review_json_routes.specs.Comments.comments_on}
+use Rattle.{serde_json.specs.View.items_view, review_json_routes.specs.Reviews.comments_on}
 use Rattle.review_json_routes.proofs.comments.comments_on.Given as goal
 
 abbrev pub invariant-loop-value : goal.invariant-loop-value

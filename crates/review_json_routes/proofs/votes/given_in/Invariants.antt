@@ -1,5 +1,5 @@
 use Rattle.std.proofs.Common.{◌≡◌, ◌++◌}
-use Rattle.{std.specs.Prelude.option_map, serde_json.specs.View.members_view, review_json_routes.specs.Votes.given_in}
+use Rattle.{std.specs.Prelude.option_map, serde_json.specs.View.members_view, review_json_routes.specs.Reviews.given_in}
 use Rattle.review_json_routes.proofs.votes.given_in.Given as goal
 
 abbrev pub invariant-loop-key : goal.invariant-loop-key

@@ -1,6 +1,5 @@
 use Rattle.std.proofs.Common.{◌++◌, ◌∙◌, ap, sym, subst, map}
-use Rattle.{std.specs.Map.Iter.deref_pair, review_table.specs.Rows.NamesOnce, review_table.specs.Rows.rows_of}
-use Rattle.review_machine_rows.specs.Rows.{member_cmp}
+use Rattle.review_machine_rows.proofs.Common.{NamesOnce, deref_pair, member_cmp, rows_of}
 use Rattle.review_machine_accounts.{proofs.Members.changes_once, specs.inner.Words.added, specs.inner.Words.dropped}
 use Rattle.review_machine_accounts.proofs.accounts.changes_from.Goals as goal
 

@@ -1,7 +1,5 @@
 use Rattle.std.proofs.Common.{◌≡◌, ◌+◌, true, false, refl, sym, ap, ◌∙◌, arith, le-ltb, lt-ltb, is_some, nat_lt}
-use Rattle.review_words.specs.History.{account_count, name_taken}
-use Rattle.review_words.specs.declared.command.Command.TheVariants.{CreateAccount}
-use Rattle.review_words.specs.declared.reply.Refusal.TheVariants.{NotAdmin, NameTaken, Limit}
+use Rattle.review_machine_rows.proofs.Common.{CreateAccount, Limit, NameTaken, NotAdmin, account_count, name_taken}
 use Rattle.review_machine_rows.specs.Known.{known, holder_of}
 use Rattle.review_machine_accounts.proofs.Decided.{admin_is, asked_beside, refused_pair, create_decided, create_refused}
 use Rattle.review_machine_accounts.proofs.Told.{holder_told, last_told}

@@ -1,7 +1,6 @@
 use Rattle.std.proofs.Common.{true, false, refl, sym, ap, ◌∙◌}
-use Rattle.{std.specs.List.list_all, std.specs.Str.bytes_eq, review_names.specs.Names.registered_users}
-use Rattle.review_words.specs.{History.is_account, declared.command.Command.TheVariants.PutGroup}
-use Rattle.review_words.specs.declared.reply.Refusal.TheVariants.{NotAdmin, NameTaken, NoAccount}
+use Rattle.std.specs.Str.{bytes_eq}
+use Rattle.review_machine_rows.proofs.Common.{NameTaken, NoAccount, NotAdmin, PutGroup, is_account, list_all, registered_users}
 use Rattle.review_machine_accounts.proofs.Decided.{admin_is, accounts_are, refused_pair, put_decided, put_refused}
 use Rattle.review_machine_accounts.proofs.accounts.put_group.Goals as goal
 

@@ -1,8 +1,5 @@
 use Rattle.std.proofs.Common.{◌≡◌, ◌+◌, ◌∙◌, length, Some, true, false, refl, sym, ap, arith, ltb-true, nat_lt}
-use Rattle.review_words.specs.History.{is_project, bases, base_count}
-use Rattle.review_words.specs.declared.command.Command.TheVariants.{RecordBase}
-use Rattle.review_words.specs.declared.reply.Refusal.TheVariants.{NotAdmin, NoProject, CommitKnown, Limit}
-use Rattle.review_machine_rows.specs.{Changes.is_known, Known.known, Known.number_of}
+use Rattle.review_machine_rows.proofs.Common.{CommitKnown, Limit, NoProject, NotAdmin, RecordBase, base_count, bases, is_known, is_project, known, number_of}
 use Rattle.review_machine_rows.specs.declared.rows.Counted.TheVariants.{BasesOf}
 use Rattle.review_machine_accounts.proofs.Decided.{admin_is, asked_beside, refused_pair, base_decided, base_refused}
 use Rattle.review_machine_accounts.proofs.Told.{known_told, project_told, room_told, place_told, branch_within}

@@ -1,8 +1,6 @@
 use Rattle.std.proofs.Common.{◌≡◌, true, false, refl, sym, ◌∙◌, arith}
-use Rattle.std.{proofs.lemmas.Bool.Decides.nat_tests, specs.Prelude.nat_le, specs.Prelude.nat_lt}
-use Rattle.review_words.specs.{History.least_open, declared.command.Command.TheVariants.CloseEpoch}
-use Rattle.review_words.specs.declared.reply.Refusal.TheVariants.{NotAdmin, EpochAhead, SameState}
-use Rattle.review_words.specs.declared.reply.Reply.TheVariants.{Refused}
+use Rattle.std.specs.Prelude.{nat_le, nat_lt}
+use Rattle.review_machine_rows.proofs.Common.{CloseEpoch, EpochAhead, NotAdmin, Refused, SameState, least_open, nat_tests}
 use Rattle.review_machine_accounts.proofs.Decided.{close_answer, close_refused, close_decided, admin_is, asked_beside}
 use Rattle.review_machine_accounts.proofs.Told.{least_told}
 use Rattle.review_machine_accounts.proofs.epochs.close_epoch.Goals as goal

@@ -1,8 +1,5 @@
 use Rattle.std.proofs.Common.{◌≡◌, ◌≤◌, ◌+◌, ◌∙◌, ◌++◌, ap, length, length-append, arith, refl, subst, sym, nat_cmp, nat_le, true, ℕ}
-use Rattle.std.proofs.lemmas.Bool.Decides.{nat_tests}
-use Rattle.review_names.specs.Forms.{most_comments, most_patches}
-use Rattle.review_table.specs.Rows.{NamesOnce}
-use Rattle.review_core_rules.{proofs.Stays.within_parts, specs.Seen.vote_cmp}
+use Rattle.review_machine_rows.proofs.Common.{NamesOnce, most_comments, most_patches, nat_tests, vote_cmp, within_parts}
 use Rattle.review_machine_change_rows.proofs.Edited.{added, noted, turned, numbers_once}
 use Rattle.review_machine_change_rows.specs.Edits.{puts_after}
 use Rattle.review_machine_change_rows.proofs.edits.edit_of.Goals as goal

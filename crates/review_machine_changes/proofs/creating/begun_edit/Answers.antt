@@ -1,7 +1,5 @@
 use Rattle.std.proofs.Common.{◌≡◌, ◌∙◌, IfOk, None, ap, arith, length, subst}
-use Rattle.review_table.specs.Rows.{after_row_edit}
-use Rattle.review_core_rules.specs.{Change.Change, Change.begun, Parts.Part, Parts.part_row}
-use Rattle.review_machine_rows.specs.Rows.{part_change}
+use Rattle.review_machine_rows.proofs.Common.{Change, Part, after_row_edit, begun, part_change, part_row}
 use Rattle.review_machine_changes.proofs.creating.begun_edit.Goals as goal
 
 pub returns-clause-becomes : goal.returns-clause-becomes

@@ -1,7 +1,6 @@
 use Rattle.std.proofs.Common.{◌≡◌, ◌+◌, ◌∙◌, ap, sym, subst, length, true, arith, option_copied}
 use Rattle.review_names.specs.Forms.{is_within, most_changes}
-use Rattle.{review_words.specs.declared.command.Command.TheVariants.CreateChange, review_core_rules.specs.Change.begun}
-use Rattle.review_machine_rows.{proofs.Asked.requests_are, specs.View.view}
+use Rattle.review_machine_rows.proofs.{Asked.requests_are, Common.CreateChange, Common.begun, Common.view}
 use Rattle.review_machine_accounts.proofs.Decided.{asked_beside, refused_pair}
 use Rattle.review_machine_changes.proofs.Made.{change_within, first_within, stored_numbers}
 use Rattle.review_machine_changes.proofs.Told.{create_decided, number_left, refused_told, last_change_told}

@@ -1,6 +1,4 @@
-use Rattle.std.proofs.lemmas.Result.{IfOk-weaker}
-use Rattle.review_core_rules.specs.{EditedChanges.after_edits, Seen.seen}
-use Rattle.review_machine_rows.specs.Decisions.{NamesEachOnce, NamesRowsOnce}
+use Rattle.review_machine_rows.proofs.Common.{IfOk-weaker, NamesEachOnce, NamesRowsOnce, after_edits, seen}
 use Rattle.review_machine_changes.specs.Facts.{EditsChange, MakesChange}
 use Rattle.review_machine_changes.proofs.edits.turned.Goals as goal
 

@@ -1,7 +1,5 @@
 use Rattle.std.proofs.Common.{◌≡◌, ◌∙◌, ap, subst, sym, true, option_copied, option_map}
-use Rattle.review_words.specs.declared.{command.Command.TheVariants.OnChange, reply.Refusal.TheVariants.NoChange}
-use Rattle.review_core_rules.specs.{Change.Change, Seen.seen, Sound.fits}
-use Rattle.review_machine_rows.specs.Answer.{first_refusal}
+use Rattle.review_machine_rows.proofs.Common.{Change, NoChange, OnChange, first_refusal, fits, seen}
 use Rattle.review_machine_accounts.proofs.Decided.{asked_beside, refused_pair}
 use Rattle.review_machine_changes.proofs.Made.{request_is}
 use Rattle.review_machine_changes.proofs.Requested.{lacking_undecided, plain_decided, plain_fits, plain_told}

@@ -1,8 +1,6 @@
 use Rattle.std.proofs.Common.{◌≡◌, ◌∙◌, ap, subst, sym, true, option_copied, option_map}
 use Rattle.review_words.specs.declared.command.ChangeCommand.TheVariants.{Review as ReviewCommand}
-use Rattle.review_words.specs.declared.{command.Command.TheVariants.OnChange, reply.Refusal.TheVariants.NoChange}
-use Rattle.review_core_rules.specs.{Change.Change, Seen.seen, Sound.fits}
-use Rattle.review_machine_rows.specs.Answer.{first_refusal}
+use Rattle.review_machine_rows.proofs.Common.{Change, NoChange, OnChange, first_refusal, fits, seen}
 use Rattle.review_machine_accounts.proofs.Decided.{asked_beside, refused_pair}
 use Rattle.review_machine_changes.proofs.Made.{request_is, review_decided}
 use Rattle.review_machine_changes.proofs.Requested.{review_told, passed_fits}

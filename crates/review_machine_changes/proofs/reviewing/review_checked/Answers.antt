@@ -1,6 +1,5 @@
 use Rattle.std.proofs.Common.{◌≡◌, ◌⊎◌, inl, inr, subst, ⊎_elim, option_copied}
-use Rattle.review_words.specs.declared.reply.NotTaken.TheVariants.{Damaged, Memory}
-use Rattle.review_core_rules.specs.{Seen.seen, Sound.IsSound}
+use Rattle.review_machine_rows.proofs.Common.{Damaged, IsSound, Memory, seen}
 use Rattle.review_machine_changes.{proofs.Told.err_with, specs.Facts.IsChecked, specs.inner.Facts.LacksFile}
 use Rattle.review_machine_changes.proofs.reviewing.review_checked.Goals as goal
 

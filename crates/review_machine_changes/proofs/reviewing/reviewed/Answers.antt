@@ -1,8 +1,6 @@
 use Rattle.std.proofs.Common.{◌≡◌, ◌≤◌, ◌+◌, ◌∙◌, ap, sym, subst, length, min, arith, Bor}
-use Rattle.{std.specs.List.AllByRecursion, review_names.specs.Forms.most_comments}
-use Rattle.review_words.specs.{Texts.IsCommentNumber, declared.command.ChangeCommand.TheVariants.Review as ReviewOf}
-use Rattle.review_words.specs.declared.reply.{Answer.TheVariants.Reviewed, Reply.TheVariants.Done}
-use Rattle.review_core_rules.specs.{Change.after_plain, Change.said, Seen.seen, declared.rows.ChangeRows.ChangeRows}
+use Rattle.review_words.specs.declared.command.ChangeCommand.TheVariants.{Review as ReviewOf}
+use Rattle.review_machine_rows.proofs.Common.{AllByRecursion, ChangeRows, Done, IsCommentNumber, Reviewed, after_plain, most_comments, said, seen}
 use Rattle.review_machine_changes.proofs.Requested.{numbers_count, numbers_fit, room_for}
 use Rattle.review_machine_changes.specs.{Facts.MakesChange, Facts.next_request, inner.Facts.next_numbers}
 use Rattle.review_machine_changes.proofs.reviewing.reviewed.Goals as goal

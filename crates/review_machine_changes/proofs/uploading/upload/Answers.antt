@@ -1,10 +1,6 @@
 use Rattle.std.proofs.Common.{◌≡◌, ◌∙◌, ap, subst, sym, true, option_copied, option_map}
 use Rattle.review_words.specs.declared.command.ChangeCommand.TheVariants.{Upload as UploadCommand}
-use Rattle.review_words.specs.declared.command.Command.TheVariants.{OnChange}
-use Rattle.review_words.specs.declared.reply.{NotTaken.TheVariants.Damaged, Refusal.TheVariants.NoChange}
-use Rattle.review_core_rules.specs.{Change.Change, Seen.seen, Sound.fits}
-use Rattle.review_machine_rows.specs.{Answer.first_refusal, Decisions.IsUndecided, Rows.HasNoEffect, Steps.OfCommand}
-use Rattle.review_machine_rows.specs.View.{AreEnough}
+use Rattle.review_machine_rows.proofs.Common.{AreEnough, Change, Damaged, HasNoEffect, IsUndecided, NoChange, OfCommand, OnChange, first_refusal, fits, seen}
 use Rattle.review_machine_accounts.proofs.Decided.{asked_beside, empty_changes, refused_pair}
 use Rattle.review_machine_changes.proofs.Made.{request_is, upload_decided}
 use Rattle.review_machine_changes.proofs.Requested.{copied_told, upload_fits, upload_told}

@@ -1,7 +1,6 @@
 use Rattle.std.proofs.Common.{◌≡◌, ◌∙◌, ◌+◌, ℕ, Bor, ap, subst, length, min}
 use Rattle.review_words.specs.declared.command.ChangeCommand.TheVariants.{Upload as UploadOf}
-use Rattle.review_words.specs.declared.reply.{Answer.TheVariants.Patch, Reply.TheVariants.Done}
-use Rattle.review_core_rules.specs.{Change.Change, Change.after, Seen.seen, declared.rows.ChangeRows.ChangeRows}
+use Rattle.review_machine_rows.proofs.Common.{Change, ChangeRows, Done, Patch, after, seen}
 use Rattle.review_machine_changes.proofs.Made.{draft_sound, made_of}
 use Rattle.review_machine_changes.specs.Facts.{MakesChange, next_request, setting_in}
 use Rattle.review_machine_changes.proofs.uploading.uploaded.Goals as goal

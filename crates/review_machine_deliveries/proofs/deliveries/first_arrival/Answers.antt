@@ -1,8 +1,5 @@
 use Rattle.std.proofs.Common.{◌≡◌, ◌∙◌, ◌+◌, ◌<◌, subst, arith, length, inl, inr, ⊎_elim, string_bytes}
-use Rattle.review_words.specs.{History.Identity, History.entry_of, Texts.reply_text}
-use Rattle.review_words.specs.declared.{command.Delivery.TheVariants.Write, reply.Reply.TheVariants.NotTaken}
-use Rattle.review_machine_rows.specs.{Answer.most_requests, Changes.Reading, Changes.Reads, Rows.AnswerRow}
-use Rattle.review_machine_rows.specs.{Shelf.IsCommitted, Shelf.IsCounted, Shelf.Shows, Shelf.cause_of, View.answer_row}
+use Rattle.review_machine_rows.proofs.Common.{AnswerRow, Identity, IsCommitted, IsCounted, NotTaken, Reading, Reads, Shows, Write, answer_row, cause_of, entry_of, most_requests, reply_text}
 use Rattle.review_machine_deliveries.proofs.Deciding.{next_number, undecided_keeps, undecided_served}
 use Rattle.review_machine_deliveries.proofs.Filed.{left_before}
 use Rattle.review_machine_deliveries.proofs.Histories.{stores_once, stored_shown, decided_keeps, fault_keeps, fault_counts, stored_counts}
@@ -79,9 +76,8 @@ returns-in_err-decided-clause-unchanged g c = λ honest none.
 
 pub returns-in_err-decided-clause-counted : goal.returns-in_err-decided-clause-counted
 returns-in_err-decided-clause-counted g c =
-    let before = (g.S.Shelf.state c.args.shelf.now).faults in
     let after = (g.S.Shelf.state c.gather_and_decide.new.shelf).faults in
-    subst (λ r. CountsReply r before after) (err_reply c.from_residual.result c.in_err-decided.field-0.0 c.from_residual.ensures)
+    subst (λ r. CountsReply r ((g.S.Shelf.state c.args.shelf.now).faults) after) (err_reply c.from_residual.result c.in_err-decided.field-0.0 c.from_residual.ensures)
     c.in_err-decided.ensures.gathers.counted
 
 pub returns-in_err-store-clause-served : goal.returns-in_err-store-clause-served

@@ -43,8 +43,7 @@ returns-in_err-effective g c = record {
       (unread_keeps a.caller a.query.now c.in_err-effective.field-0.0 old new (x.cause honest (inl c.new-rows.ensures)) (x.gathers.tables honest));
   once = λ honest. tt;
   counted =
-      let before = (g.S.Shelf.state c.args.shelf.now).faults in
       let after = (g.S.Shelf.state c.gathered.new.shelf).faults in
-      subst (λ r. CountsReply r before after) (err_reply c.from_residual.result c.in_err-effective.field-0.0 c.from_residual.ensures)
+      subst (λ r. CountsReply r ((g.S.Shelf.state c.args.shelf.now).faults) after) (err_reply c.from_residual.result c.in_err-effective.field-0.0 c.from_residual.ensures)
       c.in_err-effective.ensures.gathers.counted;
 }

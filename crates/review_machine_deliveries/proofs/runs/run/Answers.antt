@@ -1,6 +1,5 @@
 use Rattle.std.proofs.Common.{◌≡◌, ◌+◌, List, [], ◌∷◌, ◌++◌, take, length, sym, ap, ◌∙◌, subst, rules, arith}
-use Rattle.std.proofs.lemmas.{Grind.common_steps, List.take_more}
-use Rattle.review_words.specs.declared.{command.Delivery.Delivery, reply.Reply.Reply}
+use Rattle.review_machine_rows.proofs.Common.{Delivery, Reply, common_steps, take_more}
 use Rattle.review_machine_deliveries.proofs.Ran.{ran_none, ran_one, ran-append}
 use Rattle.review_machine_deliveries.specs.Delivered.{WasRun}
 use Rattle.review_machine_deliveries.proofs.runs.run.Goals as goal

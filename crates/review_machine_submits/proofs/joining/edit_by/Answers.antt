@@ -1,8 +1,6 @@
 use Rattle.std.proofs.Common.{◌≡◌, IfOk, subst}
-use Rattle.review_table.specs.Rows.{after_row_edit}
-use Rattle.review_core_rules.specs.Change.{Change, joined_at}
-use Rattle.review_core_rules.specs.{Parts.Part, Parts.part_row, Seen.seen, declared.rows.ChangeRows.ChangeRows}
-use Rattle.{review_machine_rows.specs.Rows.part_change, review_machine_changes.proofs.Made.draft_sound}
+use Rattle.review_machine_rows.proofs.Common.{Change, ChangeRows, Part, after_row_edit, joined_at, part_change, part_row, seen}
+use Rattle.review_machine_changes.proofs.Made.{draft_sound}
 use Rattle.review_machine_submits.proofs.joining.edit_by.Goals as goal
 
 pub edit_of-requires : goal.edit_of-requires

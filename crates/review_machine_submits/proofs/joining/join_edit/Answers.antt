@@ -1,7 +1,5 @@
 use Rattle.std.proofs.Common.{◌≡◌, ◌∙◌, ap, subst, sym, option_copied, option_map}
-use Rattle.review_table.specs.Rows.{after_row_edit}
-use Rattle.review_core_rules.specs.{Change.Change, Change.joined_at, Parts.Part, Parts.part_row, Seen.seen}
-use Rattle.review_machine_rows.specs.Rows.{part_change}
+use Rattle.review_machine_rows.proofs.Common.{Change, Part, after_row_edit, joined_at, part_change, part_row, seen}
 use Rattle.review_machine_submits.proofs.joining.join_edit.Goals as goal
 
 pub returns-clause-edit : goal.returns-clause-edit

@@ -1,8 +1,7 @@
 use Rattle.std.proofs.Common.{◌≡◌, ◌⊎◌, IfOk, inl, inr, subst, ⊎_elim}
-use Rattle.std.{proofs.lemmas.Result.IfErr-weaker, specs.Option.option_copied}
-use Rattle.review_words.specs.declared.reply.NotTaken.TheVariants.{Damaged, Memory}
-use Rattle.review_core_rules.specs.{Seen.seen, Sound.IsSound}
-use Rattle.review_machine_submits.{proofs.Loaded.err_with, specs.inner.Told.IsToldBy, specs.inner.Told.LacksFile}
+use Rattle.review_machine_rows.proofs.Common.{Damaged, IfErr-weaker, IsSound, Memory, option_copied, seen}
+use Rattle.review_machine_changes.proofs.Told.{err_with}
+use Rattle.review_machine_submits.specs.inner.Told.{IsToldBy, LacksFile}
 use Rattle.review_machine_submits.proofs.questions.answer_about.Goals as goal
 
 pub returns-in_err-file-clause-cause : goal.returns-in_err-file-clause-cause

@@ -1,6 +1,5 @@
-use Rattle.std.proofs.{Common.List, Common.IfOk, Common.subst, Common.sym, lemmas.Result.IfOk-weaker}
-use Rattle.{std.specs.Option.option_copied, review_words.specs.History.Entry, review_machine_rows.specs.Changes.Reading}
-use Rattle.review_machine_rows.specs.{Decisions.RestsOn, Questions.IsQueryAnswerBy, Steps.OfQuery, View.AreEnough}
+use Rattle.std.proofs.Common.{List, IfOk, subst, sym}
+use Rattle.review_machine_rows.proofs.Common.{AreEnough, Entry, IfOk-weaker, IsQueryAnswerBy, OfQuery, Reading, RestsOn, option_copied}
 use Rattle.review_machine_submits.proofs.questions.show.Goals as goal
 
 pub returns-in-Branch-clause-shown : goal.returns-in-Branch-clause-shown

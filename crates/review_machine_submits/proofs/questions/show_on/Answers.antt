@@ -1,6 +1,7 @@
 use Rattle.std.proofs.Common.{◌∙◌, ap, sym, option_copied, option_map}
 use Rattle.{review_words.specs.declared.command.Query.TheVariants.OnChange, review_core_rules.specs.Seen.seen}
-use Rattle.review_machine_submits.proofs.Loaded.{answered, none_answered, change_told, err_with, untold}
+use Rattle.review_machine_changes.proofs.Told.{err_with}
+use Rattle.review_machine_submits.proofs.Loaded.{answered, none_answered, change_told, untold}
 use Rattle.review_machine_submits.proofs.questions.show_on.Goals as goal
 
 pub returns-then-not-known-clause-shown : goal.returns-then-not-known-clause-shown

@@ -4,7 +4,6 @@ use Rattle.review_machine_submits.proofs.showing.shown_change.Goals as goal
 
 pub returns : goal.returns
 returns c =
-    let patches = c.args.rows.now.patches.items in
     let patch = c.last_patch-last.result.now in
     let last = subst (λ ps. of_number ps (length ps) ≡ Some patch) c.deref-2.ensures.value c.last_patch-last.ensures in
     record {
@@ -16,9 +15,9 @@ returns c =
       state = refl;
       wip = refl;
       updated = refl;
-      patch = c.last_number-patch.ensures ∙ ap length c.deref.ensures.value;
+      patch = c.current_patch-patch.ensures ∙ ap length c.deref.ensures.value;
       commit = ap (option_map (λ p. p.commit)) last ∙ ap Some (sym c.in_ok-commit.ensures);
-      uploader = sym (last_sender c.args.rows.now.header.owner patches patch last);
+      uploader = sym (last_sender c.args.rows.now.header.owner c.args.rows.now.patches.items patch last);
       reviewers = c.in_ok-reviewers.ensures;
       ccs = c.in_ok-ccs.ensures;
       votes = c.in_ok-votes.ensures;

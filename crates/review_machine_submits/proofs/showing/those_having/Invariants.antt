@@ -1,6 +1,5 @@
 use Rattle.std.proofs.Common.{◌≡◌, ◌++◌, Some, drop, map}
-use Rattle.std.specs.{List.filter, Map.keys_of, Map.Iter.deref_pair}
-use Rattle.review_machine_rows.specs.Answer.{has_role}
+use Rattle.review_machine_rows.proofs.Common.{deref_pair, filter, has_role, keys_of}
 use Rattle.review_machine_submits.proofs.showing.those_having.Given as goal
 
 abbrev pub invariant-loop-account : goal.invariant-loop-account

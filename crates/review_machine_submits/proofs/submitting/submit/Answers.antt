@@ -1,12 +1,9 @@
 use Rattle.std.proofs.Common.{◌∙◌, ap, subst, sym, option_copied, option_map}
-use Rattle.std.proofs.lemmas.Result.{IfOk-weaker, IfErr-weaker}
-use Rattle.review_words.specs.declared.{command.Command.TheVariants.Submit, reply.NotTaken.TheVariants.Damaged}
-use Rattle.{review_words.specs.declared.reply.Refusal.TheVariants.NoChange, review_core_rules.specs.Seen.seen}
-use Rattle.review_machine_rows.specs.{Decisions.IsUndecided, Steps.OfCommand, View.AreEnough}
+use Rattle.review_machine_rows.proofs.Common.{AreEnough, Damaged, IfErr-weaker, IfOk-weaker, IsUndecided, NoChange, OfCommand, Submit, not-true, seen}
 use Rattle.review_machine_laws.proofs.Changes.{all_pass}
 use Rattle.review_machine_accounts.proofs.Decided.{asked_beside, refused_pair}
 use Rattle.review_machine_changes.proofs.Told.{change_told}
-use Rattle.review_machine_submits.proofs.Decided.{submit_decided, lacking_undecided, none_there, not_true, refused_told, unchained_undecided}
+use Rattle.review_machine_submits.proofs.Decided.{submit_decided, lacking_undecided, none_there, refused_told, unchained_undecided}
 use Rattle.review_machine_submits.specs.Submits.{submit_list}
 use Rattle.review_machine_submits.proofs.submitting.submit.Goals as goal
 
@@ -54,5 +51,5 @@ returns-clause-cause c =
     let there = sym c.change.ensures ∙ ap (λ o. option_map (λ r. seen r) (option_copied o)) c.in-Some.is in
     let pass = all_pass (submit_list c.in-Some-effective.file.now a.rows.now a.caller x) (sym c.in_ok-refusal.ensures ∙ c.in_default-refusal.is) in
     IfErr-weaker c.submit_chain.result _ _
-    (λ e is. unchained_undecided c.changes_are_sound.ensures c.branches_are_whole.ensures c.rows_are_parts.ensures.part c.wants_are_unknown.ensures a.caller a.change (option_copied a.effective) a.rows.now x there pass.1.0 (not_true x.wip pass.1.1.0) e is)
+    (λ e is. unchained_undecided c.changes_are_sound.ensures c.branches_are_whole.ensures c.rows_are_parts.ensures.part c.wants_are_unknown.ensures a.caller a.change (option_copied a.effective) a.rows.now x there pass.1.0 (not-true x.wip pass.1.1.0) e is)
     c.submit_chain.ensures.cause

@@ -1,5 +1,6 @@
 use Rattle.std.{proofs.Common.◌∙◌, proofs.Common.cond, proofs.Common.Some, specs.BTreeMap.is_at, specs.Ordering.nat_cmp}
-use Rattle.{review_table.specs.Rows.row_in, review_table.specs.Rows.rows_of, review_memory.proofs.Lower.none_empty}
+use Rattle.review_table.specs.Rows.{row_in, rows_of}
+use Rattle.review_memory_rows.proofs.Dropped.{none_empty}
 use Rattle.review_memory.proofs.tables.first_accounts.Goals as goal
 
 pub returns-clause-account : goal.returns-clause-account

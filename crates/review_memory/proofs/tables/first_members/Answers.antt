@@ -1,6 +1,6 @@
 use Rattle.std.{proofs.Common.◌∙◌, proofs.Common.cond, proofs.Common.Some, specs.BTreeMap.is_at}
 use Rattle.{review_table.specs.Rows.row_in, review_table.specs.Rows.rows_of, review_machine_rows.specs.Rows.member_cmp}
-use Rattle.{review_machine_rows.specs.declared.rows.MemberKey.MemberKey, review_memory.proofs.Lower.none_empty}
+use Rattle.{review_machine_rows.specs.declared.rows.MemberKey.MemberKey, review_memory_rows.proofs.Dropped.none_empty}
 use Rattle.review_memory.proofs.tables.first_members.Goals as goal
 
 pub returns-clause-member : goal.returns-clause-member

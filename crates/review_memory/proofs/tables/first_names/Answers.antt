@@ -1,6 +1,7 @@
 use Rattle.std.{proofs.Common.◌∙◌, proofs.Common.cond, proofs.Common.Some, specs.BTreeMap.is_at}
 use Rattle.review_table.specs.Rows.{row_in, rows_of}
-use Rattle.review_memory.{proofs.Lower.none_empty, specs.Desk.name_cmp, specs.declared.keys.NameKey.NameKey}
+use Rattle.review_memory_rows.proofs.Dropped.{none_empty}
+use Rattle.review_memory.specs.{Desk.name_cmp, declared.keys.NameKey.NameKey}
 use Rattle.review_memory.proofs.tables.first_names.Goals as goal
 
 pub returns-clause-name : goal.returns-clause-name

@@ -1,6 +1,5 @@
-use Rattle.std.{proofs.Common.sym, proofs.Common.subst, specs.Cmp.Lexicographic.slice_cmp, specs.Ordering.nat_cmp}
-use Rattle.review_table.specs.Rows.{HasEmptyOnly, is_named}
-use Rattle.review_machine_rows.specs.Rows.{branch_cmp}
+use Rattle.std.proofs.Common.{sym, subst}
+use Rattle.review_machine_rows.proofs.Common.{HasEmptyOnly, branch_cmp, is_named, nat_cmp, slice_cmp}
 use Rattle.review_memory_rows.proofs.bases.release.Goals as goal
 
 pub returns-clause-full : goal.returns-clause-full

@@ -1,6 +1,6 @@
 use Rattle.std.proofs.Common.{◌≡◌, ℕ, List, length, map}
 use Rattle.review_words.specs.Texts.{text_of}
-use Rattle.review_words_texts.{proofs.Splitting.Left, specs.Cutting.AreShort}
+use Rattle.review_words_texts.{proofs.Splitting.Left, specs.Reading.AreShort}
 use Rattle.review_words_texts.proofs.pieces.cut.Given as goal
 
 abbrev pub invariant-loop-rest : goal.invariant-loop-rest

@@ -1,7 +1,6 @@
 use Rattle.std.proofs.Common.{◌≡◌, ◌⊎◌, ◌∙◌, ap, Some, subst, sym, ⊎_elim}
-use Rattle.std.{proofs.lemmas.List.Elements.All-contains, specs.List.All, specs.List.Contains, specs.Ordering.nat_cmp}
-use Rattle.review_table.specs.Rows.{changed, row_in, rows_of}
-use Rattle.review_machine_rows.specs.{Rows.kept_row, Shelf.IsCommitted}
+use Rattle.std.{proofs.lemmas.List.Elements.All-contains, specs.List.All, specs.List.Contains}
+use Rattle.review_machine_rows.proofs.Common.{IsCommitted, changed, kept_row, nat_cmp, row_in, rows_of}
 use Rattle.review_memory.proofs.Applied.{applied_bounded, applied_indexed, applied_numbered, committed, made_held}
 use Rattle.review_memory.proofs.Lower.{on_err}
 use Rattle.review_memory.specs.Desk.{Desk, desk_of, tables_of, beside_epoch, name_cmp, AreInUse, AreIndexed, HasChanged, IsBounded, IsGiven, IsHeld, IsIndexed, IsNameOf, IsNumbered, IsUsed}
@@ -36,32 +35,28 @@ has_changed c = λ n.
 -- each name that was given and is left is that of its account
 used : (c : goal.After-drop-held-2) → All (IsUsed (rows_of c.drop_given.new.self.accounts) (rows_of c.drop_given.new.self.names)) c.in_ok-given.given.items
 used c =
-    let rows = rows_of c.release_removed.new.self.accounts in
     let only = subst (λ cs. All (IsNameOf cs) c.in_ok-given.given.items) c.deref-2.ensures.value c.in_ok-given.ensures.only in
     subst (All (IsUsed (rows_of c.drop_given.new.self.accounts) (rows_of c.drop_given.new.self.names))) c.deref-5.ensures.value
     (c.drop_given.ensures.dropped
     (subst (λ cs. All (IsNameOf cs) c.deref-5.result.now) (sym c.deref-4.ensures.value) (subst (All (IsNameOf c.args.delta.now.accounts.items)) (sym c.deref-5.ensures.value) only))
-    (subst (λ cs. HasChanged cs rows) (sym c.deref-4.ensures.value) (has_changed c)))
+    (subst (λ cs. HasChanged cs (rows_of c.release_removed.new.self.accounts)) (sym c.deref-4.ensures.value) (has_changed c)))
 
 -- each name that is left in the index is that of its account
 in_use : (c : goal.After-drop-held-2) → AreInUse (rows_of c.drop_names.new.self.accounts) (rows_of c.drop_names.new.self.names)
 in_use c = λ k there.
     let last = c.drop_names.new.self in
     let mid = c.drop_given.new.self in
-    let made = c.make.new.self in
-    let given = c.in_ok-given.given.items in
     let held = c.in_ok-held.held.items in
     let first = c.drop_names.ensures.no_more k there in
-    let listed = subst (λ names. row_in name_cmp (rows_of names) k ≡ Some tt) c.release_removed.ensures.names (c.drop_given.ensures.no_more k first) in
-    ⊎_elim
+    let listed = subst (λ names. row_in name_cmp (rows_of names) k ≡ Some tt) c.release_removed.ensures.names (c.drop_given.ensures.no_more k first) in ⊎_elim
     (λ old. ⊎_elim
     (λ still. ap (λ (d : Desk). row_in nat_cmp d.accounts k.account) (same_desk c) ∙ still)
     (λ had. All-contains (IsUsed (rows_of last.accounts) (rows_of last.names)) held k
     (subst (All (IsUsed (rows_of last.accounts) (rows_of last.names))) c.deref-6.ensures.value c.drop_names.ensures.dropped) had there)
-    (made_held c.args.delta.now c.in_ok-changes.changes held c.projects_with-projects.result c.args.self.now made c.in_ok-changes.ensures.copied
+    (made_held c.args.delta.now c.in_ok-changes.changes held c.projects_with-projects.result c.args.self.now c.make.new.self c.in_ok-changes.ensures.copied
     (subst (All (IsHeld (rows_of c.args.self.now.accounts) held)) c.deref.ensures.value c.in_ok-held.ensures) c.in_ok-make.ensures.done c.requires.sound.in_use k old))
     (λ got. ap (λ (d : Desk). row_in nat_cmp d.accounts k.account) c.drop_names.ensures.same
-    ∙ All-contains (IsUsed (rows_of mid.accounts) (rows_of mid.names)) given k (used c) got first)
+    ∙ All-contains (IsUsed (rows_of mid.accounts) (rows_of mid.names)) c.in_ok-given.given.items k (used c) got first)
     (subst (λ keys. (row_in name_cmp (rows_of c.args.self.now.names) k ≡ Some tt) ⊎ Contains keys k) c.deref-3.ensures.value (c.in_ok-make.ensures.only k listed))
 
 pub returns-clause-sound : goal.returns-clause-sound

@@ -1,7 +1,6 @@
 use Rattle.std.proofs.Common.{ap, sym, subst, ◌<◌, inr, option_map, IsSome, nat_cmp}
-use Rattle.std.specs.{Cmp.nat_cmp_is, declared.cmp.Ordering.TheVariants.Less}
-use Rattle.review_table.specs.Rows.{row_in, rows_of}
-use Rattle.{review_machine_rows.specs.Rows.AccountRow, review_memory.proofs.Applied.some_mapped}
+use Rattle.review_machine_rows.proofs.Common.{AccountRow, Less, nat_cmp_is, row_in, rows_of}
+use Rattle.review_memory.proofs.Applied.{some_mapped}
 use Rattle.review_memory.proofs.tables.MemoryTables.last_account.Goals as goal
 
 pub returns-in-Some : goal.returns-in-Some

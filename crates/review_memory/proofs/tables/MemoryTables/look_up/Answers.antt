@@ -1,7 +1,6 @@
 use Rattle.std.proofs.Common.{refl, subst, sym}
 use Rattle.review_machine_rows.specs.Known.{Holder, IsFound, IsLastJoined, Joins, Number}
-use Rattle.review_machine_change_rows.specs.Tables.{fault_of as change_fault}
-use Rattle.review_memory_rows.specs.Loads.{fault_of as bases_fault}
+use Rattle.review_machine_change_rows.specs.Tables.{fault_of}
 use Rattle.review_memory.proofs.Changed.{change_unread, joined_here, last_joined_here, sent_here}
 use Rattle.review_memory.proofs.First.{bases_unread, passed_on}
 use Rattle.review_memory.specs.Desk.{desk_of, row_of, tables_of}
@@ -12,14 +11,14 @@ returns-in_err-bases_of-in-Bases-clause-fault c =
     let desk = desk_of c.args.self.now in
     let fault = c.in_err-bases_of-in-Bases.field-0.0 in
     let passed = c.from_residual-in_err-bases_of-in-Bases in
-    passed_on (tables_of desk) bases_fault fault passed.result passed.ensures (bases_unread desk c.in-Bases.branch fault c.in_err-bases_of-in-Bases.ensures.gap)
+    passed_on (tables_of desk) fault_of fault passed.result passed.ensures (bases_unread desk c.in-Bases.branch fault c.in_err-bases_of-in-Bases.ensures.gap)
 
 pub returns-in_err-load-in-Change-clause-fault : goal.returns-in_err-load-in-Change-clause-fault
 returns-in_err-load-in-Change-clause-fault c =
     let desk = desk_of c.args.self.now in
     let fault = c.in_err-load-in-Change.field-0.0 in
     let passed = c.from_residual-in_err-load-in-Change in
-    passed_on (tables_of desk) change_fault fault passed.result passed.ensures (change_unread desk c.in-Change.number fault c.in_err-load-in-Change.ensures.fault)
+    passed_on (tables_of desk) fault_of fault passed.result passed.ensures (change_unread desk c.in-Change.number fault c.in_err-load-in-Change.ensures.fault)
 
 pub returns-in_ok-sender-in-ChangeOf-clause-found : goal.returns-in_ok-sender-in-ChangeOf-clause-found
 returns-in_ok-sender-in-ChangeOf-clause-found c =

@@ -1,7 +1,6 @@
 use Rattle.std.proofs.Common.{◌≡◌, ℕ, Some, map}
-use Rattle.std.specs.{Map.Iter.deref_pair, Option.option_or, Ordering.nat_cmp}
-use Rattle.review_table.specs.Rows.{row_in, rows_of}
-use Rattle.review_machine_rows.specs.{Rows.member_cmp, declared.rows.MemberKey.MemberKey}
+use Rattle.review_machine_rows.proofs.Common.{deref_pair, member_cmp, nat_cmp, option_or, row_in, rows_of}
+use Rattle.review_machine_rows.specs.declared.rows.MemberKey.{MemberKey}
 use Rattle.review_memory.proofs.tables.MemoryTables.members_of.Given as goal
 
 abbrev pub invariant-loop-key : goal.invariant-loop-key

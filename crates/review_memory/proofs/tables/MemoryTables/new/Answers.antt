@@ -1,10 +1,9 @@
 use Rattle.std.proofs.Common.{ℕ, List, Option, ◌≤◌, ap, sym, subst, arith}
 use Rattle.std.specs.{Cmp.Lexicographic.slice_cmp, Ordering.nat_cmp}
 use Rattle.{review_table.specs.Rows.rows_of, review_machine_change_rows.specs.declared.tables.ChangeTables.ChangeTables}
-use Rattle.review_memory_rows.specs.{Answers.answer_cmp, Bases.BranchesView, Bases.total_in}
-use Rattle.review_memory_rows.specs.Kept.{KeptView, place_cmp, sent_cmp}
+use Rattle.review_memory_rows.{proofs.Dropped.none_empty, specs.Answers.answer_cmp}
+use Rattle.review_memory_rows.specs.{Bases.BranchesView, Bases.total_in, Kept.KeptView, Kept.place_cmp, Kept.sent_cmp}
 use Rattle.review_memory.proofs.First.{first_in_use, first_indexed, first_numbered, first_view}
-use Rattle.review_memory.proofs.Lower.{none_empty}
 use Rattle.review_memory.proofs.tables.MemoryTables.new.Goals as goal
 
 abbrev kept_of : KeptView → List (ℕ × Option ChangeTables)

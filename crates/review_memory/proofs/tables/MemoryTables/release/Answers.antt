@@ -1,6 +1,5 @@
-use Rattle.std.{proofs.Common.sym, proofs.Common.subst, specs.Cmp.Lexicographic.slice_cmp, specs.Ordering.nat_cmp}
-use Rattle.review_table.specs.Rows.{HasEmptyOnly, is_named, rows_of}
-use Rattle.review_machine_rows.specs.Rows.{member_cmp}
+use Rattle.std.proofs.Common.{sym, subst}
+use Rattle.review_machine_rows.proofs.Common.{HasEmptyOnly, is_named, member_cmp, nat_cmp, rows_of, slice_cmp}
 use Rattle.review_memory.proofs.tables.MemoryTables.release.Goals as goal
 
 pub returns-clause-same : goal.returns-clause-same

@@ -1,6 +1,5 @@
-use Rattle.std.{proofs.Common.◌∙◌, proofs.Common.sym, proofs.Common.subst, specs.Cmp.Lexicographic.slice_cmp}
-use Rattle.{std.specs.Ordering.nat_cmp, review_table.specs.Rows.HasEmptyOnly, review_table.specs.Rows.rows_of}
-use Rattle.review_machine_rows.specs.Rows.{member_cmp}
+use Rattle.std.proofs.Common.{◌∙◌, sym, subst}
+use Rattle.review_machine_rows.proofs.Common.{HasEmptyOnly, member_cmp, nat_cmp, rows_of, slice_cmp}
 use Rattle.review_memory.{proofs.Lower.file_stays, specs.Desk.is_removed}
 use Rattle.review_memory.proofs.tables.MemoryTables.release_removed.Goals as goal
 

@@ -1,7 +1,6 @@
-use Rattle.std.{proofs.Common.subst, specs.Cmp.Lexicographic.slice_cmp, specs.Ordering.nat_cmp}
-use Rattle.review_table.specs.Rows.{HasEmptyOnly, HavePlaces, is_named}
-use Rattle.{review_machine_rows.specs.Rows.member_cmp, review_memory_rows.proofs.Based.none_spare}
-use Rattle.review_memory.proofs.Lower.{none_spare_of_edits}
+use Rattle.std.proofs.Common.{subst}
+use Rattle.review_machine_rows.proofs.Common.{HasEmptyOnly, HavePlaces, is_named, member_cmp, nat_cmp, slice_cmp}
+use Rattle.{review_memory_rows.proofs.Based.none_spare, review_memory.proofs.Lower.none_spare_of_edits}
 use Rattle.review_memory.proofs.tables.MemoryTables.reserve.Goals as goal
 
 pub returns-clause-room : goal.returns-clause-room

@@ -1,7 +1,6 @@
 use Rattle.std.proofs.Common.{◌≡◌, ◌∙◌, ◌&&◌, ap, cond, subst, true, Some}
-use Rattle.std.specs.BTreeMap.{is_at}
 use Rattle.review_table.specs.Rows.{has_place, row_in, rows_of, HasEmptyOnly}
-use Rattle.review_memory_rows.specs.Answers.{answer_cmp}
+use Rattle.{review_machine_rows.proofs.Common.is_at, review_memory_rows.specs.Answers.answer_cmp}
 use Rattle.review_memory.proofs.tables.MemoryTables.store_beside.Goals as goal
 
 pub returns-in-Ok-clause-stored : goal.returns-in-Ok-clause-stored

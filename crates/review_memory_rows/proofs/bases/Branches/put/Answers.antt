@@ -1,10 +1,6 @@
 use Rattle.std.proofs.Common.{◌≡◌, ◌≤◌, ◌+◌, ◌∙◌, ◌∷◌, [], List, ℕ, Some, None, cond, ap, ◌<◌, sym, subst, arith, All, is_some, option_map, IsSome, nat_cmp}
-use Rattle.std.specs.Cmp.Lexicographic.{slice_cmp}
-use Rattle.review_table.specs.{Rows.rows_of, Rows.row_in, Rows.changed, declared.table.RowEdit.RowEdit}
-use Rattle.review_machine_rows.specs.Rows.{branch_cmp, place_cmp}
-use Rattle.review_machine_rows.specs.declared.rows.{BranchKey.BranchKey, PlaceKey.PlaceKey, Put.Put}
+use Rattle.review_machine_rows.proofs.Common.{BranchKey, PlaceKey, Put, RowEdit, branch_cmp, changed, place_cmp, row_in, rows_of, slice_cmp, some_mapped}
 use Rattle.review_memory_rows.proofs.Based.{WithRow, IsGreater, with_row, last_more, last_unique, greater_of, still_last, total_more, total_is, one_has, listed_alike, listed_more, stood_before}
-use Rattle.review_memory_rows.proofs.Dropped.{some_mapped_is}
 use Rattle.review_memory_rows.specs.Bases.{BranchesView, IsPut, IsLastPlace, commit_cmp, commit_at, has_commit, last_in, total_in, greatest_place}
 use Rattle.review_memory_rows.specs.declared.keys.CommitKey.{CommitKey}
 use Rattle.review_memory_rows.proofs.bases.Branches.put.Goals as goal
@@ -82,15 +78,14 @@ returns-in-Ok-clause-put c =
     let total = c.total.result + c.from.result in
     let totals = rows_of c.self.inside.totals in
     let after = rows_of c.apply-in-Ok.new.self in
-    let counted : WithRow (slice_cmp nat_cmp) totals base.key.project total after =
-    with_row (slice_cmp nat_cmp) totals after base.key.project total
+    let counted : WithRow (slice_cmp nat_cmp) totals base.key.project total after = with_row (slice_cmp nat_cmp) totals after base.key.project total
     (λ q. c.apply-in-Ok.ensures.all c.in-Ok.ensures.counted q ∙ (λ i. changed (slice_cmp nat_cmp) (c.in_ok-changes.ensures.counted i) q (row_in (slice_cmp nat_cmp) (c.begin-begun.ensures.totals i) q))) in
     subst (λ (v : BranchesView). IsPut base v (record { bases = rows_of c.begin-begun.new.bases; totals = after })) c.self.view_is
     (record {
       bases = put_there c;
       totals = total_more base known total totals after
           (total_is known c.is_some-known.result c.total.result c.from.result (total_in totals base.key.project)
-          (c.is_some-known.ensures ∙ ap is_some c.in_ok-before.ensures ∙ some_mapped_is (commit_at base.key) (row_in place_cmp c.args.self.now.bases base.key)
+          (c.is_some-known.ensures ∙ ap is_some c.in_ok-before.ensures ∙ some_mapped (commit_at base.key) (row_in place_cmp c.args.self.now.bases base.key)
           ∙ ap (λ (v : BranchesView). is_some (row_in place_cmp v.bases base.key)) (sym c.self.view_is))
           c.from.ensures
           (c.total.ensures ∙ ap (λ (v : BranchesView). total_in v.totals base.key.project) (sym c.self.view_is)))

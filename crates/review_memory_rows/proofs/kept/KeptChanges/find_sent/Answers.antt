@@ -1,6 +1,5 @@
 use Rattle.std.proofs.Common.{◌≡◌, ◌∙◌, ap, cond, Option, Some, None, map, not, ◌&&◌, [], arith, subst, sym, true, is_le, is_lt, nat_cmp, MatchBool}
-use Rattle.std.{proofs.lemmas.Grind.common_steps, specs.Map.Iter.deref_pair}
-use Rattle.review_table.specs.Rows.{row_in, rows_of}
+use Rattle.review_machine_rows.proofs.Common.{common_steps, deref_pair, row_in, rows_of}
 use Rattle.review_memory_rows.proofs.{Dropped.still_left, Sent.sent_of, Sent.between, Sent.listed_is, Sent.exact_sent}
 use Rattle.review_memory_rows.specs.Kept.{is_sent, sent_cmp, IsSentAs, KeptView}
 use Rattle.review_memory_rows.specs.declared.kept.SentKey.{SentKey}

@@ -1,6 +1,5 @@
-use Rattle.std.proofs.Common.{◌≡◌, ℕ, Some, map}
-use Rattle.std.specs.{Map.Iter.deref_pair, Ordering.nat_cmp}
-use Rattle.review_table.specs.Rows.{row_in, rows_of}
+use Rattle.std.{proofs.Common.◌≡◌, proofs.Common.ℕ, proofs.Common.Some, proofs.Common.map, specs.Map.Iter.deref_pair}
+use Rattle.{review_table.specs.Rows.row_in, review_table.specs.Rows.rows_of, review_machine_rows.proofs.Common.nat_cmp}
 use Rattle.review_memory_rows.specs.Kept.{sent_cmp, IsSentAs}
 use Rattle.review_memory_rows.proofs.kept.KeptChanges.find_sent.Given as goal
 

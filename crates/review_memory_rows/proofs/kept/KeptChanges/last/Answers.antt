@@ -1,7 +1,6 @@
 use Rattle.std.proofs.Common.{ap, sym, subst, ◌<◌, inr, option_map, IsSome, nat_cmp}
-use Rattle.std.specs.{Cmp.nat_cmp_is, declared.cmp.Ordering.TheVariants.Less}
-use Rattle.{review_table.specs.Rows.row_in, review_table.specs.Rows.rows_of, review_core_rules.specs.Parts.TheHeader}
-use Rattle.review_machine_rows.specs.{Known.IsLast, Known.header_key, Rows.APart}
+use Rattle.review_machine_rows.proofs.Common.{APart, Less, TheHeader, nat_cmp_is, row_in, rows_of}
+use Rattle.review_machine_rows.specs.Known.{IsLast, header_key}
 use Rattle.review_memory_rows.proofs.Turned.{header_there}
 use Rattle.review_memory_rows.specs.Kept.{part_where, row_of, KeptView}
 use Rattle.review_memory_rows.proofs.kept.KeptChanges.last.Goals as goal

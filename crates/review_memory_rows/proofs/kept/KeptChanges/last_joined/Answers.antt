@@ -1,7 +1,5 @@
 use Rattle.std.proofs.Common.{◌∙◌, ap, subst, sym}
-use Rattle.std.specs.{BTreeMap.Range.range_contains, Ordering.nat_cmp, declared.ops.Bound.TheVariants.Included}
-use Rattle.review_table.specs.Rows.{row_in, rows_of}
-use Rattle.review_machine_rows.specs.Known.{IsLastJoined}
+use Rattle.review_machine_rows.proofs.Common.{Included, IsLastJoined, nat_cmp, range_contains, row_in, rows_of}
 use Rattle.review_memory_rows.proofs.Joined.{last_joined, none_joined}
 use Rattle.review_memory_rows.specs.Kept.{is_placed, place_cmp, row_of, KeptView}
 use Rattle.review_memory_rows.proofs.kept.KeptChanges.last_joined.Goals as goal

@@ -1,7 +1,5 @@
 use Rattle.std.proofs.Common.{◌≡◌, ◌∙◌, ap, cond, None, map, [], arith, subst, sym, refl, inl, inr}
-use Rattle.std.proofs.lemmas.Grind.{common_steps}
-use Rattle.std.specs.{BTreeMap.Range.range_contains, Map.Iter.deref_pair, declared.ops.Bound.TheVariants.Included}
-use Rattle.{review_table.specs.Rows.row_in, review_table.specs.Rows.rows_of, review_machine_rows.specs.Known.IsAtPlace}
+use Rattle.review_machine_rows.proofs.Common.{Included, IsAtPlace, common_steps, deref_pair, range_contains, row_in, rows_of}
 use Rattle.review_memory_rows.proofs.Joined.{key_at, last_done, last_more, place_between, place_listed}
 use Rattle.review_memory_rows.specs.Kept.{place_cmp, row_of, KeptView}
 use Rattle.review_memory_rows.proofs.kept.KeptChanges.last_of_all.Goals as goal

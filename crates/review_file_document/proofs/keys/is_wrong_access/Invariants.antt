@@ -1,6 +1,0 @@
-use Rattle.{std.proofs.Common.◌≡◌, std.specs.List.list_any, toml.specs.View.members_view, toml.specs.View.table_view}
-use Rattle.review_file_document.specs.{Document.members, Keys.is_wrong_in_access}
-use Rattle.review_file_document.proofs.keys.is_wrong_access.Given as goal
-
-abbrev pub invariant-loop-key : goal.invariant-loop-key
-invariant-loop-key l = list_any is_wrong_in_access (members (members_view l.key-iterator)) ≡ list_any is_wrong_in_access (members (table_view l.access))
