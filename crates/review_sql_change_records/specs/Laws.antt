@@ -27,7 +27,7 @@ use Rattle.review_core_rules.specs.Seen.{vote_cmp}
 use Rattle.review_core_rules.specs.declared.rows.{AttentionEntry.AttentionEntry, CommentRow.CommentRow, Header.Header}
 use Rattle.review_core_rules.specs.declared.rows.{PatchRow.PatchRow, VoteKey.VoteKey}
 use Rattle.review_sql_records.specs.Forms.{where_is, is_small, is_number}
-use Rattle.review_sql_records.specs.Laws.{keyed_number, reads_text, at_number, both_are, numbers_exact, one_number, passed}
+use Rattle.review_sql_records.specs.Laws.{never_put_in, keyed_number, reads_text, at_number, both_are, numbers_exact, one_number, passed}
 use Rattle.review_sql_change_records.specs.Forms.{patches, votes, roles, comments, attention_entries, named, flag_number, flagged, answered, answers_number, is_answer, header_form, headers, patch_form, change_patches, role_form, change_roles, attention_form, change_attention, comment_form, change_comments, vote_key, vote_form, change_votes, are_same, were_read, are_read_back, paths_in, paths_text}
 use Rattle.review_sql_tables.specs.Desk as table
 use Rattle.review_sql_tables.specs.declared.texts.TheConstants as texts
@@ -332,7 +332,7 @@ header_table = record {
   inserts = λ number h. insert_change (pos number) h.project h.branch h.subject (pos h.owner) (state_name h.state) (pos (flag_number h.wip)) (pos h.place) (pos h.updated);
   deletes = λ number. delete_change (pos number);
   keeps = header_lawful;
-  single = λ is. absurd (cc);
+  single = λ is. absurd (never_put_in is);
 }
 
 abbrev pub patch_table : Records (ℕ × ℕ) PatchRow

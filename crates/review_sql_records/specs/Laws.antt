@@ -133,6 +133,10 @@ desk_lawful = record { keyed = λ u d id. refl; reads_back = λ u d id good. ref
 
 -- ---- what the texts of the tables mean
 
+-- what is replaced isn't put in whatever is there
+pub never_put_in : Replaces ≡ PutsIn → ⊥
+never_put_in is = cc
+
 abbrev pub account_table : Records ℕ (List ℕ)
 account_table = record {
   writes = record { sets = PutsIn; insert = texts.INSERT_ACCOUNT.now; delete = texts.DELETE_ACCOUNT.now };
@@ -174,7 +178,7 @@ desk_table = record {
   inserts = λ _ d. insert_desk (pos d.version) (pos d.requests);
   deletes = λ _. delete_desk;
   keeps = desk_lawful;
-  single = λ is. absurd (cc);
+  single = λ is. absurd (never_put_in is);
 }
 
 abbrev pub epochs_table : Records (Unit {0}) ℕ
@@ -185,7 +189,7 @@ epochs_table = record {
   inserts = λ _ least. insert_epochs (pos least);
   deletes = λ _. delete_epochs;
   keeps = epochs_lawful;
-  single = λ is. absurd (cc);
+  single = λ is. absurd (never_put_in is);
 }
 
 abbrev pub member_table : Records MemberKey (Unit {0})
