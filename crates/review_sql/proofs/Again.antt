@@ -1,5 +1,7 @@
 -- A shelf over a connection that one which was closed has left.
-use Rattle.review_sql_tables.proofs.Common.{◌≡◌, ◌≢◌, ◌⊎◌, inl, inr, ◌∙◌, Bool, IsTrue, refl, sym, subst, arith, same_Some, Database, Held, state, State, Ghosts, IsReady, schema_at, TablesVersion, First, Second, Third}
+use Rattle.review_sql_tables.proofs.Common.{◌≡◌, ◌≢◌, ◌⊎◌, inl, inr, ◌∙◌, Bool, IsTrue, refl, sym, subst, arith, same_Some, Database, Held, state, State, Ghosts, IsReady, schema_at}
+use Rattle.review_sql_tables.specs.declared.versions.TablesVersion.{TablesVersion}
+use Rattle.review_sql_tables.specs.declared.versions.TablesVersion.TheVariants.{First, Second, Third}
 use Rattle.review_sql_writes.specs.{Commits.IsDesk, declared.numbers.Numbers.Numbers}
 use Rattle.review_sql.proofs.Saying.{desk_says, never_earlier, never_no_desk, never_other_version, never_there_earlier}
 use Rattle.review_sql.{proofs.Shown.stays, specs.Migrated.IsNotMigrated, specs.Migrated.IsUnfit}

@@ -4,8 +4,9 @@ use Rattle.{sqlite.specs.State.CommitsShowing, sqlite_ast.specs.declared.Stateme
 use Rattle.sqlite_resolve.specs.Compile.{compiled, first, planned, meaning, command, returning, timed, small, with_command}
 use Rattle.sqlite_resolve.specs.{Lowering.and_then, declared.error.CompileError.TheVariants.NoSuchTable}
 use Rattle.{sqlite_schema.specs.declared.command.Command.Command, sqlite_syntax.specs.declared.statement.Parsed.Parsed}
-use Rattle.review_sql_tables.proofs.Common.{◌≡◌, ◌∙◌, ◌⊎◌, inl, inr, ℕ, List, [], Option, Some, None, Ok, Err, Result, IfOk, IfErr, IsTrue, false, ◌+◌, refl, sym, ap, subst, subst₂, cases_Bool, survives_weaker, Reads, understood, listing_schema, State, Shown, HasCleanDisk, Survives, FailsToQuery, FailsToShow, IsNotRun, IsUnchanged, IsRolledBack, Error, Checked, Compiled, Returning, Schema, everything, Trees, Row, FIND_DESK, FIND_EPOCHS}
+use Rattle.review_sql_tables.proofs.Common.{◌≡◌, ◌∙◌, ◌⊎◌, inl, inr, ℕ, List, [], Option, Some, None, Ok, Err, Result, IfOk, IfErr, IsTrue, false, ◌+◌, refl, sym, ap, subst, subst₂, cases_Bool, survives_weaker, Reads, understood, listing_schema, State, Shown, HasCleanDisk, Survives, FailsToQuery, FailsToShow, IsNotRun, IsUnchanged, IsRolledBack, Error, Checked, Compiled, Returning, Schema, everything, Trees, Row}
 use Rattle.review_sql_tables.proofs.Sequences.{fails_keeps}
+use Rattle.review_sql_tables.specs.declared.texts.TheConstants.{FIND_DESK, FIND_EPOCHS}
 use Rattle.review_sql.specs.{Opened.ShowsRows, Shelf.Stays}
 use Rattle.sqlite_ast.specs.declared.Statement.TheVariants as written
 use Rattle.sqlite_ast.specs.declared.Select as written_select

@@ -1,6 +1,7 @@
 -- A look at tables that is taken back.
-use Rattle.review_sql_tables.proofs.Common.{◌≡◌, ◌∙◌, ◌⊎◌, inl, inr, ℕ, List, Some, None, Bool, Ok, Err, Result, IfOk, IfErr, IsTrue, refl, sym, subst, arith, Option, IfSome, Decides, survives_then, Database, IsDatabase, State, HasCleanDisk, Survives, IsRolledBack, Error, Trees, Row, AreApart, desk_schema, Looks, version_number, TablesVersion, Third}
+use Rattle.review_sql_tables.proofs.Common.{◌≡◌, ◌∙◌, ◌⊎◌, inl, inr, ℕ, List, Some, None, Bool, Ok, Err, Result, IfOk, IfErr, IsTrue, refl, sym, subst, arith, Option, IfSome, Decides, survives_then, Database, IsDatabase, State, HasCleanDisk, Survives, IsRolledBack, Error, Trees, Row, AreApart, desk_schema, Looks, version_number}
 use Rattle.review_sql_tables.proofs.Sequences.{taken_back, survives_from}
+use Rattle.review_sql_tables.specs.declared.versions.TablesVersion.{TablesVersion, TheVariants.Third}
 use Rattle.review_sql_records.proofs.Common.{at_tree, begun}
 use Rattle.{review_sql_writes.specs.declared.numbers.Numbers.Numbers, review_sql.proofs.Saying.desk_of_ours}
 use Rattle.review_sql.specs.Opened.{AreAllApart, Peeks, IsLacking, IsSeen, IsRefused, IsSaid, IsDeskThere, IsNone, IsThere, LacksLeast, SaysLeast, least_shown, ShowsEpochs}

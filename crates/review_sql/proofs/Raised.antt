@@ -1,6 +1,7 @@
 -- Tables of an earlier version that are made those of a desk, in one transaction.
-use Rattle.review_sql_tables.proofs.Common.{◌≡◌, ◌≢◌, ◌∙◌, ◌⊎◌, inl, inr, Bool, true, false, Some, Ok, Err, Result, List, OnOk, OnErr, IfOk, IfErr, IsTrue, refl, sym, ap, subst, arith, Decides, is_ok, survives_then, survives_weaker, Database, Held, state, listing_schema, understood, State, HasCleanDisk, Survives, Error, everything, Trees, Ghosts, desk_schema, Migrates, Inside, Looks, OnDesk, Transacts, Within, schema_at, version_of, FIND_ANSWER, EarlierVersion, Third, Then}
-use Rattle.review_sql_tables.proofs.Sequences.{settled_as}
+use Rattle.review_sql_tables.proofs.Common.{◌≡◌, ◌≢◌, ◌∙◌, ◌⊎◌, inl, inr, Bool, true, false, Some, Ok, Err, Result, List, OnOk, OnErr, IfOk, IfErr, IsTrue, refl, sym, ap, subst, arith, Decides, is_ok, survives_then, survives_weaker, Database, Held, state, listing_schema, understood, State, HasCleanDisk, Survives, Error, everything, Trees, Ghosts, desk_schema, Migrates, Inside, Looks, OnDesk, Transacts, Within, schema_at, version_of, Then}
+use Rattle.review_sql_tables.{proofs.Sequences.settled_as, specs.declared.texts.TheConstants.FIND_ANSWER}
+use Rattle.review_sql_tables.specs.declared.versions.{EarlierVersion.EarlierVersion, TablesVersion.TheVariants.Third}
 use Rattle.review_sql_records.proofs.Common.{Entry, Next, follow, IsView}
 use Rattle.review_sql_lookups.specs.Tables.{tables_in, tables_at}
 use Rattle.review_sql_writes.specs.{declared.numbers.Numbers.Numbers, inner.Words.SetsDesk, inner.Words.SetsLeast}

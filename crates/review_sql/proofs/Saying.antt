@@ -1,10 +1,12 @@
 -- What the tables `desk` and `epochs` say where the tables are of our form, and where there is none.
 use Rattle.{sqlite_schema.specs.declared.command.Command.TheVariants.Select, review_words.specs.Epochs.is_epoch}
-use Rattle.review_sql_tables.proofs.Common.{◌≡◌, ◌≢◌, ◌∙◌, inl, inr, ℕ, List, [], ◌∷◌, map, filter, Option, Some, None, Ok, Err, true, false, codes, refl, sym, ap, subst, arith, All-from_recursion, length_permutation, same_Some, AllByRecursion, IsPermutation, is_ok, command_of, one_permutation, Database, Reads, understood, listing_schema, filter_same, Checked, Compiled, Schema, Term, col, everything, Row, column, Null, has_key, desk_schema, schema_0, only, reads, row_at, over_table, schema_at, version_number, version_of, FIND_DESK, FIND_EPOCHS, EarlierVersion, TablesVersion, First, Second, Third}
+use Rattle.review_sql_tables.proofs.Common.{◌≡◌, ◌≢◌, ◌∙◌, inl, inr, ℕ, List, [], ◌∷◌, map, filter, Option, Some, None, Ok, Err, true, false, codes, refl, sym, ap, subst, arith, All-from_recursion, length_permutation, same_Some, AllByRecursion, IsPermutation, is_ok, command_of, one_permutation, Database, Reads, understood, listing_schema, filter_same, Checked, Compiled, Schema, Term, col, everything, Row, column, Null, has_key, desk_schema, schema_0, only, reads, row_at, over_table, schema_at, version_number, version_of}
 use Rattle.review_sql_tables.proofs.{Meaning.plain, Queries.passes, Queries.selects, Queries.shows}
-use Rattle.review_sql_tables.specs.declared.texts.TheConstants.{READ_ROWS}
-use Rattle.review_sql_records.proofs.Common.{first_epoch, where_is, DeskRow}
-use Rattle.review_sql_records.specs.Forms.{desk, desk_row, epochs}
+use Rattle.review_sql_tables.specs.declared.texts.TheConstants.{FIND_DESK, FIND_EPOCHS, READ_ROWS}
+use Rattle.review_sql_tables.specs.declared.versions.{EarlierVersion.EarlierVersion, TablesVersion.TablesVersion}
+use Rattle.review_sql_tables.specs.declared.versions.TablesVersion.TheVariants.{First, Second, Third}
+use Rattle.review_sql_records.proofs.Common.{first_epoch, where_is}
+use Rattle.review_sql_records.specs.{Forms.desk, Forms.desk_row, Forms.epochs, declared.rows.DeskRow.DeskRow}
 use Rattle.review_sql_lookups.specs.Tables.{IsEarlierDesk}
 use Rattle.review_sql_writes.specs.{Commits.IsDesk, declared.numbers.Numbers.Numbers}
 use Rattle.review_sql.specs.Opened.{number_of_one, version_shown, requests_shown, ShowsDesk, ShowsEpochs, ShowsRows, IsDeskThere, IsThere, IsNoDesk, IsNone, IsOtherVersion, LacksDesk, least_shown, SaysLeast}

@@ -1,10 +1,12 @@
 -- Tables of an earlier version that became those of a desk show the same history.
-use Rattle.review_sql_tables.proofs.Common.{◌≡◌, ◌≢◌, ◌∙◌, ◌||◌, ℕ, List, [], ◌∷◌, Option, Some, None, option_map, Bool, cond, true, false, not, length, refl, sym, ap, subst, arith, inl, inr, eqb-true, ◌==◌, both_ways, or_parts, cases_Bool, eqb-false, Decides, AllByRecursion, list_any, Database, Trees, Raw, Text, AreApart, desk_schema, desk_tables, is_tree, Migrates, AreMoved, with_first_epoch, without_parent, IsReady, OnDesk, only, reads, row_at, rows_at, is_new, schema_at, version_of, EarlierVersion, Then}
-use Rattle.{review_sql_tables.specs.Versions.AllMoved, review_core_rules.specs.Parts.Part}
+use Rattle.review_sql_tables.proofs.Common.{◌≡◌, ◌≢◌, ◌∙◌, ◌||◌, ℕ, List, [], ◌∷◌, Option, Some, None, option_map, Bool, cond, true, false, not, length, refl, sym, ap, subst, arith, inl, inr, eqb-true, ◌==◌, both_ways, or_parts, cases_Bool, eqb-false, Decides, AllByRecursion, list_any, Database, Trees, Raw, Text, AreApart, desk_schema, desk_tables, is_tree, Migrates, AreMoved, with_first_epoch, without_parent, IsReady, OnDesk, only, reads, row_at, rows_at, is_new, schema_at, version_of, Then}
+use Rattle.review_sql_tables.specs.{Versions.AllMoved, declared.versions.EarlierVersion.EarlierVersion}
+use Rattle.review_core_rules.specs.Parts.{Part}
 use Rattle.review_machine_rows.specs.{Rows.Row, View.tables_version}
-use Rattle.review_sql_records.proofs.Common.{Entry, Identity, at_tree, Next, Reading, own_of, Key, AccountKey, MemberKey, FileKey, BaseKey, PartKey, OddKey, AccountRow, MemberRow, FileRow, BaseRow, OddRow, Count, Projects, BasesOf, ClosedEpochs, IsViewBy, fact, counted, kept_answer, StoredFile, projects, answers, earlier_answers, request_key, earlier_key, first_epoch, answer_keyed, earlier_answer_keyed, project_keyed, Rest}
+use Rattle.review_sql_records.proofs.Common.{Entry, Identity, at_tree, Next, Reading, own_of, Key, AccountKey, MemberKey, FileKey, BaseKey, PartKey, OddKey, AccountRow, MemberRow, FileRow, BaseRow, OddRow, Count, Projects, BasesOf, ClosedEpochs, IsViewBy, fact, counted, kept_answer, StoredFile, projects, answers, earlier_answers, request_key, earlier_key, first_epoch, answer_keyed, earlier_answer_keyed, project_keyed}
 use Rattle.review_sql_records.proofs.ReadAlike.{answer_moved, answers_keyed, file_moved, projects_counted, projects_keyed, answers_of_others}
 use Rattle.review_sql_records.specs.Forms.{accounts, members, bases, epochs}
+use Rattle.review_sql_records.specs.declared.rows.Answered.{Answered as Rest}
 use Rattle.review_sql_change_records.specs.Forms.{headers, patches, votes, roles, comments, attention_entries}
 use Rattle.review_sql_lookups.specs.Tables.{IsEarlierDesk, keyed_tables_in, projects_in, tables_in, answer_in, count_in, has_unkeyed, keyed_tables, number_of, row_in, stored_as, tables_at, told, least_in, version_in}
 use Rattle.review_sql_writes.{proofs.Edits.part_same, specs.Commits.IsDesk, specs.declared.numbers.Numbers.Numbers}

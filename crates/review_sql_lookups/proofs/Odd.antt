@@ -4,8 +4,9 @@ use Rattle.review_names.specs.{Forms.is_label, Forms.most_comments, Names.is_acc
 use Rattle.review_sql_tables.proofs.Common.{◌≡◌, ◌∙◌, ◌⊎◌, ◌&&◌, ℕ, List, [], ◌∷◌, Option, Some, None, Bool, true, false, not, is_some, refl, sym, ap, subst, inl, inr, Ordering, nat_le, arith, leb-true, leb-false, option_map, zero, suc, cases_Bool, and_from, and_parts, or_cases, lt-ltb, list_any, nat_cmp, is_eq, Has, Trees, Raw, column, value_cmp, Text, number_in, has_key, AreParts, HasGreatest, HasOne, Search, only, reads, row_at, rows_at}
 use Rattle.review_core_rules.specs.Parts.{PatchOf, VoteOf, RoleOf, CommentOf, AttentionOf, APatch, ARole, AComment, AnAttentionEntry}
 use Rattle.review_core_rules.specs.Seen.{vote_cmp}
-use Rattle.review_sql_records.proofs.Common.{is_commit, is_within, most_changes, most_patches, is_word, history_bases, same_text, reading_of, at_place, MemberKey, AccountKey, BaseKey, PartKey, OddKey, AccountRow, MemberRow, BaseRow, APart, IsDamaged, Base, BranchKey, PlaceKey, where_is, both, account_names, account_numbers, base_commits, base_places, branch_bases, base_parts, group_members, member_parts, is_small, at_number, passed, DeskRow}
+use Rattle.review_sql_records.proofs.Common.{is_commit, is_within, most_changes, most_patches, is_word, history_bases, same_text, reading_of, at_place, MemberKey, AccountKey, BaseKey, PartKey, OddKey, AccountRow, MemberRow, BaseRow, APart, IsDamaged, Base, BranchKey, PlaceKey, where_is, both, account_names, account_numbers, base_commits, base_places, branch_bases, base_parts, group_members, member_parts, is_small, at_number, passed}
 use Rattle.review_sql_records.specs.Forms.{alone, accounts, bases, desk, epochs, account_keyed, member_keyed, base_keyed, is_number, is_text}
+use Rattle.review_sql_records.specs.declared.rows.DeskRow.{DeskRow}
 use Rattle.review_sql_change_records.specs.Forms.{patches, votes, roles, comments, attention_entries, change_patches, change_votes, change_roles, change_comments, change_attention, vote_key, change_numbers, header_keyed, has_change, patch_keyed, vote_keyed, comment_keyed, account_keyed as of_account}
 use Rattle.review_sql_change_records.specs.Laws.{at_text}
 use Rattle.review_sql_lookups.proofs.Telling.{has_in, in_has, odd_damage}

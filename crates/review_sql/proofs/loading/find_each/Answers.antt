@@ -1,5 +1,5 @@
 use Rattle.review_sql_tables.proofs.Common.{◌≡◌, Option, Ok, false, subst, rules, Trees, row_at}
-use Rattle.review_sql_records.{proofs.Common.DeskRow, specs.Forms.desk}
+use Rattle.review_sql_records.specs.{Forms.desk, declared.rows.DeskRow.DeskRow}
 use Rattle.review_sql.{proofs.Finding.seen_open, specs.Loading.LooksIf, specs.Loading.WereSeen}
 use Rattle.review_sql.proofs.loading.find_each.Goals as goal
 

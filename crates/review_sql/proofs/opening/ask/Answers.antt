@@ -1,4 +1,5 @@
-use Rattle.review_sql_tables.proofs.Common.{rules, ◌≡◌, false, inl, subst, clean_if_open, Database, state, Third}
+use Rattle.review_sql_tables.proofs.Common.{rules, ◌≡◌, false, inl, subst, clean_if_open, Database, state}
+use Rattle.review_sql_tables.specs.declared.versions.TablesVersion.TheVariants.{Third}
 use Rattle.review_sql.{proofs.Peeking.lacking, specs.Opened.ShowsDesk}
 use Rattle.review_sql.proofs.opening.ask.Goals as goal
 

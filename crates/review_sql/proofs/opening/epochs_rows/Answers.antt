@@ -1,4 +1,5 @@
-use Rattle.review_sql_tables.proofs.Common.{◌∙◌, ap, not, IsTrue, clean_if_open, state, FIND_EPOCHS}
+use Rattle.review_sql_tables.proofs.Common.{◌∙◌, ap, not, IsTrue, clean_if_open, state}
+use Rattle.review_sql_tables.specs.declared.texts.TheConstants.{FIND_EPOCHS}
 use Rattle.review_sql.proofs.Asking.{asked_open, asked_rows, asked_stays, find_epochs_bare}
 use Rattle.review_sql.proofs.opening.epochs_rows.Goals as goal
 

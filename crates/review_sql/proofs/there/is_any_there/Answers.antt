@@ -1,4 +1,5 @@
-use Rattle.review_sql_tables.proofs.Common.{rules, ◌≡◌, ◌<◌, ℕ, List, length, refl, true, false, inl, inr, sym, subst, get_or, map, arith, cases_lt, Database, state, ANY_ROW}
+use Rattle.review_sql_tables.proofs.Common.{rules, ◌≡◌, ◌<◌, ℕ, List, length, refl, true, false, inl, inr, sym, subst, get_or, map, arith, cases_lt, Database, state}
+use Rattle.review_sql_tables.specs.declared.texts.TheConstants.{ANY_ROW}
 use Rattle.review_sql.{proofs.Staying.stays_still, proofs.Staying.stays_then, specs.Shelf.IsUnderstood}
 use Rattle.review_sql.proofs.there.is_any_there.Goals as goal
 

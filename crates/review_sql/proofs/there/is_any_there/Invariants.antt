@@ -1,4 +1,5 @@
-use Rattle.review_sql_tables.proofs.Common.{◌≡◌, ◌≤◌, ◌<◌, ℕ, List, get_or, map, IsTrue, false, state, HasCleanDisk, ANY_ROW}
+use Rattle.review_sql_tables.proofs.Common.{◌≡◌, ◌≤◌, ◌<◌, ℕ, List, get_or, map, IsTrue, false, state, HasCleanDisk}
+use Rattle.review_sql_tables.specs.declared.texts.TheConstants.{ANY_ROW}
 use Rattle.review_sql.specs.Shelf.{IsUnderstood, Stays}
 use Rattle.review_sql.proofs.there.is_any_there.Given as goal
 
