@@ -1,6 +1,6 @@
 -- Comments in threads, and which threads are unresolved.
 use Rattle.std.proofs.Common.{◌≡◌, List, [], ◌∷◌, ◌++◌, Bool, true, false, not, ◌&&◌, ◌||◌, ◌==◌, refl, ap, ◌∙◌, ℕ, zero, suc, ◌+◌, ◌≤◌, length, map, Option, Some, None, cond, sym, subst, eq-eqb, arith, unwrap_or, ◌<◌, get_or, set, append-nil, append_assoc, length-append, filter, option_map, slice_get, eqb-true, ⊎_elim}
-use Rattle.std.proofs.{Math.Bool.or-true, lemmas.Bool.both_ways, lemmas.Bool.cases_Bool}
+use Rattle.std.proofs.{Math.Bool.or-true, lemmas.Bool.cases_Bool}
 use Rattle.std.proofs.lemmas.{Bool.Decides.nat_tests, List.length-map, List.map-append, Option.slice_get-map}
 use Rattle.std.specs.{List.list_any, List.AllByRecursion, Option.option_map_or}
 use Rattle.review_table.proofs.Plain.{all_at}
@@ -444,6 +444,11 @@ some_at : (p : ℕ → Bool) (xs : List ℕ) → list_any p xs ≡ true → (s :
 some_at p [] is = absurd (cc)
 some_at p (x ∷ xs) is = ⊎_elim (λ (e : p x ≡ true). (x, e)) (λ (e : p x ≡ false). some_at p xs (sym (ap (λ b. b || list_any p xs) e) ∙ is)) (cases_Bool (p x))
 
+same_bools : (a b : Bool) → (a ≡ true → b ≡ true) → (b ≡ true → a ≡ true) → a ≡ b
+same_bools true b to from = sym (to refl)
+same_bools false true to from = from refl
+same_bools false false to from = refl
+
 any_thread : (rs : List Rooted) (xs : List ℕ) → list_any (λ t. t.unresolved) (map (thread_of rs) xs) ≡ list_any (is_open rs) xs
 any_thread rs [] = refl
 any_thread rs (x ∷ xs) = ap (λ b. is_open rs x || b) (any_thread rs xs)
@@ -453,7 +458,7 @@ unresolved_alike xs =
     let rs = rooted_rest [] xs in
     ap has_unresolved (threaded_is [] xs)
     ∙ (by_rooted [] xs
-    ∙ (both_ways (ends_open rs) (list_any (is_open rs) (roots rs))
+    ∙ (same_bools (ends_open rs) (list_any (is_open rs) (roots rs))
     (λ e. let at = ends_open_at rs e in any_at (is_open rs) (roots rs) at.0 (open_rooted rs at.0 (all_rooted xs) at.1) at.1)
     (λ e. let at = some_at (is_open rs) (roots rs) e in open_ends rs at.0 at.1)
     ∙ (sym (any_thread rs (roots rs)) ∙ ap (λ l. list_any (λ t. t.unresolved) (map (thread_of l) (roots l))) (sym (rooted_is xs)))))
