@@ -18,11 +18,11 @@ last_pushed : (before : ℕ) (ps : List PatchRow) (p : PatchRow) → last_upload
 last_pushed before [] p = refl
 last_pushed before (q ∷ ps) p = last_pushed q.uploader ps p
 
-pub current_patch-requires : goal.current_patch-requires
-current_patch-requires c = subst (λ xs. is_within most_patches (length xs) ≡ true) (sym c.deref.ensures.value) c.args.self.now.sound.patches
+pub current_patch-now-requires : goal.current_patch-now-requires
+current_patch-now-requires c = subst (λ xs. is_within most_patches (length xs) ≡ true) (sym c.deref.ensures.value) c.args.self.now.sound.patches
 
-pub next_patch-requires : goal.next_patch-requires
-next_patch-requires c =
+pub next_patch-next-requires : goal.next_patch-next-requires
+next_patch-next-requires c =
     let ps = c.args.self.now.rows.now.patches.items in
     let n : c.current_patch-now.result ≡ length ps = c.current_patch-now.ensures ∙ ap length c.deref.ensures.value in
     subst (λ k. is_within most_patches (k + 1) ≡ true) (sym n) (within_next (length ps) most_patches c.requires)

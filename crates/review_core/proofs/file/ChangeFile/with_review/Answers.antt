@@ -7,8 +7,8 @@ use Rattle.review_core_rules.specs.{EditedRows.edited_account, Seen.seen, Seen.o
 use Rattle.review_core_tables.specs.declared.attention.Who.{Who}
 use Rattle.review_core.proofs.file.ChangeFile.with_review.Goals as goal
 
-pub reviewed_patch-requires : goal.reviewed_patch-requires
-reviewed_patch-requires c = subst (λ xs. is_within most_patches (length xs) ≡ true) (sym c.deref-2.ensures.value) c.args.self.now.sound.patches
+pub reviewed_patch-patch-requires : goal.reviewed_patch-patch-requires
+reviewed_patch-patch-requires c = subst (λ xs. is_within most_patches (length xs) ≡ true) (sym c.deref-2.ensures.value) c.args.self.now.sound.patches
 
 pub returns : goal.returns
 returns c =

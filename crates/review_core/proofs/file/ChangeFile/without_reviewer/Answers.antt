@@ -7,8 +7,8 @@ use Rattle.review_core_rules.specs.Seen.{seen, of_account}
 use Rattle.review_core_tables.{proofs.Accounts.kept_nothing, specs.declared.attention.Who.Who}
 use Rattle.review_core.proofs.file.ChangeFile.without_reviewer.Goals as goal
 
-pub current_patch-requires : goal.current_patch-requires
-current_patch-requires c = subst (λ xs. is_within most_patches (length xs) ≡ true) (sym c.deref-2.ensures.value) c.args.self.now.sound.patches
+pub current_patch-patch-requires : goal.current_patch-patch-requires
+current_patch-patch-requires c = subst (λ xs. is_within most_patches (length xs) ≡ true) (sym c.deref-2.ensures.value) c.args.self.now.sound.patches
 
 pub returns : goal.returns
 returns c =
