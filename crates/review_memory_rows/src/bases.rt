@@ -239,9 +239,9 @@ fn changes_of(
 ) -> Result<BaseChanges, AllocError>
     ensures { IfOk result (PutsBase base.now is_listed branch last total) }
 {
-    let ended = put_number(alloc, branch, last)?;
+    let ended = ended_change(alloc, branch, last)?;
     let listed = listed_of(alloc, base)?;
-    let counted = put_number(alloc, base.key.project.copy(alloc)?, total)?;
+    let counted = counted_change(alloc, &base.key.project, total)?;
     Ok(BaseChanges {
         listed,
         is_listed,
@@ -263,18 +263,35 @@ fn placed_base(
     })
 }
 
-// The change that puts a number under a key.
-fn put_number<K: Drop>(
+// The change of a branch's last place.
+fn ended_change(
     alloc: Global,
-    key: K,
-    number: u64,
-) -> Result<Vec<RowEdit<K, u64>>, AllocError>
-    ensures { IfOk result (λ changes. changes.items ≡ record { key = key; row = Some number } ∷ []) }
+    branch: BranchKey,
+    last: u64,
+) -> Result<Vec<RowEdit<BranchKey, u64>>, AllocError>
+    ensures { IfOk result (λ changes. changes.items ≡ record { key = branch; row = Some last } ∷ []) }
 {
     Ok(vec![in alloc;
         RowEdit {
+            key: branch,
+            row: Some(last),
+        },
+    ]?)
+}
+
+// The change of the number of a project's bases.
+fn counted_change(
+    alloc: Global,
+    project: &ProjectName,
+    total: u64,
+) -> Result<Vec<RowEdit<ProjectName, u64>>, AllocError>
+    ensures { IfOk result (λ changes. changes.items ≡ record { key = project.now; row = Some total } ∷ []) }
+{
+    let key = project.copy(alloc)?;
+    Ok(vec![in alloc;
+        RowEdit {
             key,
-            row: Some(number),
+            row: Some(total),
         },
     ]?)
 }
