@@ -1,10 +1,10 @@
 -- What the texts that read the tables `desk` and `epochs` show over any schema.
-use Rattle.sqlite.specs.{Clock.timed as in_time, Listing.reads_listing, Listing.if_select, Listing.IsSourceOf}
+use Rattle.sqlite.specs.Listing.{reads_listing, if_select, IsSourceOf}
 use Rattle.{sqlite.specs.State.CommitsShowing, sqlite_ast.specs.declared.Statement.Statement}
 use Rattle.sqlite_resolve.specs.Compile.{compiled, first, planned, meaning, command, returning, timed, small, with_command}
 use Rattle.sqlite_resolve.specs.{Lowering.and_then, declared.error.CompileError.TheVariants.NoSuchTable}
 use Rattle.{sqlite_schema.specs.declared.command.Command.Command, sqlite_syntax.specs.declared.statement.Parsed.Parsed}
-use Rattle.review_sql_tables.proofs.Common.{◌≡◌, ◌∙◌, ◌⊎◌, inl, inr, ℕ, List, [], Option, Some, None, Ok, Err, Result, IfOk, IfErr, IsTrue, false, ◌+◌, refl, sym, ap, subst, subst₂, cases_Bool, survives_weaker, Reads, understood, listing_schema, State, Shown, HasCleanDisk, Survives, FailsToQuery, FailsToShow, IsNotRun, IsUnchanged, IsRolledBack, Error, Checked, Compiled, Returning, Schema, everything, Trees, Row}
+use Rattle.review_sql_tables.proofs.Common.{◌≡◌, ◌∙◌, ◌⊎◌, inl, inr, ℕ, List, [], None, Ok, Err, Result, IfOk, IfErr, IsTrue, false, ◌+◌, refl, sym, ap, subst, subst₂, cases_Bool, survives_weaker, Reads, understood, listing_schema, State, Shown, HasCleanDisk, Survives, FailsToQuery, IsUnchanged, IsRolledBack, Error, Checked, Compiled, Schema, everything, Trees, Row}
 use Rattle.review_sql_tables.proofs.Sequences.{fails_keeps}
 use Rattle.review_sql_tables.specs.declared.texts.TheConstants.{FIND_DESK, FIND_EPOCHS}
 use Rattle.review_sql.specs.{Opened.ShowsRows, Shelf.Stays}
@@ -68,31 +68,6 @@ module _ (sql : List ℕ) (bare : IsBare sql) (schema : Schema) (c : Compiled) w
   pub is_plain : understood schema sql ≡ Ok c → (c.returning ≡ None) × (c.formats ≡ [])
   unfolding understood compiled
   is_plain is = query_is_plain schema (first sql) c bare.query (rw (not_listed is) at is)
-
--- a call that failed left what was there, or took the transaction back
-module _ (sql : List ℕ) (bare : IsBare sql) (schema : Schema) (c : Compiled) where
-  pub not_listed : understood schema sql ≡ Ok c → reads_listing schema sql ≡ false
-  unfolding understood
-  not_listed is = elim (cases_Bool (reads_listing schema sql)) [
-    | inl listed ↦ absurd (listing_refused _ c bare.unlisted (rw listed at is))
-    | inr not ↦ not
-  ]
-
-  pub is_plain : understood schema sql ≡ Ok c → (c.returning ≡ None) × (c.formats ≡ [])
-  unfolding understood compiled
-  is_plain is = query_is_plain schema (first sql) c bare.query (rw (not_listed is) at is)
-
--- a call that failed left what was there, or took the transaction back
-fails_keeps : (sql : List ℕ) (params : Row) (old new : State) (e : Error) → FailsToQuery sql params old new e → IsUnchanged old new ⊎ IsRolledBack old new
-unfolding FailsToQuery IsNotRun
-fails_keeps sql params old new e (inl (inl none)) = inl none.1
-fails_keeps sql params old new e (inl (inr fails)) = inr fails.3
-fails_keeps sql params old new e (inr ran) = by_returning ran.0.returning ran.2
-  where
-    by_returning : (o : Option Returning) → FailsToShow old new sql ran.0 (in_time params ran.0.formats ran.1.now) e o → IsUnchanged old new ⊎ IsRolledBack old new
-    by_returning None h = inl h.3
-    by_returning (Some what) (inl h) = inl h.1
-    by_returning (Some what) (inr fails) = inr fails.3
 
 module _ (sql : List ℕ) (bare : IsBare sql) (old new : State) where
   -- what the query showed
