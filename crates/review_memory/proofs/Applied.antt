@@ -63,9 +63,9 @@ taken_over true None old = refl
 taken_over true (Some u) old = refl
 taken_over false left old = refl
 
-pub some_mapped : {X Y : Type 0} (f : X → Y) (o : Option X) → IsSome o → IsSome (option_map f o)
-some_mapped f None some = some
-some_mapped f (Some x) some = refl
+pub mapped_is_some : {X Y : Type 0} (f : X → Y) (o : Option X) → IsSome o → IsSome (option_map f o)
+mapped_is_some f None some = some
+mapped_is_some f (Some x) some = refl
 
 -- ==== the tables after changes
 
