@@ -1,4 +1,4 @@
--- The faults of the program, from those of its parts.
+-- The faults of the program, from those of its parts; and how a connection to a file was opened and closed.
 use Rattle.std.specs.Prelude.{ℕ, ◌==◌, if◌then◌else◌, List, Result, Ok, Err, codes, ◌≡◌, ◌⊎◌, IsTrue}
 use Rattle.sqlite.specs.{Closing.IsCopied, Files.file_state, Files.IsClosed, Files.IsOpened, Held.Held, Start.FindsIn}
 use Rattle.sqlite.specs.State.{HasCleanDisk}

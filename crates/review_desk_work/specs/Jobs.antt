@@ -1,4 +1,4 @@
--- Which words ask for which job.
+-- Which words ask for which job, and why others ask for none.
 use Rattle.std.specs.List.{list_any}
 use Rattle.std.specs.Prelude.{ℕ, Bool, ◌||◌, List, [], ◌∷◌, map, Option, Some, None, codes, if◌then◌else◌, Result, Err, ◌≡◌, ◌⊎◌, ◌&&◌, nat_le, ok_or, option_and_then, Ok}
 use Rattle.std.specs.Str.{bytes_eq}

@@ -1,4 +1,4 @@
--- What a task on the tables of a connection did.
+-- What a task on the tables of a connection did, what making and migrating did, and serving in turns.
 use Rattle.std.specs.Io.KnownBytes.{Appends}
 use Rattle.std.specs.Prelude.{◌≡◌, ◌≢◌, ◌⊎◌, ◌||◌, ℕ, Bool, true, false, not, List, [], Option, Result, Ok, Err, IsTrue, IfOk, IfErr, ◌+◌, ◌≤◌, ◌==◌, if◌then◌else◌, ◌∷◌, Some, None}
 use Rattle.sqlite.specs.{Held.Held, Held.state, State.HasCleanDisk}

@@ -127,7 +127,7 @@ pub fn push_vote(alloc: Global, text: &mut String, vote: &ShownVote) -> Result<(
 }
 
 /// Adds the line of a submit requirement.
-#[tactic(auto, unfolding(crate::specs::Pages::requirement_line))]
+#[tactic(auto, unfolding(crate::specs::Told::requirement_line))]
 pub fn push_requirement(text: &mut String, requirement: &ShownRequirement) -> Result<(), AllocError>
     ensures { OnOk result (string_bytes text.new ≡ string_bytes text.old ++ requirement_line requirement.now) }
 {
@@ -148,7 +148,7 @@ fn push_attention_words(
 }
 
 /// Adds the line of an account in the attention set.
-#[tactic(auto, unfolding(crate::specs::Pages::attention_line))]
+#[tactic(auto, unfolding(crate::specs::Told::attention_line))]
 pub fn push_attention(text: &mut String, call: &ShownAttentionEntry) -> Result<(), AllocError>
     ensures { OnOk result (string_bytes text.new ≡ string_bytes text.old ++ attention_line call.now) }
 {
