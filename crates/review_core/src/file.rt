@@ -1,4 +1,4 @@
-//! A change whose rows fit together, and what each request makes of it.
+//! A change whose rows fit together, and what they tell of it.
 ghost use Rattle.std.specs.Prelude.{◌≡◌, ◌↔◌, true, IfOk, MatchResult};
 ghost use Rattle.review_core_rules.specs.{Change.eligible, Seen.seen, Sound.IsSound, Threads.threads};
 ghost use Rattle.{review_core_tables.specs.Copies.group_list, review_core_standing.specs.Grouped.IsStatus};

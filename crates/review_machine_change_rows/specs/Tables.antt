@@ -27,7 +27,7 @@ abbrev pub HaveFault : ChangeTables → ChangeFault → Type 0
 HaveFault t Memory = Unit {0}
 HaveFault t Gap = (c : Change) → Show t c → ⊥
 
--- the fault of a shelf where a change is not given
+-- the fault of a shelf where a change, or the bases of a branch, are not given
 abbrev pub fault_of : ChangeFault → ShelfFault
 fault_of Memory = shelf.Memory
 fault_of Gap = shelf.Damaged

@@ -1,4 +1,4 @@
-//! Rows of changes copied; the edit that makes of a change what was noted beside its rows ([`edit_of`]); the change that tables show
+//! Rows copied, of changes and the names of accounts; the edit that makes of a change what was noted beside its rows ([`edit_of`]); the change that tables show
 //! ([`change_rows`]). Where one vote was noted, the edit has the header and that vote.
 //!
 //! - **Proved**: a copy is the same; an edit makes exactly the rows of the new change; tables with a gap are told so.

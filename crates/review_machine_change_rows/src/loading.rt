@@ -14,6 +14,7 @@ use std::alloc::{AllocError, Global};
 /// Why a change, or the bases of a branch, are not given.
 #[derive(Clone, Copy, PartialEq, Eq, Drop)]
 pub enum ChangeFault {
+    /// There was no memory for it.
     Memory,
     /// The numbers of its patch sets or of its comments, or the places of the bases, aren't 1, 2 and so on.
     Gap,

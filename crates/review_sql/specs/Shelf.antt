@@ -1,4 +1,4 @@
--- What proofs see of a shelf in SQLite.
+-- What proofs see of a shelf in SQLite, what create gives, and what a stop leaves of a desk of ours.
 use Rattle.std.proofs.Math.Nat.{min-le_right}
 use Rattle.std.specs.{Coded.Coded, Coded.code_by, Coded.coded×, Coded.coded_ℕ, List.Contains}
 use Rattle.std.specs.Prelude.{ℕ, ◌≡◌, ◌≤◌, ◌⊎◌, map, false, Bool, List, Option, Some, None, Result, Ok, Err, IsTrue, if◌then◌else◌, refl, min, [], true, nat_lt}

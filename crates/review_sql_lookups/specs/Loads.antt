@@ -1,4 +1,4 @@
--- What look-ups in the tables of a desk give.
+-- What look-ups in the tables of a desk give, and what a shelf knows of counts.
 use Rattle.std.specs.{BTreeMap.is_at, Cmp.Lexicographic.slice_cmp, Ordering.nat_cmp}
 use Rattle.std.specs.Prelude.{ℕ, ◌≡◌, List, Option, Some, None, ◌+◌, ◌<◌, ◌≤◌, false, IfSome}
 use Rattle.{sqlite_trees.specs.Tree.Trees, review_table.specs.Rows.row_in, review_table.specs.Rows.rows_of}

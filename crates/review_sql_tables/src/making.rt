@@ -1,4 +1,4 @@
-//! Tables are made by their texts.
+//! Texts are run that make a table, give it another's rows or drop one; and the tables of version 1 are made.
 ghost use Rattle.std.specs.Prelude.{◌≡◌, ◌<◌, ℕ, List, map, slice_index_or};
 ghost use Rattle.sqlite.specs.Held.{state};
 ghost use Rattle.review_sql_tables.specs.{Desk.schema_0, Desk.schema_1, Ran.Within, Ran.Opens};

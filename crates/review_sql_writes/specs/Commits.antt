@@ -1,4 +1,4 @@
--- What a commit does to the tables of a desk.
+-- What a desk says of itself, how one is made, and what a commit does to its tables.
 use Rattle.std.specs.List.{AllByRecursion}
 use Rattle.std.specs.Prelude.{ℕ, ◌+◌, Option, unwrap_or, [], ◌≡◌, Bool, true, false, List, filter, IfSome, ◌≤◌, length}
 use Rattle.{sqlite.specs.Effect.Database, sqlite_trees.specs.Tree.Trees, sqlite_value.specs.Order.Row as Raw}
