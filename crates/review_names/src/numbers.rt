@@ -7,15 +7,19 @@ use std::marker::{Model, PhantomData};
 
 /// A kind of numbers: those from 1 to a greatest one.
 pub trait NumberKind: Copy {
+    /// The greatest number of the kind, for contracts.
     ghost MOST: { ℕ };
 
     /// The greatest number of the kind.
     const MOST: u32;
 
+    /// Whether a number is of the kind.
     ghost is_met: { ℕ → Bool };
 
+    /// Those of the kind are those from 1 to the greatest one.
     ghost spans: { (n : ℕ) → is_met n ≡ is_within MOST n };
 
+    /// There is one of the kind, and the greatest one fits 32 bits.
     ghost fits: { IsTrue (nat_le 1 MOST && nat_lt MOST 4294967296) };
 }
 
