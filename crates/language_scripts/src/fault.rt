@@ -1,7 +1,7 @@
 //! What ends a transcript early.
 
 use review_expr::EvalFault;
-use review_words::BadName;
+use review_words::Bad;
 use std::alloc::{AllocError, AllocFailed};
 use std::fmt::{Display, Formatter};
 use std::{fmt, io};
@@ -51,11 +51,11 @@ impl From<EvalFault> for Fault {
     }
 }
 
-impl From<BadName> for Fault {
-    fn from(fault: BadName) -> Fault {
+impl From<Bad> for Fault {
+    fn from(fault: Bad) -> Fault {
         match fault {
-            BadName::Form => Fault::Form,
-            BadName::Memory => Fault::Memory,
+            Bad::Form => Fault::Form,
+            Bad::Memory => Fault::Memory,
         }
     }
 }

@@ -24,12 +24,12 @@ fn change(alloc: Global, label: &Label, words: &str) -> Result<Facts, Fault> {
     change.owner = AccountNo::read("2")?;
     change.uploader = AccountNo::read("3")?;
     let votes = votes(alloc, words)?;
-    change.votes.insert(label.name().copy(alloc)?, votes)?;
+    change.votes.insert(label.name().copy()?, votes)?;
     let range = ValueRange {
         least: label.least(),
         greatest: label.greatest(),
     };
-    change.ranges.insert(label.name().copy(alloc)?, range)?;
+    change.ranges.insert(label.name().copy()?, range)?;
     Ok(Facts::Change(change))
 }
 

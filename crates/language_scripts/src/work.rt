@@ -39,7 +39,7 @@ fn change(alloc: Global, count: u64) -> Option<Facts> {
     let votes = votes(alloc)?;
     let mut change = first_change(alloc).ok()?;
     change.paths = paths(alloc, count)?;
-    change.votes.insert(label.copy(alloc).ok()?, votes).ok()?;
+    change.votes.insert(label.copy().ok()?, votes).ok()?;
     change.ranges.insert(label, range).ok()?;
     Some(Facts::Change(change))
 }

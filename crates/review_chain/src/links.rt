@@ -2,7 +2,7 @@
 ghost use Rattle.std.specs.Prelude.{◌≡◌, IfOk};
 
 use review_words::{ChangeNo, CommitName, PatchNo, State};
-use std::alloc::{AllocError, Global};
+use std::alloc::AllocError;
 
 /// A change as a chain sees it.
 #[derive(Drop)]
@@ -35,10 +35,10 @@ pub trait Links {
     ghost known: { Self → Branch };
 
     /// The link of a change, where it is known. An error is want of memory.
-    fn link(&self, alloc: Global, change: ChangeNo) -> Result<Option<Link>, AllocError>
+    fn link(&self, change: ChangeNo) -> Result<Option<Link>, AllocError>
         ensures { IfOk result (λ link. link ≡ (known self.now).link change) };
 
     /// What a commit is to the branch, where that is known. An error is want of memory.
-    fn standing(&self, alloc: Global, commit: &CommitName) -> Result<Option<Standing>, AllocError>
+    fn standing(&self, commit: &CommitName) -> Result<Option<Standing>, AllocError>
         ensures { IfOk result (λ standing. standing ≡ (known self.now).standing commit.now) };
 }

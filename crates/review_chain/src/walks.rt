@@ -83,15 +83,10 @@ fn patch_set_fault(patch: PatchNo, link: &Link) -> Option<ChainFault>
 }
 
 // What stands before, where it is a patch set of a change.
-fn before_change<L: Links>(
-    alloc: Global,
-    links: &L,
-    change: ChangeNo,
-    patch: PatchNo,
-) -> Result<Step, AllocError>
+fn before_change<L: Links>(links: &L, change: ChangeNo, patch: PatchNo) -> Result<Step, AllocError>
     ensures { IfOk result (λ step. before_of step ≡ before_change change patch ((L.known links.now).link change)) }
 {
-    let Some(link) = links.link(alloc, change)? else {
+    let Some(link) = links.link(change)? else {
         return Ok(Step::AtUnknown(LookUp::Change(change)));
     };
     match patch_set_fault(patch, &link) {
@@ -101,12 +96,7 @@ fn before_change<L: Links>(
 }
 
 // What stands before a walk of so many changes whose first has a parent that is this to the branch.
-fn before_known<L: Links>(
-    alloc: Global,
-    links: &L,
-    count: usize,
-    parent: Standing,
-) -> Result<Step, AllocError>
+fn before_known<L: Links>(links: &L, count: usize, parent: Standing) -> Result<Step, AllocError>
     ensures { IfOk result (λ step. before_of step ≡ before_known (L.known links.now) count parent) }
 {
     match parent {
@@ -116,26 +106,21 @@ fn before_known<L: Links>(
             if count == 100 {
                 return Ok(Step::AtFault(ChainFault::TooLong));
             }
-            before_change(alloc, links, change, patch)
+            before_change(links, change, patch)
         }
     }
 }
 
 // What stands before a walk of so many changes that begins at a change.
-fn before<L: Links>(
-    alloc: Global,
-    links: &L,
-    count: usize,
-    first: ChangeNo,
-) -> Result<Step, AllocError>
+fn before<L: Links>(links: &L, count: usize, first: ChangeNo) -> Result<Step, AllocError>
     ensures { IfOk result (λ step. before_of step ≡ before (L.known links.now) count first) }
 {
-    let Some(link) = links.link(alloc, first)? else {
+    let Some(link) = links.link(first)? else {
         return Ok(Step::AtUnknown(LookUp::Change(first)));
     };
-    match links.standing(alloc, &link.parent)? {
+    match links.standing(&link.parent)? {
         None => Ok(Step::AtUnknown(LookUp::Commit(link.parent))),
-        Some(parent) => before_known(alloc, links, count, parent),
+        Some(parent) => before_known(links, count, parent),
     }
 }
 
@@ -153,7 +138,7 @@ pub fn chain<L: Links>(
     walk.push(change)?;
     let mut first = change;
     'back: loop {
-        match before(alloc, links, walk.len(), first)? {
+        match before(links, walk.len(), first)? {
             Step::AtBase => return Ok(walk),
             Step::AtFault(fault) => return Err(fault),
             Step::AtUnknown(_) => return Err(ChainFault::Unknown),
@@ -192,17 +177,13 @@ impl Walked {
 /// What has to be looked up next to find the chain of a change, going on from a walk to it; what [`wanted`] answers, wherever the walk begins.
 /// It leaves a walk to the change, from which the next look may go on. An error is want of memory, and leaves one too. How long the walk is
 /// is not promised: only speed depends on it.
-pub fn wanted_on<L: Links>(
-    alloc: Global,
-    links: &L,
-    walked: &mut Walked,
-) -> Result<Option<LookUp>, AllocError>
+pub fn wanted_on<L: Links>(links: &L, walked: &mut Walked) -> Result<Option<LookUp>, AllocError>
     ensures change { walked.new.change ≡ walked.old.change }
     ensures walked { HasWalked (L.known links.now) walked.old → HasWalked (L.known links.now) walked.new }
     ensures is { HasWalked (L.known links.now) walked.old → IfOk result (λ found. option_map want_of found ≡ wanted (L.known links.now) walked.old.change) }
 {
     while walked.count <= 100 {
-        match before(alloc, links, walked.count, walked.first)? {
+        match before(links, walked.count, walked.first)? {
             Step::AtBase => return Ok(None),
             Step::AtFault(_) => return Ok(None),
             Step::AtUnknown(wanted) => return Ok(Some(wanted)),
@@ -217,15 +198,11 @@ pub fn wanted_on<L: Links>(
 
 /// What has to be looked up next to find the chain of a change, or none where the links decide its chain or its bad link. After at most 200
 /// look-ups nothing is wanted (`look_ups_end`). An error is want of memory.
-pub fn wanted<L: Links>(
-    alloc: Global,
-    links: &L,
-    change: ChangeNo,
-) -> Result<Option<LookUp>, AllocError>
+pub fn wanted<L: Links>(links: &L, change: ChangeNo) -> Result<Option<LookUp>, AllocError>
     ensures is { IfOk result (λ found. option_map want_of found ≡ wanted (L.known links.now) change) }
     ensures some { IfOk result (λ found. IfSome found (λ w. (walk : List ℕ) × IsWanted (L.known links.now) walk change (want_of w))) }
     ensures none { IfOk result (λ found. IfNone found (IsDecided (L.known links.now) change)) }
 {
     let mut walked = Walked::new(change);
-    wanted_on(alloc, links, &mut walked)
+    wanted_on(links, &mut walked)
 }

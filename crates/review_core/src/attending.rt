@@ -24,7 +24,7 @@ impl<'r> ChangeFile<'r> {
     {
         stays_sound();
         let mut edited = begin_edits(alloc, self.rows, self.rows.header.state, request)?;
-        tell(alloc, &mut edited.attention, account, reason, request)?;
+        tell(&mut edited.attention, account, reason, request)?;
         Ok(edited)
     }
 

@@ -86,7 +86,7 @@ impl<'r> ChangeFile<'r> {
         let who = who_for(&self.rows.header, &self.rows.patches, caller);
         let patch = reviewed_patch(&self.rows.patches, review);
         let labels = review.labels.as_slice();
-        give(alloc, &mut edited.votes, patch, caller, labels)?;
+        give(&mut edited.votes, patch, caller, labels)?;
         review_roles(&mut edited.roles, review, who.owner, caller)?;
         let origin = Origin {
             patch,

@@ -22,9 +22,9 @@ pub fn begin_edits<'r>(
 {
     let header = &rows.header;
     let header = Header {
-        project: header.project.copy(alloc)?,
-        branch: header.branch.copy(alloc)?,
-        subject: header.subject.copy(alloc)?,
+        project: header.project.copy()?,
+        branch: header.branch.copy()?,
+        subject: header.subject.copy()?,
         owner: header.owner,
         state,
         wip: header.wip,

@@ -47,8 +47,8 @@ pub struct VoteKey {
 }
 
 impl Key for VoteKey {
-    fn copy(&self, alloc: Global) -> Result<VoteKey, AllocError> {
-        let label = self.label.copy(alloc)?;
+    fn copy(&self) -> Result<VoteKey, AllocError> {
+        let label = self.label.copy()?;
         Ok(VoteKey {
             patch: self.patch,
             label,
@@ -141,7 +141,7 @@ impl Comment {
     }
 
     /// A copy of the comment, which shares its row and takes no memory. An error where there are as many copies as can be counted.
-    pub fn copy(&self, _alloc: Global) -> Result<Comment, AllocError>
+    pub fn copy(&self) -> Result<Comment, AllocError>
         ensures { IfOk result (λ c. c ≡ self.now) }
     {
         let row = self.row.clone()?;

@@ -81,7 +81,7 @@ fn put_vote(
     if key.patch.get() as usize != current {
         return Ok(());
     }
-    let label = key.label.copy(alloc)?;
+    let label = key.label.copy()?;
     add_vote(alloc, votes, label, key.account, value)?;
     Ok(())
 }
@@ -98,17 +98,13 @@ fn votes_of(alloc: Global, rows: &[(&VoteKey, &Vote)], current: usize) -> Result
 }
 
 /// Puts the range of a label, where none of its name is there.
-fn add_range(
-    alloc: Global,
-    ranges: &mut BTreeMap<LabelName, ValueRange>,
-    label: &Label,
-) -> Result<(), AllocError>
+fn add_range(ranges: &mut BTreeMap<LabelName, ValueRange>, label: &Label) -> Result<(), AllocError>
     ensures { OnOk result ((l : List ℕ) → get (slice_cmp nat_cmp) ranges.new l ≡ option_or (get (slice_cmp nat_cmp) ranges.old l) (if bytes_eq label.now.name l then Some (range_of label.now) else None)) }
 {
     if ranges.contains_key(label.name()) {
         return Ok(());
     }
-    let name = label.name().copy(alloc)?;
+    let name = label.name().copy()?;
     let range = ValueRange {
         least: label.least(),
         greatest: label.greatest(),
@@ -122,7 +118,7 @@ fn ranges_of(alloc: Global, labels: &[Label]) -> Result<BTreeMap<LabelName, Valu
 {
     let mut ranges = BTreeMap::new(alloc);
     for label in labels {
-        add_range(alloc, &mut ranges, label)?;
+        add_range(&mut ranges, label)?;
     }
     Ok(ranges)
 }
@@ -181,7 +177,7 @@ pub fn facts_of(
     let votes = current_votes(alloc, &rows.votes, rows.patches.len())?;
     let ranges = ranges_of(alloc, file.labels())?;
     let paths = paths_of(alloc, &rows.patches)?;
-    let branch = rows.header.branch.copy(alloc)?;
+    let branch = rows.header.branch.copy()?;
     let unresolved = has_unresolved(alloc, &rows.comments)?;
     Ok(ChangeFacts {
         votes,

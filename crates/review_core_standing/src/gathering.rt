@@ -29,12 +29,12 @@ fn number_after(count: usize) -> CommentNo
     }
 }
 
-fn shown(alloc: Global, number: CommentNo, comment: &Comment) -> Result<ShownComment, AllocError>
+fn shown(number: CommentNo, comment: &Comment) -> Result<ShownComment, AllocError>
     ensures { IfOk result (λ x. x ≡ shown_comment number comment.now) }
 {
     let comment = comment.row();
-    let path = comment.path.copy(alloc)?;
-    let message = comment.message.copy(alloc)?;
+    let path = comment.path.copy()?;
+    let message = comment.message.copy()?;
     Ok(ShownComment {
         number,
         patch: comment.patch,
@@ -102,7 +102,7 @@ fn gather(alloc: Global, comments: &[Comment]) -> Result<Vec<Gathered>, AllocErr
     let mut places = Vec::new(alloc);
     for comment in comments {
         let place = place_of(&places, gathered.len(), comment);
-        let shown = shown(alloc, number_after(places.len()), comment)?;
+        let shown = shown(number_after(places.len()), comment)?;
         put_in(alloc, &mut gathered, place, shown)?;
         places.push(place)?;
     }

@@ -98,7 +98,7 @@ fn all_standing(
 {
     let mut shown = Vec::new(alloc);
     for requirement in requirements {
-        let name = requirement.name().copy(alloc)?;
+        let name = requirement.name().copy()?;
         let status = status_of(alloc, requirement, change)?;
         shown.push(ShownRequirement { name, status })?;
     }

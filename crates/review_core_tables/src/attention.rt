@@ -15,7 +15,7 @@ pub trait Rule {
     ghost calls: { Self → ℕ → Option Why };
 
     /// Why the rule calls an account. An error where there was no memory to find out.
-    fn call(&self, alloc: Global, account: AccountNo) -> Result<Option<Why>, AllocError>
+    fn call(&self, account: AccountNo) -> Result<Option<Why>, AllocError>
         ensures { IfOk result (λ why. why ≡ calls self.now account) };
 }
 
@@ -33,7 +33,7 @@ fn call_one<R: Rule>(
     if attention.get(&account).is_some() {
         return Ok(());
     }
-    let Some(why) = rule.call(alloc, account)? else {
+    let Some(why) = rule.call(account)? else {
         return Ok(());
     };
     let reason = reason_of(alloc, why)?;
@@ -132,7 +132,6 @@ pub fn drop_called(
 
 /// Calls an account by hand, unless it is in.
 pub fn tell(
-    alloc: Global,
     attention: &mut Edited<'_, AccountNo, AttentionEntry>,
     account: AccountNo,
     reason: &Reason,
@@ -144,6 +143,6 @@ pub fn tell(
     if attention.get(&account).is_some() {
         return Ok(());
     }
-    let reason = reason.copy(alloc)?;
+    let reason = reason.copy()?;
     attention.set(account, Some(AttentionEntry { reason, request }))
 }

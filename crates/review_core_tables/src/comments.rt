@@ -40,8 +40,8 @@ fn stored_as(
 ) -> Result<Comment, AllocError>
     ensures { IfOk result (λ row. row ≡ stored_as stored.now origin.now.patch origin.now.author origin.now.request new.now) }
 {
-    let path = new.path.copy(alloc)?;
-    let message = new.message.copy(alloc)?;
+    let path = new.path.copy()?;
+    let message = new.message.copy()?;
     let unresolved = match answered(stored, new) {
         Some(comment) => comment.row().unresolved,
         None => false,
@@ -117,7 +117,7 @@ fn add_message(
         said.push(NewComment {
             path: patch_set_level(alloc)?,
             line: 0,
-            message: message.copy(alloc)?,
+            message: message.copy()?,
             unresolved: Some(false),
             in_reply_to: None,
         })?;

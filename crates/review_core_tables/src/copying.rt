@@ -187,7 +187,7 @@ fn part_one(
         return Ok(());
     }
     if is_copied(alloc, conditions, facts, groups, key, vote.get())? {
-        let label = key.label.copy(alloc)?;
+        let label = key.label.copy()?;
         let copy = VoteKey {
             patch: next,
             label,
@@ -196,7 +196,7 @@ fn part_one(
         parted.copied.push((copy, vote))?;
         return Ok(());
     }
-    parted.lost.push(Key::copy(key, alloc)?)?;
+    parted.lost.push(Key::copy(key)?)?;
     Ok(())
 }
 

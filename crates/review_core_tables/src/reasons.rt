@@ -5,7 +5,7 @@ ghost use Rattle.review_names.specs.{Forms.is_line, Numerals.numeral};
 ghost use Rattle.review_core_rules.specs.Change.{reason_of};
 
 use review_core_rules::Why;
-use review_words::{AccountNo, BadName, LabelName, Reason, label_form};
+use review_words::{AccountNo, Bad, LabelName, Reason, label_form};
 use std::alloc::{AllocError, Global};
 
 fn worded(alloc: Global, text: &str) -> Result<Reason, AllocError>
@@ -14,8 +14,8 @@ fn worded(alloc: Global, text: &str) -> Result<Reason, AllocError>
 {
     match Reason::read(alloc, text) {
         Ok(reason) => Ok(reason),
-        Err(BadName::Memory) => Err(AllocError),
-        Err(BadName::Form) => unreachable!(),
+        Err(Bad::Memory) => Err(AllocError),
+        Err(Bad::Form) => unreachable!(),
     }
 }
 

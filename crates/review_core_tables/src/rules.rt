@@ -14,7 +14,7 @@ use review_core_rules::{Comment, Post, VoteKey, Why};
 use review_file::Label;
 use review_table::Table;
 use review_words::{AccountNo, LabelName, NewComment, Role};
-use std::alloc::{AllocError, Global};
+use std::alloc::AllocError;
 
 /// A change is ready: each reviewer is called.
 #[derive(Drop)]
@@ -25,7 +25,7 @@ pub struct WhenReady<'a> {
 impl<'a> Rule for WhenReady<'a> {
     ghost calls = { λ r u. if is_reviewer (of_account r.roles.now u) then Some Ready else None };
 
-    fn call(&self, _alloc: Global, account: AccountNo) -> Result<Option<Why>, AllocError> {
+    fn call(&self, account: AccountNo) -> Result<Option<Why>, AllocError> {
         if is_reviewer(self.roles.get(&account).copied()) {
             return Ok(Some(Why::Ready));
         }
@@ -43,7 +43,7 @@ pub struct WhenAdded {
 impl Rule for WhenAdded {
     ghost calls = { λ r u. if (r.account == u) && r.is_called then Some Added else None };
 
-    fn call(&self, _alloc: Global, account: AccountNo) -> Result<Option<Why>, AllocError> {
+    fn call(&self, account: AccountNo) -> Result<Option<Why>, AllocError> {
         if self.account == account && self.is_called {
             return Ok(Some(Why::Added));
         }
@@ -69,7 +69,7 @@ pub struct WhenReviewed<'a> {
 impl<'a> Rule for WhenReviewed<'a> {
     ghost calls = { λ r u. if r.is_open then why_replied r.stored.now r.given.now r.caller r.owner r.uploader u else why_commented r.new.now r.caller r.owner u };
 
-    fn call(&self, _alloc: Global, account: AccountNo) -> Result<Option<Why>, AllocError> {
+    fn call(&self, account: AccountNo) -> Result<Option<Why>, AllocError> {
         if self.is_open {
             return Ok(why_replied(self, account));
         }
@@ -156,8 +156,8 @@ pub struct WhenLost<'a> {
 impl<'a> Rule for WhenLost<'a> {
     ghost calls = { λ r u. lost_label r.labels.now r.lost.now u };
 
-    fn call(&self, alloc: Global, account: AccountNo) -> Result<Option<Why>, AllocError> {
-        lost_label(alloc, self.labels, self.lost, account)
+    fn call(&self, account: AccountNo) -> Result<Option<Why>, AllocError> {
+        lost_label(self.labels, self.lost, account)
     }
 }
 
@@ -174,7 +174,6 @@ fn has_lost(lost: &[VoteKey], label: &LabelName, account: AccountNo) -> bool
 
 /// The first label on which an account lost its vote.
 fn lost_label(
-    alloc: Global,
     labels: &[Label],
     lost: &[VoteKey],
     account: AccountNo,
@@ -183,7 +182,7 @@ fn lost_label(
 {
     for label in labels {
         if has_lost(lost, label.name(), account) {
-            let name = label.name().copy(alloc)?;
+            let name = label.name().copy()?;
             return Ok(Some(Why::NotCopied(name)));
         }
     }

@@ -38,7 +38,6 @@ fn set_vote(
 
 /// Gives the votes of a review.
 pub fn give(
-    alloc: Global,
     votes: &mut Edited<'_, VoteKey, Vote>,
     patch: PatchNo,
     account: AccountNo,
@@ -48,7 +47,7 @@ pub fn give(
     ensures votes { OnOk result ((n : ℕ) (l : List ℕ) (a : ℕ) → edited_vote votes.new n l a ≡ (if (patch == n) && (account == a) then given_or labels.now l (edited_vote votes.old n l a) else edited_vote votes.old n l a)) }
 {
     for given in labels {
-        let label = given.label.copy(alloc)?;
+        let label = given.label.copy()?;
         let key = VoteKey {
             patch,
             label,
@@ -79,7 +78,7 @@ fn keys_of(
     let all = votes.keys(alloc)?;
     for key in &all {
         if is_of(key, patch, account) {
-            keys.push(Key::copy(*key, alloc)?)?;
+            keys.push(Key::copy(*key)?)?;
         }
     }
     Ok(keys)

@@ -35,53 +35,31 @@ pub fn push_three(
 }
 
 /// Adds the line of an account in a role.
+#[tactic(auto, using(review_names::proofs::Numerals::decimal_numeral))]
 pub fn push_role(text: &mut String, role: &str, account: AccountNo) -> Result<(), AllocError>
     ensures { OnOk result (string_bytes text.new ≡ string_bytes text.old ++ role_line role.now account) }
 {
-    push_number(text, role, account.get() as u64)
-}
-
-/// Adds a line of a word and a number.
-#[tactic(auto, using(review_names::proofs::Numerals::decimal_numeral))]
-fn push_number(text: &mut String, word: &str, number: u64) -> Result<(), AllocError>
-    ensures { OnOk result (string_bytes text.new ≡ string_bytes text.old ++ line (word.now ∷ numeral number ∷ [])) }
-{
-    write!(text, "{word} {number}\n")
-}
-
-#[tactic(auto, using(review_names::proofs::Numerals::decimal_numeral))]
-fn push_state_words(text: &mut String, change: u64, state: &str) -> Result<(), AllocError>
-    ensures { OnOk result (string_bytes text.new ≡ string_bytes text.old ++ line (codes "change" ∷ numeral change ∷ state.now ∷ [])) }
-{
-    write!(text, "change {change} {state}\n")
+    let account = account.get() as u64;
+    write!(text, "{role} {account}\n")
 }
 
 /// Adds the line of where a change stands.
-pub fn push_state(text: &mut String, change: &ShownChange) -> Result<(), AllocError>
-    ensures { OnOk result (string_bytes text.new ≡ string_bytes text.old ++ state_line change.now) }
-{
-    push_state_words(text, change.change.get() as u64, change.state.name())
-}
-
 #[tactic(auto, using(review_names::proofs::Numerals::decimal_numeral))]
-fn push_patch_words(
-    text: &mut String,
-    patch: u64,
-    commit: &str,
-    uploader: u64,
-) -> Result<(), AllocError>
-    ensures { OnOk result (string_bytes text.new ≡ string_bytes text.old ++ line (codes "patch" ∷ codes "set" ∷ numeral patch ∷ commit.now ∷ codes "by" ∷ numeral uploader ∷ [])) }
+pub fn push_state(text: &mut String, shown: &ShownChange) -> Result<(), AllocError>
+    ensures { OnOk result (string_bytes text.new ≡ string_bytes text.old ++ state_line shown.now) }
 {
-    write!(text, "patch set {patch} {commit} by {uploader}\n")
+    let (change, state) = (shown.change.get() as u64, shown.state.name());
+    write!(text, "change {change} {state}\n")
 }
 
 /// Adds the line of the current patch set.
+#[tactic(auto, using(review_names::proofs::Numerals::decimal_numeral))]
 pub fn push_patch(text: &mut String, change: &ShownChange) -> Result<(), AllocError>
     ensures { OnOk result (string_bytes text.new ≡ string_bytes text.old ++ patch_line change.now) }
 {
-    let patch = change.patch.get() as u64;
+    let (patch, commit) = (change.patch.get() as u64, change.commit.as_str());
     let uploader = change.uploader.get() as u64;
-    push_patch_words(text, patch, change.commit.as_str(), uploader)
+    write!(text, "patch set {patch} {commit} by {uploader}\n")
 }
 
 fn plus(value: i8) -> &'static str
@@ -105,25 +83,15 @@ fn vote_value(alloc: Global, value: i8) -> Result<String, AllocError>
     format!(in alloc; "{}{}", plus(value), number.as_str())
 }
 
-#[tactic(auto, using(review_names::proofs::Numerals::decimal_numeral))]
-fn push_vote_words(
-    text: &mut String,
-    label: &str,
-    value: &str,
-    account: u64,
-) -> Result<(), AllocError>
-    ensures { OnOk result (string_bytes text.new ≡ string_bytes text.old ++ line (codes "vote" ∷ label.now ∷ value.now ∷ codes "by" ∷ numeral account ∷ [])) }
-{
-    write!(text, "vote {label} {value} by {account}\n")
-}
-
 /// Adds the line of a vote.
+#[tactic(auto, using(review_names::proofs::Numerals::decimal_numeral))]
 pub fn push_vote(alloc: Global, text: &mut String, vote: &ShownVote) -> Result<(), AllocError>
     ensures { OnOk result (string_bytes text.new ≡ string_bytes text.old ++ vote_line vote.now) }
 {
     let value = vote_value(alloc, vote.value)?;
+    let (label, value) = (vote.label.as_str(), value.as_str());
     let account = vote.account.get() as u64;
-    push_vote_words(text, vote.label.as_str(), value.as_str(), account)
+    write!(text, "vote {label} {value} by {account}\n")
 }
 
 /// Adds the line of a submit requirement.
@@ -156,22 +124,11 @@ pub fn push_attention(text: &mut String, call: &ShownAttentionEntry) -> Result<(
     push_attention_words(text, account, call.request, call.reason.as_str())
 }
 
-#[tactic(auto, using(review_names::proofs::Numerals::decimal_numeral))]
-fn push_joined_words(
-    text: &mut String,
-    place: u64,
-    change: u64,
-    commit: &str,
-) -> Result<(), AllocError>
-    ensures { OnOk result (string_bytes text.new ≡ string_bytes text.old ++ line (numeral place ∷ numeral change ∷ commit.now ∷ [])) }
-{
-    write!(text, "{place} {change} {commit}\n")
-}
-
 /// Adds the line of a change that joined its branch at a place.
+#[tactic(auto, using(review_names::proofs::Numerals::decimal_numeral))]
 pub fn push_joined(text: &mut String, place: u64, joined: &JoinedChange) -> Result<(), AllocError>
     ensures { OnOk result (string_bytes text.new ≡ string_bytes text.old ++ joined_line place joined.now) }
 {
-    let change = joined.change.get() as u64;
-    push_joined_words(text, place, change, joined.commit.as_str())
+    let (change, commit) = (joined.change.get() as u64, joined.commit.as_str());
+    write!(text, "{place} {change} {commit}\n")
 }

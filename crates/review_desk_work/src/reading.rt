@@ -8,7 +8,7 @@ use crate::command::desk_command;
 use crate::job::Job;
 use crate::words_fault::WordsFault;
 use clap::ArgMatches;
-use review_names::{BadName, BranchName, ChangeNo, ProjectName, read_number};
+use review_names::{Bad, BranchName, ChangeNo, ProjectName, read_number};
 use std::alloc::Global;
 
 fn is_command(word: &str) -> bool
@@ -110,8 +110,8 @@ fn project_in(alloc: Global, matches: &ArgMatches<'_>) -> Result<ProjectName, Wo
     };
     match ProjectName::read(alloc, text) {
         Ok(name) => Ok(name),
-        Err(BadName::Form) => Err(WordsFault::Project),
-        Err(BadName::Memory) => Err(WordsFault::Memory),
+        Err(Bad::Form) => Err(WordsFault::Project),
+        Err(Bad::Memory) => Err(WordsFault::Memory),
     }
 }
 
@@ -123,8 +123,8 @@ fn branch_in(alloc: Global, matches: &ArgMatches<'_>) -> Result<BranchName, Word
     };
     match BranchName::read(alloc, text) {
         Ok(name) => Ok(name),
-        Err(BadName::Form) => Err(WordsFault::Branch),
-        Err(BadName::Memory) => Err(WordsFault::Memory),
+        Err(Bad::Form) => Err(WordsFault::Branch),
+        Err(Bad::Memory) => Err(WordsFault::Memory),
     }
 }
 

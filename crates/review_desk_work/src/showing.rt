@@ -51,15 +51,11 @@ fn write_change<W: Write>(alloc: Global, replies: &[Reply], writer: &mut W) -> R
     }
 }
 
-fn branch_question(
-    alloc: Global,
-    project: &ProjectName,
-    branch: &BranchName,
-) -> Result<Delivery, AllocError>
+fn branch_question(project: &ProjectName, branch: &BranchName) -> Result<Delivery, AllocError>
     ensures { IfOk result (λ d. d ∷ [] ≡ branch_questions project.now branch.now) }
 {
-    let project = project.copy(alloc)?;
-    let branch = branch.copy(alloc)?;
+    let project = project.copy()?;
+    let branch = branch.copy()?;
     Ok(Delivery::Read {
         caller: AccountNo::first(),
         query: Query::Branch { project, branch },
@@ -80,7 +76,7 @@ pub fn joined_lines<S: Shelf, D: Rules, W: Write>(
 ) -> Result<(), ShowFault>
     ensures { Showed (branch_questions project.now branch.now) joined_page (W.contents writer.old) (W.contents writer.new) result (S.state shelf.old) (S.state shelf.new) }
 {
-    let Ok(question) = branch_question(alloc, project, branch) else {
+    let Ok(question) = branch_question(project, branch) else {
         return Err(ShowFault::Memory);
     };
     let replies = replies_to(alloc, shelf, rules, &[question]);

@@ -56,7 +56,7 @@ fn set_of(alloc: Global, names: Vec<&LabelName>) -> Result<BTreeSet<LabelName>, 
     let mut set = BTreeSet::new(alloc);
     let mut rest = names;
     while let Some(name) = rest.pop() {
-        set.insert(name.copy(alloc)?)?;
+        set.insert(name.copy()?)?;
     }
     Ok(set)
 }

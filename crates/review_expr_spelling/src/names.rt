@@ -5,7 +5,7 @@ ghost use Rattle.review_expr_terms.specs.Words.{IsWordFault};
 ghost use Rattle.review_expr_spelling.specs.Words.{in_value, IsUnread, formed};
 
 use review_expr_terms::{Pattern, PatternFault, WordFault};
-use review_names::{BadName, Form, Name};
+use review_names::{Bad, Form, Name};
 use std::alloc::Global;
 
 /// A name of a form.
@@ -15,8 +15,8 @@ pub fn read_name<F: Form>(alloc: Global, text: &str) -> Result<Name<F>, WordFaul
 {
     match Name::read(alloc, text) {
         Ok(name) => Ok(name),
-        Err(BadName::Form) => Err(WordFault::BadValue),
-        Err(BadName::Memory) => Err(WordFault::Memory),
+        Err(Bad::Form) => Err(WordFault::BadValue),
+        Err(Bad::Memory) => Err(WordFault::Memory),
     }
 }
 

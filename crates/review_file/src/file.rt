@@ -116,7 +116,7 @@ impl Label {
     }
 
     /// A copy of the label, which shares its parts and takes no memory. An error where there are as many copies as can be counted.
-    pub fn copy(&self, _alloc: Global) -> Result<Label, AllocError>
+    pub fn copy(&self) -> Result<Label, AllocError>
         ensures { IfOk result (λ l. l ≡ self.now) }
     {
         let parts = self.parts.clone()?;
@@ -254,7 +254,7 @@ impl Requirement {
     }
 
     /// A copy of the requirement, which shares its parts and takes no memory. An error where there are as many copies as can be counted.
-    pub fn copy(&self, _alloc: Global) -> Result<Requirement, AllocError>
+    pub fn copy(&self) -> Result<Requirement, AllocError>
         ensures { IfOk result (λ r. r ≡ self.now) }
     {
         let parts = self.parts.clone()?;
@@ -371,7 +371,7 @@ impl ProjectFile {
     }
 
     /// A copy of the file, which shares its parts and takes no memory. An error where there are as many copies as can be counted.
-    pub fn copy(&self, _alloc: Global) -> Result<ProjectFile, AllocError>
+    pub fn copy(&self) -> Result<ProjectFile, AllocError>
         ensures { IfOk result (λ f. f ≡ self.now) }
     {
         let content = self.content.clone()?;
@@ -400,11 +400,11 @@ impl ProjectFile {
     }
 
     /// A copy of the parent. An error where there was no memory for it.
-    pub fn copied_parent(&self, alloc: Global) -> Result<Option<ProjectName>, AllocError>
+    pub fn copied_parent(&self) -> Result<Option<ProjectName>, AllocError>
         ensures { IfOk result (λ p. p ≡ self.now.parent) }
     {
         match self.parent() {
-            Some(name) => Ok(Some(name.copy(alloc)?)),
+            Some(name) => Ok(Some(name.copy()?)),
             None => Ok(None),
         }
     }

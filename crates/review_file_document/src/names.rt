@@ -8,7 +8,7 @@ ghost use Rattle.review_file_document.specs.Names.{has_bad_group, has_bad_name, 
 use crate::document::{MemberTest, some_member_at, text_at, text_of};
 use review_names::names::OfGroup;
 use review_names::places::{OfLabel, OfProject};
-use review_names::{BadName, Form, Name};
+use review_names::{Bad, Form, Name};
 use std::alloc::{AllocError, Global};
 use std::marker::PhantomData;
 use toml::Value;
@@ -20,8 +20,8 @@ pub fn name_of<F: Form>(alloc: Global, text: &str) -> Result<Option<Name<F>>, Al
 {
     match Name::read(alloc, text) {
         Ok(name) => Ok(Some(name)),
-        Err(BadName::Form) => Ok(None),
-        Err(BadName::Memory) => Err(AllocError),
+        Err(Bad::Form) => Ok(None),
+        Err(Bad::Memory) => Err(AllocError),
     }
 }
 

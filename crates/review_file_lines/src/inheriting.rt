@@ -40,7 +40,7 @@ pub trait Named: Drop + Sized {
     fn name(&self) -> &LabelName
         ensures { result.now ≡ name_of self.now };
 
-    fn copy(&self, alloc: Global) -> Result<Self, AllocError>
+    fn copy(&self) -> Result<Self, AllocError>
         ensures { IfOk result (λ x. x ≡ self.now) };
 }
 
@@ -53,8 +53,8 @@ impl Named for Label {
         Label::name(self)
     }
 
-    fn copy(&self, alloc: Global) -> Result<Label, AllocError> {
-        Label::copy(self, alloc)
+    fn copy(&self) -> Result<Label, AllocError> {
+        Label::copy(self)
     }
 }
 
@@ -67,8 +67,8 @@ impl Named for Requirement {
         Requirement::name(self)
     }
 
-    fn copy(&self, alloc: Global) -> Result<Requirement, AllocError> {
-        Requirement::copy(self, alloc)
+    fn copy(&self) -> Result<Requirement, AllocError> {
+        Requirement::copy(self)
     }
 }
 
@@ -113,11 +113,11 @@ fn put_by<N: Named>(things: &mut Vec<N>, thing: N) -> Result<(), AllocError>
 }
 
 // Puts all of these among others.
-fn put_all<N: Named>(alloc: Global, things: &mut Vec<N>, more: &[N]) -> Result<(), AllocError>
+fn put_all<N: Named>(things: &mut Vec<N>, more: &[N]) -> Result<(), AllocError>
     ensures { OnOk result (things.new.items ≡ fold (put_by N.name_of) things.old.items more.now) }
 {
     for thing in more {
-        put_by(things, thing.copy(alloc)?)?;
+        put_by(things, thing.copy()?)?;
     }
     Ok(())
 }
@@ -131,8 +131,8 @@ fn inherited_labels(
     ensures { IfOk result (λ labels. labels.items ≡ inherited_labels parent.now own.now) }
 {
     let mut labels = Vec::new(alloc);
-    put_all(alloc, &mut labels, parent)?;
-    put_all(alloc, &mut labels, own)?;
+    put_all(&mut labels, parent)?;
+    put_all(&mut labels, own)?;
     Ok(labels)
 }
 
@@ -160,7 +160,6 @@ fn counts(parent: &[Requirement], own: &Requirement) -> bool
 
 // Puts those of some own requirements that count among others.
 fn put_counting(
-    alloc: Global,
     requirements: &mut Vec<Requirement>,
     parent: &[Requirement],
     own: &[Requirement],
@@ -169,7 +168,7 @@ fn put_counting(
 {
     for requirement in own {
         if counts(parent, requirement) {
-            put_by(requirements, requirement.copy(alloc)?)?;
+            put_by(requirements, requirement.copy()?)?;
         }
     }
     Ok(())
@@ -184,8 +183,8 @@ fn inherited_requirements(
     ensures { IfOk result (λ requirements. requirements.items ≡ inherited_requirements parent.now own.now) }
 {
     let mut requirements = Vec::new(alloc);
-    put_all(alloc, &mut requirements, parent)?;
-    put_counting(alloc, &mut requirements, parent, own)?;
+    put_all(&mut requirements, parent)?;
+    put_counting(&mut requirements, parent, own)?;
     Ok(requirements)
 }
 
@@ -198,20 +197,16 @@ fn joined(
     ensures { IfOk result (λ groups. groups.items ≡ parent.now ++ own.now) }
 {
     let mut groups = Vec::new(alloc);
-    push_all(alloc, &mut groups, parent)?;
-    push_all(alloc, &mut groups, own)?;
+    push_all(&mut groups, parent)?;
+    push_all(&mut groups, own)?;
     Ok(groups)
 }
 
-fn push_all(
-    alloc: Global,
-    groups: &mut Vec<GroupName>,
-    more: &[GroupName],
-) -> Result<(), AllocError>
+fn push_all(groups: &mut Vec<GroupName>, more: &[GroupName]) -> Result<(), AllocError>
     ensures { OnOk result (groups.new.items ≡ groups.old.items ++ more.now) }
 {
     for group in more {
-        groups.push(group.copy(alloc)?)?;
+        groups.push(group.copy()?)?;
     }
     Ok(())
 }
@@ -247,7 +242,7 @@ fn inherited(alloc: Global, parent: &ProjectFile, own: &ProjectFile) -> Result<C
     let requirements = inherited_requirements(alloc, parent.requirements(), own.requirements())?;
     let access = joined_access(alloc, parent.access(), own.access())?;
     let description = own.copied_description(alloc)?;
-    let parent = own.copied_parent(alloc)?;
+    let parent = own.copied_parent()?;
     Ok(Content {
         parent,
         description,

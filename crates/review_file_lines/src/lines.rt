@@ -47,7 +47,7 @@ impl ReadLine {
         ensures texts { IfOk result (λ l. l.texts ≡ own.text ∷ []) }
         ensures file { IfOk result (λ l. l.file ≡ own.file) }
     {
-        let file = own.file().copy(alloc)?;
+        let file = own.file().copy()?;
         let mut texts = Vec::new(alloc);
         texts.push(own.into_text())?;
         let texts = Rc::new(alloc, texts)?;
@@ -82,7 +82,7 @@ impl ReadLine {
     {
         let mut texts = Vec::new(alloc);
         texts.push(own.into_text())?;
-        push_texts(alloc, &mut texts, self.texts())?;
+        push_texts(&mut texts, self.texts())?;
         Ok(Rc::new(alloc, texts)?)
     }
 
@@ -94,10 +94,10 @@ impl ReadLine {
     }
 
     /// A copy of the line, which shares its files and takes no memory. An error where there are as many copies as can be counted.
-    pub fn copy(&self, alloc: Global) -> Result<ReadLine, AllocError>
+    pub fn copy(&self) -> Result<ReadLine, AllocError>
         ensures { IfOk result (λ l. l ≡ self.now) }
     {
-        let file = self.file.copy(alloc)?;
+        let file = self.file.copy()?;
         let texts = self.texts.clone()?;
         Ok(ReadLine { texts, file })
     }
@@ -135,11 +135,11 @@ impl ReadLine {
     }
 }
 
-fn push_texts(alloc: Global, texts: &mut Vec<FileText>, more: &[FileText]) -> Result<(), AllocError>
+fn push_texts(texts: &mut Vec<FileText>, more: &[FileText]) -> Result<(), AllocError>
     ensures { OnOk result (texts.new.items ≡ texts.old.items ++ more.now) }
 {
     for text in more {
-        texts.push(text.copy(alloc)?)?;
+        texts.push(text.copy()?)?;
     }
     Ok(())
 }

@@ -47,7 +47,7 @@ impl FileMemo {
     {
         match self.read_text(alloc, text) {
             Ok(read) => {
-                let parent = read.file().copied_parent(alloc)?;
+                let parent = read.file().copied_parent()?;
                 self.ahead = Some(read);
                 Ok(parent)
             }
@@ -76,16 +76,11 @@ impl FileMemo {
     }
 
     /// Remembers the line of a project in place of what was remembered. An `Err` changes nothing.
-    pub fn keep(
-        &mut self,
-        alloc: Global,
-        project: &ProjectName,
-        line: ReadLine,
-    ) -> Result<(), AllocError>
+    pub fn keep(&mut self, project: &ProjectName, line: ReadLine) -> Result<(), AllocError>
         ensures kept { OnOk result ((q : _) → row_in (slice_cmp nat_cmp) (rows_of self.new.lines) q ≡ (if is_at (slice_cmp nat_cmp project.now) q then Some line else row_in (slice_cmp nat_cmp) (rows_of self.old.lines) q)) }
         ensures same { OnErr result (rows_of self.new.lines ≡ rows_of self.old.lines) }
     {
-        let key = project.copy(alloc)?;
+        let key = project.copy()?;
         self.lines.put(key, line)
     }
 
@@ -107,7 +102,7 @@ impl FileMemo {
         ensures each { (q : _) → IsKept (own.now ∷ above.now) q (row_in (slice_cmp nat_cmp) (rows_of self.old.lines) q) (row_in (slice_cmp nat_cmp) (rows_of self.new.lines) q) }
     {
         match self.lines.get(own.project) {
-            Some(line) if line.is_of(own, above) => Ok(line.copy(alloc)?),
+            Some(line) if line.is_of(own, above) => Ok(line.copy()?),
             Some(_) | None => self.read(alloc, own, above),
         }
     }
@@ -128,8 +123,8 @@ impl FileMemo {
     {
         let read = ReadText::read(alloc, own.text)?;
         let line = self.after(alloc, read, above)?;
-        let kept = line.copy(alloc)?;
-        let _ = self.keep(alloc, own.project, kept);
+        let kept = line.copy()?;
+        let _ = self.keep(own.project, kept);
         Ok(line)
     }
 

@@ -38,7 +38,7 @@ impl ReadText {
         ensures pattern { IfErr result (λ f. f ≡ ReadFault.Pattern → HasPattern text.now) }
     {
         let file = read_file(alloc, text.as_str())?;
-        match text.copy(alloc) {
+        match text.copy() {
             Ok(text) => Ok(ReadText { text, file }),
             Err(_) => Err(ReadFault::Memory),
         }

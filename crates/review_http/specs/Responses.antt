@@ -4,7 +4,7 @@ use Rattle.http.specs.StatusCode.{status_text}
 use Rattle.serde_json.specs.{Data.Data, Data.string, Data.object, Data.no_members, Data.member, Written.compact_text}
 use Rattle.review_words.specs.{Refusals.refusal_status, declared.reply.Reply.Reply}
 use Rattle.review_words.specs.declared.reply.Reply.TheVariants.{Done, Refused, IdentityReused, EpochClosed, NotTaken}
-use Rattle.review_http_requests.specs.{Methods.methods_text, declared.http_fault.HttpFault.HttpFault}
+use Rattle.review_http_requests.specs.{Routes.methods_text, declared.http_fault.HttpFault.HttpFault}
 use Rattle.review_http_requests.specs.declared.http_fault.HttpFault.TheVariants.{BadHead, HeadTooLarge, NoRoute, Method, NoCaller, NoRequestId, BadEpoch, LengthRequired, TooLarge, BadBody}
 use Rattle.review_json.specs.Answer.{reply_data}
 
@@ -60,7 +60,7 @@ text_of (Err fault) = compact_text (fault_data fault)
 unfoldable pub status_line : ℕ → List ℕ
 status_line status = status_text status
 
--- the methods that a resource takes, where one was asked for that is none of them
+-- the methods that a path takes, where one was asked for that is none of them
 abbrev pub allow_line : Result Reply HttpFault → List ℕ
 allow_line (Err (Method methods)) = codes "Allow: " ++ methods_text methods ++ codes "\r\n"
 allow_line told = []

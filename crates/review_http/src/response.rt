@@ -2,7 +2,7 @@
 ghost use Rattle.std.specs.Prelude.{◌≡◌, ◌++◌, ◌+◌, IfOk, OnOk, codes, decimal, length, string_bytes};
 ghost use Rattle.http.specs.StatusCode.{IsStatusCode};
 ghost use Rattle.serde_json.specs.{View.view, Written.compact_text};
-ghost use Rattle.review_http.specs.Responses.{fault_data, text_of, status_line, allow_line, response_with, response, status_of};
+ghost use Rattle.review_http.specs.Responses.{fault_data, status_line, allow_line, response_with, response, status_of};
 
 use crate::status::{fault_name, status_of};
 use http::StatusCode;
@@ -28,15 +28,6 @@ fn fault_text(alloc: Global, fault: HttpFault) -> Result<String, AllocError>
     value.to_string(alloc)
 }
 
-fn text_of(alloc: Global, told: &Result<Reply, HttpFault>) -> Result<String, AllocError>
-    ensures { IfOk result (λ text. string_bytes text ≡ text_of told.now) }
-{
-    match told {
-        Ok(reply) => answer_text(alloc, reply),
-        Err(fault) => fault_text(alloc, *fault),
-    }
-}
-
 /// Puts the status with its phrase, as `http` writes it.
 #[tactic(auto, unfolding(crate::specs::Responses::status_line))]
 fn put_status(out: &mut Vec<u8>, alloc: Global, status: u16) -> Result<(), AllocError>
@@ -59,7 +50,7 @@ fn put_number(out: &mut Vec<u8>, alloc: Global, n: u64) -> Result<(), AllocError
     out.extend_from_slice(text.as_bytes())
 }
 
-/// Puts the methods that a resource takes, where one was asked for that is none of them.
+/// Puts the methods that a path takes, where one was asked for that is none of them.
 fn put_allow(out: &mut Vec<u8>, told: &Result<Reply, HttpFault>) -> Result<(), AllocError>
     ensures { OnOk result (out.new.items ≡ out.old.items ++ allow_line told.now) }
 {
@@ -99,6 +90,9 @@ fn response_with(
 pub fn response_of(alloc: Global, told: &Result<Reply, HttpFault>) -> Result<Vec<u8>, AllocError>
     ensures { IfOk result (λ v. v.items ≡ response told.now) }
 {
-    let text = text_of(alloc, told)?;
+    let text = match told {
+        Ok(reply) => answer_text(alloc, reply)?,
+        Err(fault) => fault_text(alloc, *fault)?,
+    };
     response_with(alloc, told, text.as_str())
 }

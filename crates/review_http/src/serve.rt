@@ -39,24 +39,6 @@ pub enum ServeFault {
 }
 
 /// Writes the response that tells a reply or a fault.
-fn respond<W: Write>(
-    alloc: Global,
-    writer: &mut Counted<W>,
-    told: &Result<Reply, HttpFault>,
-) -> Result<Served, ServeFault>
-    ensures written { (text : List ℕ) × Appends (W.contents (inner_of writer.old)) (W.contents (inner_of writer.new)) text × IsWritten told.now text result }
-    ensures write { result ≡ Err ServeFault.Write → faults_of writer.new ≡ one_more (faults_of writer.old) }
-{
-    let Ok(response) = response_of(alloc, told) else {
-        return Err(ServeFault::Memory);
-    };
-    match write_and_flush(writer, response.as_slice()) {
-        Ok(()) => Ok(Served::Answered(status_of(told))),
-        Err(_) => Err(ServeFault::Write),
-    }
-}
-
-/// Writes the response to a reply or a fault, and lets go of it here, where there is no `?`.
 fn tell<W: Write>(
     alloc: Global,
     writer: &mut Counted<W>,
@@ -65,7 +47,13 @@ fn tell<W: Write>(
     ensures written { (text : List ℕ) × Appends (W.contents (inner_of writer.old)) (W.contents (inner_of writer.new)) text × IsWritten told text result }
     ensures write { result ≡ Err ServeFault.Write → faults_of writer.new ≡ one_more (faults_of writer.old) }
 {
-    respond(alloc, writer, &told)
+    let Ok(response) = response_of(alloc, &told) else {
+        return Err(ServeFault::Memory);
+    };
+    match write_and_flush(writer, response.as_slice()) {
+        Ok(()) => Ok(Served::Answered(status_of(&told))),
+        Err(_) => Err(ServeFault::Write),
+    }
 }
 
 /// Reads a request, takes the delivery that its bytes call for, and writes the response.

@@ -1,12 +1,8 @@
 -- Bytes and segments, one after the other.
-use Rattle.std.proofs.Common.{◌++◌, ℕ, List, [], Bool, false, Option, true≢false, sym, ◌≡◌, ◌+◌, ◌≤◌, ◌==◌, take, drop, length, subst, arith, take-append-drop, if◌then◌else◌, ◌<◌, zero, suc, ◌∷◌, refl, ap₂, ◌∙◌, add-one, slice_index_or, ◌-◌, ◌*◌, true, min, Some, None, option_map, ap}
-use Rattle.std.proofs.KnownBytes.{Consumes-nil, Consumes-trans, Appends-trans}
-use Rattle.std.proofs.{Math.Seq.take-add, lemmas.Bool.Decides.nat_tests}
-use Rattle.std.specs.{Char.is_ascii_digit, Io.KnownBytes.Appends, List.position_or_len}
-use Rattle.review_names.proofs.Components.{is_slash, components_split, components_whole, Splits}
-use Rattle.review_names.specs.Forms.{components}
-use Rattle.review_http_requests.specs.Bytes.{Gave, IsFirstPart}
-use Rattle.review_http_requests.specs.{Counts.one_more, Heads.digits_after, Heads.most, Resources.segment}
+use Rattle.std.proofs.Common.{◌++◌, ℕ, List, [], Bool, false, Option, true≢false, sym, ◌≡◌, ◌+◌, ◌≤◌, ◌==◌, take, drop, length, subst, arith, take-append-drop, if◌then◌else◌, zero, suc, ◌∷◌, refl, slice_index_or, slice_get, unwrap_or, Bor, ◌-◌, ◌*◌, true, min, Some, None, option_map, ap}
+use Rattle.std.proofs.{KnownBytes.Consumes-nil, KnownBytes.Consumes-trans, KnownBytes.Appends-trans, Math.Seq.take-add}
+use Rattle.std.{proofs.lemmas.Bool.Decides.nat_tests, specs.Char.is_ascii_digit, specs.Io.KnownBytes.Appends}
+use Rattle.review_http_requests.specs.{Bytes.Gave, Bytes.IsFirstPart, Counts.one_more, Heads.digits_after, Heads.most}
 
 -- ==== what reads gave, one after the other
 
@@ -27,48 +23,15 @@ took_some n f some = grind (arith, nat_tests)
 pub first_part : (n : ℕ) (bs : List ℕ) → IsFirstPart (take n bs) bs
 first_part n bs = (drop n bs, sym (take-append-drop n bs))
 
--- ==== the segments of a path, one after the other
+-- ==== what stands at a place of a list
 
--- the segments after so many slashes are those of the rest
-abbrev pub IsLeft : ℕ → List ℕ → List ℕ → Type 0
-IsLeft index path rest = drop index (components path) ≡ components rest
-
-split : (rest front more : List ℕ) → Splits rest front more → components rest ≡ front ∷ components more
-split rest front more h = components_split rest h.2 ∙ ap₂ (λ a b. a ∷ components b) (sym h.0) (sym h.1)
-
-drop_suc : (k : ℕ) (xs : List (List ℕ)) (x : List ℕ) (ys : List (List ℕ)) → drop k xs ≡ x ∷ ys → drop (suc k) xs ≡ ys
-drop_suc zero [] x ys h = cc
-drop_suc zero (y ∷ xs) x ys h = cc
-drop_suc (suc k) [] x ys h = cc
-drop_suc (suc k) (y ∷ xs) x ys h = drop_suc k xs x ys h
-
-pub next : (index : ℕ) (path rest front more : List ℕ) → IsLeft index path rest → Splits rest front more → IsLeft (index + 1) path more
-next index path rest front more left h =
-    subst (λ (k : ℕ). drop k (components path) ≡ components more) (sym (add-one index)) (drop_suc index (components path) front (components more) (left ∙ split rest front more h))
-
-at_front : (k : ℕ) (xs : List (List ℕ)) (x : List ℕ) (ys : List (List ℕ)) → drop k xs ≡ x ∷ ys → slice_index_or xs k [] ≡ x
-at_front zero [] x ys h = cc
-at_front zero (y ∷ xs) x ys h = cc
-at_front (suc k) [] x ys h = cc
-at_front (suc k) (y ∷ xs) x ys h = at_front k xs x ys h
-
-pub found : (index : ℕ) (path rest front more : List ℕ) → IsLeft index path rest → Splits rest front more → front ≡ segment index path
-found index path rest front more left h = sym (at_front index (components path) front (components more) (left ∙ split rest front more h))
-
-pub last : (index : ℕ) (path rest : List ℕ) → IsLeft index path rest → position_or_len is_slash rest ≡ length rest → rest ≡ segment index path
-last index path rest left h = sym (at_front index (components path) rest [] (left ∙ components_whole rest h))
-
-past : (k j : ℕ) (xs : List (List ℕ)) (x : List ℕ) → drop k xs ≡ x ∷ [] → k < j → slice_index_or xs j [] ≡ []
-past zero zero xs x h lt = absurd (omega arith)
-past zero (suc j) [] x h lt = refl
-past zero (suc j) (y ∷ xs) x h lt = let e : xs ≡ [] = cc in rw e refl
-past (suc k) zero xs x h lt = absurd (omega arith)
-past (suc k) (suc j) [] x h lt = refl
-past (suc k) (suc j) (y ∷ xs) x h lt = past k j xs x h (omega arith)
-
--- a path with fewer slashes has no such segment
-pub none : (k index : ℕ) (path rest : List ℕ) → IsLeft k path rest → position_or_len is_slash rest ≡ length rest → k < index → [] ≡ segment index path
-none k index path rest left h lt = sym (past k index (components path) rest (left ∙ components_whole rest h) lt)
+-- what was found at a place is what stands there, or nothing
+pub at_or_nothing : (xs : List (List ℕ)) (index : ℕ) (found : Option (Bor (List ℕ))) (none : Bor (List ℕ)) → option_map (λ x. x.now) found ≡ slice_get xs index → none.now ≡ [] → (unwrap_or found none).now ≡ slice_index_or xs index []
+at_or_nothing [] index None none e n = n
+at_or_nothing [] index (Some y) none e n = cc
+at_or_nothing (x ∷ xs) zero None none e n = cc
+at_or_nothing (x ∷ xs) zero (Some y) none e n = cc
+at_or_nothing (x ∷ xs) (suc index) found none e n = at_or_nothing xs index found none e n
 
 -- ==== digits that are read up to a greatest number
 

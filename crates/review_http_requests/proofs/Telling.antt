@@ -10,15 +10,13 @@ use Rattle.{review_words.specs.declared.command.Delivery.Delivery, review_http_r
 use Rattle.review_http_requests.specs.{Bytes.Gave, Bytes.IsBrought, Counts.greatest, Counts.one_more, Heads.envelope}
 use Rattle.review_http_requests.specs.RequestLaws.{IsHeadFault, WasTold, IsToldOfInput}
 use Rattle.review_http_requests.specs.Wire.{front, HasHead, body_of, Follows, CallsFor, IsBadHead, IsHeadTooLarge, delivery_of, IsNotWhole, HasManyFields}
-use Rattle.review_http_requests.specs.declared.envelope.Envelope.{Envelope}
-use Rattle.review_http_requests.specs.declared.fault.{Refused.Refused, RequestFault.RequestFault}
+use Rattle.review_http_requests.specs.declared.{envelope.Envelope.Envelope, fault.RequestFault.RequestFault}
 use Rattle.review_http_requests.specs.declared.fault.RequestFault.TheVariants.{Empty, Http, Read, Reads, Memory}
 use Rattle.review_http_requests.specs.declared.http_fault.HttpFault.{HttpFault}
 use Rattle.review_http_requests.specs.declared.http_fault.HttpFault.TheVariants.{BadHead, HeadTooLarge}
 use Rattle.review_http_requests.specs.declared.judge.Look.{Look, TheVariants.Wants, TheVariants.Whole}
-use Rattle.review_http_requests.specs.inner.Words.{Judges, WaitsFor, Stands, IsFaultOf, Finishes, HeadIs, request_fault}
+use Rattle.review_http_requests.specs.inner.Words.{Judges, WaitsFor, Stands, IsFaultOf, Finishes, HeadIs}
 use Rattle.review_http_requests.specs.declared.fault.RequestFault.TheVariants as request
-use Rattle.review_http_requests.specs.declared.fault.Refused.TheVariants as refused
 
 -- ==== bytes that come after those that called for something change nothing of it
 
@@ -248,9 +246,12 @@ judged_head bytes h a ended (Err (request.Http g)) s e f = follows bytes h (Ok a
 judged_head bytes h a ended (Err request.Memory) s e f = tt
 judged_head bytes h a ended _ s e f = f
 
-pub judged_refused : (bytes : List ℕ) (ended : Bool) (e : Refused) → HeadIs (front bytes) (Err e) → Judges bytes ended (Err (request_fault e))
-judged_refused bytes ended (refused.Http f) h = judged_fault bytes ended f h
-judged_refused bytes ended refused.Memory h = tt
+pub judged_refused : (bytes : List ℕ) (ended : Bool) (e : RequestFault) → HeadIs (front bytes) (Err e) → Judges bytes ended (Err e)
+judged_refused bytes ended (request.Http f) h = judged_fault bytes ended f h
+judged_refused bytes ended request.Memory h = tt
+judged_refused bytes ended request.Empty h = absurd h
+judged_refused bytes ended request.Read h = absurd h
+judged_refused bytes ended request.Reads h = absurd h
 
 pub judged_body : (bytes : List ℕ) (n : ℕ) (a : Envelope) (ended : Bool) (r : Result Look RequestFault)
     → ((h : RequestHead) × Stands (front bytes) h × (n ≡ length (print_request h)) × (n ≤ length (front bytes)) × (envelope h ≡ Ok a))

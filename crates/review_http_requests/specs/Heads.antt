@@ -2,24 +2,26 @@
 use Rattle.std.specs.{Char.is_ascii_digit, Char.to_ascii_lowercase, List.before_first}
 use Rattle.std.specs.Prelude.{◌≡◌, Result, Ok, Err, Option, Some, None, ℕ, ◌+◌, ◌-◌, ◌*◌, List, [], ◌∷◌, map, Bool, if◌then◌else◌, ◌==◌, nat_le, option_and_then, codes}
 use Rattle.{std.specs.Str.bytes_eq, httparse.specs.Grammar.RequestHead, httparse.specs.Spans.name_and_value}
-use Rattle.review_names.specs.{Names.is_word, Numerals.account_of, Numerals.number_of}
-use Rattle.review_json_routes.specs.{Commands.is_question, Commands.needs_body, Parts.epoch_from, Parts.name_of_bytes}
-use Rattle.review_json_routes.specs.declared.{fault.BadBody.BadBody, route.Route.Route}
-use Rattle.review_http_requests.specs.{Methods.route_of, Resources.resource_of, declared.envelope.Envelope.Envelope}
-use Rattle.review_http_requests.specs.declared.fault.Refused.{Refused, TheVariants.Http, TheVariants.Memory}
+use Rattle.review_names.specs.{Names.is_word, Numerals.account_of, Numerals.number_of, declared.names.Bad.Bad}
+use Rattle.review_json_routes.specs.Commands.{is_question, needs_body}
+use Rattle.review_json_routes.specs.{Parts.epoch_from, Parts.name_of_bytes, declared.route.Route.Route}
+use Rattle.review_http_requests.specs.Routes.{methods_of, route_at, takes}
+use Rattle.review_http_requests.specs.{Table.place_of, declared.envelope.Envelope.Envelope}
+use Rattle.review_http_requests.specs.declared.fault.RequestFault.{RequestFault, TheVariants.Http, TheVariants.Memory}
 use Rattle.review_http_requests.specs.declared.http_fault.HttpFault.{HttpFault}
 use Rattle.review_http_requests.specs.declared.http_fault.HttpFault.TheVariants.{BadHead, NoRoute, Method, NoCaller, NoRequestId, BadEpoch, LengthRequired, TooLarge}
-use Rattle.review_http_requests.specs.declared.{methods.Methods.Methods, resources.Resource.Resource}
-use Rattle.review_json_routes.specs.declared.fault.BadBody.TheVariants as bad
+use Rattle.review_http_requests.specs.declared.table.Place.{Place}
+use Rattle.review_names.specs.declared.names.Bad.TheVariants as bad
 
 -- what was answered is what is expected, unless memory ran out
-abbrev pub Answers : {X : Type 0} → Result X Refused → Result X HttpFault → Type 0
+abbrev pub Answers : {X : Type 0} → Result X RequestFault → Result X HttpFault → Type 0
 Answers (Ok x) expected = expected ≡ Ok x
 Answers (Err (Http f)) expected = expected ≡ Err f
 Answers (Err Memory) expected = Unit {0}
+Answers (Err _) expected = ⊥
 
 -- this fault, unless memory ran out
-abbrev pub unless_memory : BadBody → HttpFault → Refused
+abbrev pub unless_memory : Bad → HttpFault → RequestFault
 unless_memory bad.Form f = Http f
 unless_memory bad.Memory f = Memory
 
@@ -93,46 +95,33 @@ most = 10000000
 abbrev pub path_of : List ℕ → List ℕ
 path_of target = before_first (λ b. b == 63) target
 
--- the route, or that the method is none of the resource's
-abbrev pub or_method : Result Route Methods → Result Route HttpFault
-or_method (Ok route) = Ok route
-or_method (Err methods) = Err (Method methods)
+-- the route of a path of a place, where the place takes the method
+abbrev pub if_taken : List ℕ → Place → Route → Result Route HttpFault
+if_taken method place route = if takes (methods_of place) method then Ok route else Err (Method (methods_of place))
 
--- what a method asks of a resource
-abbrev pub method_of : List ℕ → Resource → Result Route HttpFault
-method_of method resource = or_method (route_of method resource)
+-- what a method asks for by a path of a place: its segments are decoded before the method is looked at
+abbrev pub routed_at : List ℕ → List ℕ → Place → Result Route HttpFault
+routed_at method path place = or_fault NoRoute (route_at place (bytes_eq method (codes "GET")) path) >>= if_taken method place
 
--- what the path names, and what the method asks of it
-abbrev pub routed : List ℕ → List ℕ → Result Route HttpFault
-routed method path = or_fault NoRoute (resource_of path) >>= method_of method
-
--- the same by the target, of which the path is a part
-unfoldable pub routed_by : List ℕ → List ℕ → Result Route HttpFault
-routed_by method target = routed method (path_of target)
+-- what a method asks for by a path, which is routed before its segments are decoded
+unfoldable pub route_of : List ℕ → List ℕ → Result Route HttpFault
+route_of method path = or_fault NoRoute (place_of path) >>= routed_at method path
 
 -- ---- who asks, under which id, in which epoch
 
 -- one field `X-Account`, the number of an account
-unfoldable pub caller_of : Fields → Result ℕ HttpFault
-caller_of fields = or_fault NoCaller (option_and_then account_of (one_value (occurs (codes "x-account") fields)))
+abbrev pub caller_of : Occurs → Result ℕ HttpFault
+caller_of found = or_fault NoCaller (option_and_then account_of (one_value found))
 
 -- one field `Request-Id`, of the form of a request's id
-unfoldable pub id_of : Fields → Result (List ℕ) HttpFault
-id_of fields = or_fault NoRequestId (option_and_then (name_of_bytes is_word) (one_value (occurs (codes "request-id") fields)))
+abbrev pub id_of : Occurs → Result (List ℕ) HttpFault
+id_of found = or_fault NoRequestId (option_and_then (name_of_bytes is_word) (one_value found))
 
--- the epoch whose number a value shows in decimal without leading zeros
-abbrev pub epoch_shown : List ℕ → Option ℕ
-epoch_shown value = option_and_then epoch_from (number_of value)
-
--- the epoch that a field names, the first one where it is absent
-abbrev pub epoch_named : Occurs → Result ℕ HttpFault
-epoch_named absent = Ok 0
-epoch_named (once value) = or_fault BadEpoch (epoch_shown value)
-epoch_named again = Err BadEpoch
-
--- the epoch of the field `Request-Epoch`
-unfoldable pub epoch_of : Fields → Result ℕ HttpFault
-epoch_of fields = epoch_named (occurs (codes "request-epoch") fields)
+-- the epoch that the field `Request-Epoch` shows in decimal without leading zeros, the first one where it is absent
+abbrev pub epoch_of : Occurs → Result ℕ HttpFault
+epoch_of absent = Ok 0
+epoch_of (once value) = or_fault BadEpoch (option_and_then epoch_from (number_of value))
+epoch_of again = Err BadEpoch
 
 -- ---- how long its body is
 
@@ -146,15 +135,10 @@ length_from is_needed absent = if is_needed then Err LengthRequired else Ok 0
 length_from is_needed (once value) = or_fault BadHead (number_shown value) >>= capped
 length_from is_needed again = Err BadHead
 
--- a length, where there is no `Transfer-Encoding`
-abbrev pub unless_coded : Occurs → Result ℕ HttpFault → Result ℕ HttpFault
-unless_coded absent length = length
-unless_coded (once value) length = Err LengthRequired
-unless_coded again length = Err LengthRequired
-
 -- no field `Transfer-Encoding`, and a length
-unfoldable pub length_of : Bool → Fields → Result ℕ HttpFault
-length_of is_needed fields = unless_coded (occurs (codes "transfer-encoding") fields) (length_from is_needed (occurs (codes "content-length") fields))
+abbrev pub length_of : Bool → Occurs → Occurs → Result ℕ HttpFault
+length_of is_needed absent length = length_from is_needed length
+length_of is_needed coded length = Err LengthRequired
 
 -- ---- all of it
 
@@ -165,13 +149,15 @@ question_by caller route = record { caller = caller; id = None; epoch = 0; route
 -- the id, the epoch and the length of a request, each by its fields; the first fault counts
 abbrev pub request_by : ℕ → Route → Fields → Result Envelope HttpFault
 request_by caller route fields =
-    id_of fields >>= λ id. epoch_of fields >>= λ epoch. length_of (needs_body route) fields
+    id_of (occurs (codes "request-id") fields) >>= λ id. epoch_of (occurs (codes "request-epoch") fields)
+    >>= λ epoch. length_of (needs_body route) (occurs (codes "transfer-encoding") fields) (occurs (codes "content-length") fields)
     >>= λ n. Ok (record { caller = caller; id = Some id; epoch = epoch; route = route; length = n })
 
 -- what a head asks for; the first fault counts
 unfoldable pub envelope_by : List ℕ → List ℕ → Fields → Result Envelope HttpFault
 envelope_by method target fields =
-    routed_by method target >>= λ route. caller_of fields >>= λ caller. if is_question route then Ok (question_by caller route) else request_by caller route fields
+    route_of method (path_of target) >>= λ route. caller_of (occurs (codes "x-account") fields)
+    >>= λ caller. if is_question route then Ok (question_by caller route) else request_by caller route fields
 
 -- what a head asks for, by its method, its target and its fields
 abbrev pub envelope : RequestHead → Result Envelope HttpFault

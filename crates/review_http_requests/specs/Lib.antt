@@ -1,9 +1,8 @@
 pub mod Counts
 pub mod Bytes
 pub mod Shown
-pub mod Resources
-pub mod Methods
 pub mod Table
+pub mod Routes
 pub mod Heads
 pub mod Wire
 pub mod RequestLaws

@@ -2,8 +2,9 @@
 use Rattle.std.specs.Prelude.{ℕ, List, [], ◌∷◌, ◌++◌, Option, option_map, codes, Result, Ok, Err, ◌≡◌, length}
 use Rattle.matchit.specs.{Order.placed, Route.Scan, Route.parse_route, Router.RouteOf, Router.route_from, Rows.RowsOf}
 use Rattle.matchit.specs.{Seek.first, declared.error.InsertError.InsertError}
+use Rattle.review_words.specs.declared.command.ChangeQuery.TheVariants.{Change, Requirements, Threads}
 use Rattle.review_http_requests.specs.declared.table.Place.{Place}
-use Rattle.review_http_requests.specs.declared.table.Place.TheVariants.{Accounts, Group, Project, Branch, Changes, Change, Requirements, Threads, Attention, Revisions, Review, Reviewers, ReviewerDelete, Wip, Ready, Abandon, Restore, Submit, AttentionDelete, EpochsClose}
+use Rattle.review_http_requests.specs.declared.table.Place.TheVariants.{Accounts, Group, Project, Branch, Changes, Asked, Attention, Revisions, Review, Reviewers, ReviewerDelete, Wip, Ready, Abandon, Restore, Submit, AttentionDelete, EpochsClose}
 
 -- paths as the router keeps them, each with its place
 abbrev pub Rows : Type 0
@@ -31,9 +32,9 @@ desk_paths =
 -- the paths of a change, of what is asked of it, and of its new patch sets
 abbrev pub change_paths : List (List ℕ × Place)
 change_paths =
-    (codes "/changes/{change}", Change)
-    ∷ (codes "/changes/{change}/requirements", Requirements)
-    ∷ (codes "/changes/{change}/threads", Threads)
+    (codes "/changes/{change}", Asked Change)
+    ∷ (codes "/changes/{change}/requirements", Asked Requirements)
+    ∷ (codes "/changes/{change}/threads", Asked Threads)
     ∷ (codes "/changes/{change}/attention", Attention)
     ∷ (codes "/changes/{change}/revisions", Revisions)
     ∷ []

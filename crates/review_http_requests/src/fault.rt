@@ -3,7 +3,7 @@ ghost use Rattle.std.specs.Prelude.{◌≡◌};
 ghost use Rattle.review_http_requests.specs.Heads.{unless_memory};
 
 use crate::HttpFault;
-use review_json_routes::BadBody;
+use review_names::Bad;
 
 /// Why no delivery came of a request.
 #[derive(Clone, Copy, PartialEq, Eq)]
@@ -20,19 +20,12 @@ pub enum RequestFault {
     Memory,
 }
 
-/// A fault of the request, or want of memory.
-#[derive(Clone, Copy, PartialEq, Eq)]
-pub enum Refused {
-    Http(HttpFault),
-    Memory,
-}
-
 /// The fault that a part of a request is where it can't be read, unless memory ran out.
-pub fn unless_memory(bad: BadBody, fault: HttpFault) -> Refused
+pub fn unless_memory(bad: Bad, fault: HttpFault) -> RequestFault
     ensures { result ≡ unless_memory bad fault }
 {
     match bad {
-        BadBody::Form => Refused::Http(fault),
-        BadBody::Memory => Refused::Memory,
+        Bad::Form => RequestFault::Http(fault),
+        Bad::Memory => RequestFault::Memory,
     }
 }

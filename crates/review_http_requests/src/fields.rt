@@ -1,7 +1,7 @@
 //! The fields of a head.
-ghost use Rattle.std.specs.Prelude.{◌≡◌, ◌≤◌, length, map, min, option_map, All};
+ghost use Rattle.std.specs.Prelude.{◌≡◌, ◌≤◌, codes, length, map, min, option_map, All};
 ghost use Rattle.httparse.specs.Spans.{header_bytes, IsHeaderWithin};
-ghost use Rattle.review_http_requests.specs.Heads.{is_named, and_again, with_field, occurs, one_value, number_shown, most};
+ghost use Rattle.review_http_requests.specs.Heads.{with_field, occurs, one_value, number_shown, most};
 ghost use Rattle.review_http_requests.specs.inner.Words.{seen};
 
 use httparse::spans::HeaderSpan;
@@ -15,43 +15,54 @@ pub enum Field<'b> {
     Again,
 }
 
-fn is_named(name: &[u8], other: &[u8]) -> bool
-    ensures { result ≡ is_named name.now other.now }
-{
-    other.eq_ignore_ascii_case(name)
-}
-
-fn and_again<'b>(value: &'b [u8], found: Field<'b>) -> Field<'b>
-    ensures { seen result ≡ and_again value.now (seen found.entry) }
-{
-    match found {
-        Field::Absent => Field::Once(value),
-        Field::Once(_) | Field::Again => Field::Again,
-    }
-}
-
 fn with_field<'b>(found: Field<'b>, buf: &'b [u8], header: &HeaderSpan, name: &[u8]) -> Field<'b>
     requires { IsHeaderWithin (length buf.now) header.now }
     ensures { seen result ≡ with_field name.now (header_bytes buf.now header.now) (seen found.entry) }
 {
-    if is_named(name, header.name.of(buf)) {
-        and_again(header.value.of(buf), found)
-    } else {
-        found
+    if !header.name.of(buf).eq_ignore_ascii_case(name) {
+        return found;
+    }
+    match found {
+        Field::Absent => Field::Once(header.value.of(buf)),
+        Field::Once(_) | Field::Again => Field::Again,
     }
 }
 
-/// The field of a name, without regard to ASCII case.
+/// The fields of a head that say something of a delivery.
+#[derive(Clone, Copy)]
+pub struct Fields<'b> {
+    pub caller: Field<'b>,
+    pub id: Field<'b>,
+    pub epoch: Field<'b>,
+    pub coding: Field<'b>,
+    pub length: Field<'b>,
+}
+
+/// How each of them stands in a head, without regard to the ASCII case of names.
 #[tactic(auto, unfolding(crate::specs::Heads::occurs))]
-pub fn find_field<'b>(buf: &'b [u8], headers: &[HeaderSpan], name: &[u8]) -> Field<'b>
+pub fn fields_of<'b>(buf: &'b [u8], headers: &[HeaderSpan]) -> Fields<'b>
     requires { All (IsHeaderWithin (length buf.now)) headers.now }
-    ensures { seen result ≡ occurs name.now (map (header_bytes buf.now) headers.now) }
+    ensures caller { seen result.caller ≡ occurs (codes "x-account") (map (header_bytes buf.now) headers.now) }
+    ensures id { seen result.id ≡ occurs (codes "request-id") (map (header_bytes buf.now) headers.now) }
+    ensures epoch { seen result.epoch ≡ occurs (codes "request-epoch") (map (header_bytes buf.now) headers.now) }
+    ensures coding { seen result.coding ≡ occurs (codes "transfer-encoding") (map (header_bytes buf.now) headers.now) }
+    ensures length { seen result.length ≡ occurs (codes "content-length") (map (header_bytes buf.now) headers.now) }
 {
-    let mut found = Field::Absent;
+    let mut fields = Fields {
+        caller: Field::Absent,
+        id: Field::Absent,
+        epoch: Field::Absent,
+        coding: Field::Absent,
+        length: Field::Absent,
+    };
     for header in headers {
-        found = with_field(found, buf, header, name);
+        fields.caller = with_field(fields.caller, buf, header, b"x-account");
+        fields.id = with_field(fields.id, buf, header, b"request-id");
+        fields.epoch = with_field(fields.epoch, buf, header, b"request-epoch");
+        fields.coding = with_field(fields.coding, buf, header, b"transfer-encoding");
+        fields.length = with_field(fields.length, buf, header, b"content-length");
     }
-    found
+    fields
 }
 
 /// The value of a field that stands once.

@@ -12,7 +12,7 @@ pub enum HttpFault {
     HeadTooLarge,
     /// The path names nothing.
     NoRoute,
-    /// The method is none of those that the resource takes, which are these.
+    /// The method is none of those that the path takes, which are these.
     Method(Methods),
     /// There isn't one field `X-Account` with the number of an account.
     NoCaller,

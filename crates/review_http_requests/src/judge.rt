@@ -1,17 +1,16 @@
 //! A look at the bytes so far.
 ghost use Rattle.std.specs.Prelude.{◌≡◌, ◌<◌, ◌≤◌, length, drop, take, Ok, option_map, Some, None, Err, IfOk};
 ghost use Rattle.httparse.specs.Grammar.{HasNoRequest, MayBecomeRequest};
-ghost use Rattle.review_json_routes.specs.Parts.{Gives};
-ghost use Rattle.review_http_requests.specs.{Heads.Answers, Wire.delivered, Wire.delivery_of, Wire.front};
-ghost use Rattle.review_http_requests.specs.inner.Words.{Judges, WaitsFor, HeadIs, Finishes, request_fault};
+ghost use Rattle.review_http_requests.specs.{Heads.Answers, Wire.delivery_of, Wire.front};
+ghost use Rattle.review_http_requests.specs.inner.Words.{Judges, WaitsFor, HeadIs, Finishes};
 
 use crate::envelope::Envelope;
-use crate::fault::{Refused, RequestFault, unless_memory};
+use crate::fault::unless_memory;
 use crate::head::envelope_by;
-use crate::{HttpFault, Routes};
+use crate::{HttpFault, RequestFault, Routes};
 use httparse::spans::{EMPTY_HEADER_SPAN, parse_request};
 use httparse::{Error, Status};
-use review_json_routes::{BadBody, command_of, query_of};
+use review_json_routes::{command_of, query_of};
 use review_words::Delivery;
 use std::alloc::Global;
 
@@ -34,7 +33,7 @@ pub enum Head {
 }
 
 /// The head at the front of the bytes.
-fn head_of(alloc: Global, routes: &Routes, bytes: &[u8]) -> Result<Head, Refused>
+fn head_of(alloc: Global, routes: &Routes, bytes: &[u8]) -> Result<Head, RequestFault>
     ensures { HeadIs bytes.now result }
 {
     let mut headers = [EMPTY_HEADER_SPAN; 64];
@@ -47,8 +46,8 @@ fn head_of(alloc: Global, routes: &Routes, bytes: &[u8]) -> Result<Head, Refused
             Ok(Head::Asks(spans.len, envelope))
         }
         Ok(Status::Partial) => Ok(Head::Partial),
-        Err(Error::TooManyHeaders) => Err(Refused::Http(HttpFault::HeadTooLarge)),
-        Err(_) => Err(Refused::Http(HttpFault::BadHead)),
+        Err(Error::TooManyHeaders) => Err(RequestFault::Http(HttpFault::HeadTooLarge)),
+        Err(_) => Err(RequestFault::Http(HttpFault::BadHead)),
     }
 }
 
@@ -56,8 +55,9 @@ fn head_of(alloc: Global, routes: &Routes, bytes: &[u8]) -> Result<Head, Refused
 const FRONT: usize = 16_384;
 
 /// The delivery that a body completes what was asked for to.
-fn delivered(alloc: Global, envelope: Envelope, body: &[u8]) -> Result<Delivery, BadBody>
-    ensures { Gives result (delivered envelope body.now) }
+#[tactic(auto, unfolding(crate::specs::Wire::delivery_of))]
+fn delivery_of(alloc: Global, envelope: Envelope, body: &[u8]) -> Result<Delivery, RequestFault>
+    ensures { Answers result (delivery_of envelope body.now) }
 {
     let Envelope {
         caller,
@@ -67,29 +67,19 @@ fn delivered(alloc: Global, envelope: Envelope, body: &[u8]) -> Result<Delivery,
         length: _,
     } = envelope;
     match id {
-        None => {
-            let query = query_of(alloc, &route)?;
-            Ok(Delivery::Read { caller, query })
-        }
-        Some(id) => {
-            let command = command_of(alloc, &route, body)?;
-            Ok(Delivery::Write {
+        None => match query_of(&route) {
+            Ok(query) => Ok(Delivery::Read { caller, query }),
+            Err(bad) => Err(unless_memory(bad, HttpFault::BadBody)),
+        },
+        Some(id) => match command_of(alloc, &route, body) {
+            Ok(command) => Ok(Delivery::Write {
                 caller,
                 epoch,
                 id,
                 command,
-            })
-        }
-    }
-}
-
-#[tactic(auto, unfolding(crate::specs::Wire::delivery_of))]
-fn delivery_of(alloc: Global, envelope: Envelope, body: &[u8]) -> Result<Delivery, Refused>
-    ensures { Answers result (delivery_of envelope body.now) }
-{
-    match delivered(alloc, envelope, body) {
-        Ok(delivery) => Ok(delivery),
-        Err(bad) => Err(unless_memory(bad, HttpFault::BadBody)),
+            }),
+            Err(bad) => Err(unless_memory(bad, HttpFault::BadBody)),
+        },
     }
 }
 
@@ -109,11 +99,8 @@ fn finish(
         }
         return Ok(Look::Wants(end.saturating_add(length)));
     }
-    match delivery_of(alloc, envelope, &rest[..length]) {
-        Ok(delivery) => Ok(Look::Whole(delivery)),
-        Err(Refused::Http(fault)) => Err(RequestFault::Http(fault)),
-        Err(Refused::Memory) => Err(RequestFault::Memory),
-    }
+    let delivery = delivery_of(alloc, envelope, &rest[..length])?;
+    Ok(Look::Whole(delivery))
 }
 
 /// The bytes that alone are looked at for a head.
@@ -150,25 +137,6 @@ fn body_from(bytes: &[u8], end: usize) -> &[u8]
     &bytes[end..]
 }
 
-fn judge_head(alloc: Global, head: Head, bytes: &[u8], ended: bool) -> Result<Look, RequestFault>
-    requires { HeadIs (front bytes.now) (Ok head) }
-    ensures { Judges bytes.now ended result }
-{
-    match head {
-        Head::Asks(end, envelope) => finish(alloc, envelope, end, body_from(bytes, end), ended),
-        Head::Partial => unfinished(bytes, ended),
-    }
-}
-
-fn faulted(refused: Refused) -> RequestFault
-    ensures { result ≡ request_fault refused }
-{
-    match refused {
-        Refused::Http(fault) => RequestFault::Http(fault),
-        Refused::Memory => RequestFault::Memory,
-    }
-}
-
 /// The delivery or the fault that the bytes so far call for, if they are enough for one.
 pub fn judge(
     alloc: Global,
@@ -178,9 +146,9 @@ pub fn judge(
 ) -> Result<Look, RequestFault>
     ensures { Judges bytes.now ended result }
 {
-    match head_of(alloc, routes, front_of(bytes)) {
-        Ok(head) => judge_head(alloc, head, bytes, ended),
-        Err(refused) => Err(faulted(refused)),
+    match head_of(alloc, routes, front_of(bytes))? {
+        Head::Asks(end, envelope) => finish(alloc, envelope, end, body_from(bytes, end), ended),
+        Head::Partial => unfinished(bytes, ended),
     }
 }
 

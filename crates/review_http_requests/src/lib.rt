@@ -25,8 +25,7 @@ pub mod path_laws;
 mod reading;
 mod request;
 mod request_laws;
-pub mod resources;
-pub mod segments;
+pub mod routing;
 pub mod table;
 mod writing;
 
@@ -34,7 +33,7 @@ pub use counted::Counted;
 pub use envelope::Envelope;
 pub use fault::RequestFault;
 pub use http_fault::HttpFault;
-pub use methods::{Methods, route_of};
+pub use methods::Methods;
 pub use path_laws::table_holds_each_path;
 pub use reading::{Stop, read_more};
 pub use request::read_request;
@@ -42,6 +41,6 @@ pub use request_laws::{
     calls_for_one_thing, cuts_do_not_matter, nothing_calls_for_nothing, nothing_is_empty,
     waiting_calls_for_nothing,
 };
-pub use resources::{Resource, resource_of};
+pub use routing::route_of;
 pub use table::{Place, Routes};
 pub use writing::{WriteFault, write_and_flush};

@@ -3,6 +3,7 @@ ghost use Rattle.std.specs.Prelude.{◌≡◌, IfOk, OnOk};
 ghost use Rattle.review_http_requests.specs.Table.{change_paths, desk_paths, state_paths, place_of, reviewing_paths, table, with_path, with_paths};
 
 use matchit::{InsertError, Router};
+use review_words::ChangeQuery;
 use std::alloc::{AllocError, Global};
 use std::marker::Model;
 
@@ -14,9 +15,8 @@ pub enum Place {
     Project,
     Branch,
     Changes,
-    Change,
-    Requirements,
-    Threads,
+    /// What may be known of a change.
+    Asked(ChangeQuery),
     Attention,
     Revisions,
     Review,
@@ -26,8 +26,8 @@ pub enum Place {
     Ready,
     Abandon,
     Restore,
-    Submit,
     AttentionDelete,
+    Submit,
     EpochsClose,
 }
 
@@ -57,13 +57,21 @@ fn insert_desk_paths(router: &mut Router<Place>) -> Result<(), InsertError>
 fn insert_change_paths(router: &mut Router<Place>) -> Result<(), InsertError>
     ensures { OnOk result (router.new ≡ with_paths change_paths router.old) }
 {
-    insert_path(router, "/changes/{change}", Place::Change)?;
+    insert_path(
+        router,
+        "/changes/{change}",
+        Place::Asked(ChangeQuery::Change),
+    )?;
     insert_path(
         router,
         "/changes/{change}/requirements",
-        Place::Requirements,
+        Place::Asked(ChangeQuery::Requirements),
     )?;
-    insert_path(router, "/changes/{change}/threads", Place::Threads)?;
+    insert_path(
+        router,
+        "/changes/{change}/threads",
+        Place::Asked(ChangeQuery::Threads),
+    )?;
     insert_path(router, "/changes/{change}/attention", Place::Attention)?;
     insert_path(router, "/changes/{change}/revisions", Place::Revisions)?;
     Ok(())

@@ -17,8 +17,8 @@ fn bytes_from(bytes: &[u8], start: usize) -> &[u8]
     &bytes[start..]
 }
 
-/// Writes all the bytes, or a first part of them.
-fn write_whole<W: Write>(writer: &mut Counted<W>, bytes: &[u8]) -> Result<(), WriteFault>
+/// Writes all the bytes, or a first part of them, and flushes. A writer that takes no byte has failed.
+pub fn write_and_flush<W: Write>(writer: &mut Counted<W>, bytes: &[u8]) -> Result<(), WriteFault>
     ensures whole { OnOk result (Appends (W.contents (inner_of writer.old)) (W.contents (inner_of writer.new)) bytes.now) }
     ensures part { OnErr result ((part : List ℕ) × IsFirstPart part bytes.now × Appends (W.contents (inner_of writer.old)) (W.contents (inner_of writer.new)) part) }
     ensures kept { OnOk result (faults_of writer.new ≡ faults_of writer.old) }
@@ -32,17 +32,6 @@ fn write_whole<W: Write>(writer: &mut Counted<W>, bytes: &[u8]) -> Result<(), Wr
             Err(_) => return Err(WriteFault),
         }
     }
-    Ok(())
-}
-
-/// Writes all the bytes, or a first part of them, and flushes. A writer that takes no byte has failed.
-pub fn write_and_flush<W: Write>(writer: &mut Counted<W>, bytes: &[u8]) -> Result<(), WriteFault>
-    ensures whole { OnOk result (Appends (W.contents (inner_of writer.old)) (W.contents (inner_of writer.new)) bytes.now) }
-    ensures part { OnErr result ((part : List ℕ) × IsFirstPart part bytes.now × Appends (W.contents (inner_of writer.old)) (W.contents (inner_of writer.new)) part) }
-    ensures kept { OnOk result (faults_of writer.new ≡ faults_of writer.old) }
-    ensures fault { OnErr result (faults_of writer.new ≡ one_more (faults_of writer.old)) }
-{
-    write_whole(writer, bytes)?;
     match writer.flush() {
         Ok(()) => Ok(()),
         Err(_) => Err(WriteFault),

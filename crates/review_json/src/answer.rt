@@ -154,15 +154,6 @@ fn write_named_fault(text: &mut JsonText, fault: &str) -> Result<(), AllocError>
     Ok(())
 }
 
-fn write_bad_file(text: &mut JsonText, fault: FileFault) -> Result<(), AllocError>
-    ensures { OnOk result (HasPut text.old text.new (value_tokens (bad_file_data fault))) }
-{
-    match fault {
-        FileFault::Expr(expr) => write_bad_expression(text, expr),
-        _ => write_named_fault(text, fault.name()),
-    }
-}
-
 fn write_unsatisfied(
     text: &mut JsonText,
     change: ChangeNo,
@@ -195,7 +186,8 @@ impl Written for Refusal {
 
     fn write_to(&self, text: &mut JsonText) -> Result<(), AllocError> {
         match self {
-            Refusal::BadFile(fault) => write_bad_file(text, *fault),
+            Refusal::BadFile(FileFault::Expr(fault)) => write_bad_expression(text, *fault),
+            Refusal::BadFile(fault) => write_named_fault(text, fault.name()),
             Refusal::RequirementUnsatisfied {
                 change,
                 requirement,

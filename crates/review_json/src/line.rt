@@ -1,24 +1,25 @@
 //! The delivery that a line spells.
-ghost use Rattle.{serde_json.specs.View.view, review_json_routes.specs.Parts.Gives};
-ghost use Rattle.review_json.specs.Line.{command_in_line, write_in, read_in, delivery_in, delivery_spelled};
+ghost use Rattle.{serde_json.specs.View.view, review_names.specs.Bad.Gives};
+ghost use Rattle.review_json.specs.Line.{command_in_line, write_in, delivery_in, delivery_spelled};
 
 use crate::routes::route_named;
 use review_json_routes::{
-    BadBody, Route, account_at, command_in, epoch_or_first, is_question, name_at, query_of,
-    text_at, value_of,
+    Route, account_at, command_in, epoch_or_first, is_question, name_at, query_of, text_at,
+    value_of,
 };
+use review_names::Bad;
 use review_words::{AccountNo, Command, Delivery};
 use serde_json::{Map, Value};
 use std::alloc::Global;
 
 #[tactic(auto, unfolding(crate::specs::Line::command_in_line, crate::specs::Line::body_in))]
-fn command_in_line(alloc: Global, route: &Route, line: &Value) -> Result<Command, BadBody>
+fn command_in_line(alloc: Global, route: &Route, line: &Value) -> Result<Command, Bad>
     ensures { Gives result (command_in_line route.now (view line.now)) }
 {
     match line.get("body") {
         Some(body) => {
             if !body.is_object() {
-                return Err(BadBody::Form);
+                return Err(Bad::Form);
             }
             command_in(alloc, route, body)
         }
@@ -30,12 +31,7 @@ fn command_in_line(alloc: Global, route: &Route, line: &Value) -> Result<Command
 }
 
 #[tactic(auto, unfolding(crate::specs::Line::write_in))]
-fn write_in(
-    alloc: Global,
-    caller: AccountNo,
-    route: &Route,
-    line: &Value,
-) -> Result<Delivery, BadBody>
+fn write_in(alloc: Global, caller: AccountNo, route: &Route, line: &Value) -> Result<Delivery, Bad>
     ensures { Gives result (write_in caller route.now (view line.now)) }
 {
     let id = name_at(alloc, "id", line)?;
@@ -49,26 +45,18 @@ fn write_in(
     })
 }
 
-#[tactic(auto, unfolding(crate::specs::Line::read_in))]
-fn read_in(alloc: Global, caller: AccountNo, route: &Route) -> Result<Delivery, BadBody>
-    ensures { Gives result (read_in caller route.now) }
-{
-    let query = query_of(alloc, route)?;
-    Ok(Delivery::Read { caller, query })
-}
-
-#[tactic(auto, unfolding(crate::specs::Line::delivery_in))]
-fn delivery_in(alloc: Global, line: &Value) -> Result<Delivery, BadBody>
+#[tactic(auto, unfolding(crate::specs::Line::delivery_in, crate::specs::Line::read_in))]
+fn delivery_in(alloc: Global, line: &Value) -> Result<Delivery, Bad>
     ensures { Gives result (delivery_in (view line.now)) }
 {
     let caller = account_at("caller", line)?;
-    let name = text_at("do", line).ok_or(BadBody::Form)?;
+    let name = text_at("do", line).ok_or(Bad::Form)?;
     let route = route_named(alloc, name, line)?;
     if is_question(&route) {
-        read_in(alloc, caller, &route)
-    } else {
-        write_in(alloc, caller, &route, line)
+        let query = query_of(&route)?;
+        return Ok(Delivery::Read { caller, query });
     }
+    write_in(alloc, caller, &route, line)
 }
 
 /// The delivery that the bytes of a line spell.
@@ -83,7 +71,7 @@ fn delivery_in(alloc: Global, line: &Value) -> Result<Delivery, BadBody>
 ///
 /// Form exactly where the line spells no delivery, which is also where any value in it can't be read.
 #[tactic(auto, unfolding(crate::specs::Line::delivery_spelled))]
-pub fn delivery_of_line(alloc: Global, bytes: &[u8]) -> Result<Delivery, BadBody>
+pub fn delivery_of_line(alloc: Global, bytes: &[u8]) -> Result<Delivery, Bad>
     ensures { Gives result (delivery_spelled bytes.now) }
 {
     let line = value_of(alloc, bytes)?;

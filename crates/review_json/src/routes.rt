@@ -1,9 +1,10 @@
 //! The routes that lines spell: the name of a delivery, and the members of its line that say where it goes.
 ghost use Rattle.std.specs.Prelude.{◌≡◌};
-ghost use Rattle.{serde_json.specs.View.view, review_json_routes.specs.Parts.Gives};
+ghost use Rattle.{serde_json.specs.View.view, review_names.specs.Bad.Gives};
 ghost use Rattle.review_json.specs.Line.{change_query_named, change_route_named, route_of_change, route_named};
 
-use review_json_routes::{BadBody, ChangeRoute, Route, account_at, change_at, name_at, patch_in};
+use review_json_routes::{ChangeRoute, Route, account_at, change_at, name_at, patch_in};
+use review_names::Bad;
 use review_words::ChangeQuery;
 use serde_json::Value;
 use std::alloc::Global;
@@ -24,7 +25,7 @@ fn change_query_named(name: &str) -> Option<ChangeQuery>
 
 /// What a command of the name asks of a change: `patch_set` in the line of a review, `account` in that of a removal.
 #[tactic(auto, unfolding(crate::specs::Line::change_route_named))]
-fn change_route_named(name: &str, line: &Value) -> Result<ChangeRoute, BadBody>
+fn change_route_named(name: &str, line: &Value) -> Result<ChangeRoute, Bad>
     ensures { Gives result (change_route_named name.now (view line.now)) }
 {
     match name {
@@ -47,13 +48,13 @@ fn change_route_named(name: &str, line: &Value) -> Result<ChangeRoute, BadBody>
             let account = account_at("account", line)?;
             Ok(ChangeRoute::RemoveAttention { account })
         }
-        _ => Err(BadBody::Form),
+        _ => Err(Bad::Form),
     }
 }
 
 /// What is asked of a change under a name: `change` in the line.
 #[tactic(auto, unfolding(crate::specs::Line::route_of_change))]
-fn route_of_change(name: &str, line: &Value) -> Result<Route, BadBody>
+fn route_of_change(name: &str, line: &Value) -> Result<Route, Bad>
     ensures { Gives result (route_of_change name.now (view line.now)) }
 {
     let change = change_at("change", line)?;
@@ -66,7 +67,7 @@ fn route_of_change(name: &str, line: &Value) -> Result<Route, BadBody>
 
 /// The route of a delivery's name. Form exactly where no delivery has the name, or the line lacks a member of its route.
 #[tactic(auto, unfolding(crate::specs::Line::route_named))]
-pub fn route_named(alloc: Global, name: &str, line: &Value) -> Result<Route, BadBody>
+pub fn route_named(alloc: Global, name: &str, line: &Value) -> Result<Route, Bad>
     ensures { Gives result (route_named name.now (view line.now)) }
 {
     match name {

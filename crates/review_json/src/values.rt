@@ -4,8 +4,8 @@ ghost use Rattle.serde_json.specs.{Data.array, Data.boolean, Data.number, Data.s
 ghost use Rattle.review_json.specs.Shown.{number_data, numbers_data, texts_data};
 
 use crate::text::{JsonText, Written};
-use review_names::{Form, Name};
-use review_words::{AccountNo, Bases, ChangeNo, CommentNo, CommentNumbers, Listed, PatchNo};
+use review_names::{Form, Name, Number, NumberKind};
+use review_words::{Bases, CommentNumbers, Listed};
 use std::alloc::AllocError;
 
 impl Written for u64 {
@@ -40,31 +40,7 @@ impl Written for bool {
     }
 }
 
-impl Written for AccountNo {
-    ghost value_of = { number_data };
-
-    fn write_to(&self, text: &mut JsonText) -> Result<(), AllocError> {
-        text.number(self.get() as u64)
-    }
-}
-
-impl Written for ChangeNo {
-    ghost value_of = { number_data };
-
-    fn write_to(&self, text: &mut JsonText) -> Result<(), AllocError> {
-        text.number(self.get() as u64)
-    }
-}
-
-impl Written for PatchNo {
-    ghost value_of = { number_data };
-
-    fn write_to(&self, text: &mut JsonText) -> Result<(), AllocError> {
-        text.number(self.get() as u64)
-    }
-}
-
-impl Written for CommentNo {
+impl<K: NumberKind> Written for Number<K> {
     ghost value_of = { number_data };
 
     fn write_to(&self, text: &mut JsonText) -> Result<(), AllocError> {

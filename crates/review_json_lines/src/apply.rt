@@ -8,10 +8,10 @@ ghost use Rattle.review_json_lines.specs.{Lines.is_space, Lines.IsLineOf, inner.
 use crate::fault::{Fault, Outcome};
 use crate::lines::{Line, Lines};
 use crate::output::Output;
-use review_json::{BadBody, answer_text, delivery_of_line};
+use review_json::{answer_text, delivery_of_line};
 use review_machine_deliveries::{Rules, deliver};
 use review_machine_rows::Shelf;
-use review_words::{Delivery, Reply};
+use review_words::{Bad, Delivery, Reply};
 use std::alloc::{AllocError, Global};
 use std::io::{Read, Write};
 
@@ -49,8 +49,8 @@ fn asked_by(alloc: Global, line: &Line) -> Result<Asked, AllocError>
     }
     match delivery_of_line(alloc, bytes) {
         Ok(delivery) => Ok(Asked::Asks(delivery)),
-        Err(BadBody::Form) => Ok(Asked::Unreadable),
-        Err(BadBody::Memory) => Err(AllocError),
+        Err(Bad::Form) => Ok(Asked::Unreadable),
+        Err(Bad::Memory) => Err(AllocError),
     }
 }
 

@@ -1,26 +1,12 @@
 -- What bytes spell: names, JSON values, bodies, and the members of objects.
-use Rattle.std.specs.Prelude.{◌≡◌, ℕ, Bool, List, [], ◌∷◌, length, nat_le, if◌then◌else◌, Option, Some, None, option_map, option_and_then, Result, Ok, Err, ◌==◌}
+use Rattle.std.specs.Prelude.{ℕ, Bool, List, [], ◌∷◌, length, nat_le, if◌then◌else◌, Option, Some, None, option_map, option_and_then, ◌==◌}
 use Rattle.std.specs.Str.{is_utf8}
 use Rattle.serde_json.specs.Data.{Data, Items, no_items, item, object, no_members}
 use Rattle.serde_json.specs.Find.{get, as_u64, as_number, as_str, as_bool, as_array, as_object}
 use Rattle.serde_json.specs.Read.{read}
 use Rattle.review_names.specs.Forms.{is_within, is_path, text_set, most_changes, most_paths}
 use Rattle.review_names.specs.{Kinds.kind_named, Names.is_account_number, Names.set_of, Names.most_members}
-use Rattle.review_names.specs.declared.{kinds.ChangeKind.ChangeKind, names.BadName.BadName}
-use Rattle.review_words.specs.Epochs.{is_epoch}
-use Rattle.review_json_routes.specs.declared.fault.BadBody.{BadBody, TheVariants.Form, TheVariants.Memory}
-use Rattle.review_names.specs.declared.names.BadName.TheVariants as names
-
--- why a name in a body is not read, as the fault of the body
-abbrev pub body_fault : BadName → BadBody
-body_fault names.Form = Form
-body_fault names.Memory = Memory
-
--- what is spelled was given, and Form exactly where nothing is spelled
-abbrev pub Gives : {X : Type 0} → Result X BadBody → Option X → Type 0
-Gives (Ok x) spelled = spelled ≡ Some x
-Gives (Err Form) spelled = spelled ≡ None
-Gives (Err Memory) spelled = Unit {0}
+use Rattle.{review_names.specs.declared.kinds.ChangeKind.ChangeKind, review_words.specs.Epochs.is_epoch}
 
 -- the text of a member
 unfoldable pub text_at : List ℕ → Data → Option (List ℕ)

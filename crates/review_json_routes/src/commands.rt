@@ -1,45 +1,52 @@
-//! The commands that bodies complete routes to, one function for each whose body has members.
-ghost use Rattle.serde_json.specs.View.{view};
-ghost use Rattle.review_json_routes.specs.{Commands.command_in, Commands.command_of, Parts.Gives};
-ghost use Rattle.review_json_routes.specs.declared.route.Route.TheVariants.{CreateAccount, PutGroup, PutProject, RecordBase, CreateChange, OnChange, CloseEpoch};
+//! The commands that bodies complete routes to.
+ghost use Rattle.{serde_json.specs.View.view, review_names.specs.Bad.Gives};
+ghost use Rattle.review_json_routes.specs.Commands.{change_command_in, command_in, command_of};
+ghost use Rattle.review_json_routes.specs.declared.route.Route.TheVariants.{RecordBase};
 
-use crate::change_commands::change_command_in;
-use crate::changes::new_change;
-use crate::fault::BadBody;
+use crate::changes::{new_change, new_patch};
 use crate::parts::{epoch_at, file_at, members_at, name_at};
+use crate::reviews::{has_refused, said};
+use crate::roles::{account_named_at, role_in};
 use crate::route::{ChangeRoute, Route};
 use crate::texts::body_of;
-use review_words::{BranchName, ChangeNo, Command, GroupName, ProjectName};
+use review_names::Bad;
+use review_words::{BranchName, ChangeCommand, Command, ProjectName};
 use serde_json::Value;
 use std::alloc::Global;
 
-/// A new account: `name` in the body.
-#[tactic(auto, unfolding(crate::specs::Commands::command_in))]
-fn create_account(alloc: Global, body: &Value) -> Result<Command, BadBody>
-    ensures { Gives result (command_in CreateAccount (view body.now)) }
+/// What an object asks of a change. Form exactly where it asks nothing of the kind.
+#[tactic(auto, unfolding(crate::specs::Commands::change_command_in))]
+fn change_command_in(alloc: Global, asked: ChangeRoute, body: &Value) -> Result<ChangeCommand, Bad>
+    ensures { Gives result (change_command_in asked (view body.now)) }
 {
-    let name = name_at(alloc, "name", body)?;
-    Ok(Command::CreateAccount { name })
-}
-
-/// The members of a group: `members` in the body.
-#[tactic(auto, unfolding(crate::specs::Commands::command_in))]
-fn put_group(alloc: Global, group: &GroupName, body: &Value) -> Result<Command, BadBody>
-    ensures { Gives result (command_in (PutGroup group.now) (view body.now)) }
-{
-    let members = members_at(alloc, "members", body)?;
-    let group = group.copy(alloc)?;
-    Ok(Command::PutGroup { group, members })
-}
-
-/// The file of a project: `file` in the body.
-#[tactic(auto, unfolding(crate::specs::Commands::command_in))]
-fn put_project(alloc: Global, project: &ProjectName, body: &Value) -> Result<Command, BadBody>
-    ensures { Gives result (command_in (PutProject project.now) (view body.now)) }
-{
-    let file = file_at(alloc, "file", body)?;
-    let project = project.copy(alloc)?;
-    Ok(Command::PutProject { project, file })
+    match asked {
+        ChangeRoute::Upload => Ok(ChangeCommand::Upload(new_patch(alloc, body)?)),
+        ChangeRoute::Review { patch } => {
+            if has_refused(body) {
+                return Err(Bad::Form);
+            }
+            Ok(ChangeCommand::Review(said(alloc, patch, body)?))
+        }
+        ChangeRoute::AddReviewer => {
+            let account = account_named_at("reviewer", body)?;
+            let role = role_in(body)?;
+            Ok(ChangeCommand::AddReviewer { account, role })
+        }
+        ChangeRoute::RemoveReviewer { account } => Ok(ChangeCommand::RemoveReviewer { account }),
+        ChangeRoute::SetWip => Ok(ChangeCommand::SetWip),
+        ChangeRoute::SetReady => Ok(ChangeCommand::SetReady),
+        ChangeRoute::Abandon => Ok(ChangeCommand::Abandon),
+        ChangeRoute::Restore => Ok(ChangeCommand::Restore),
+        ChangeRoute::AddAttention => {
+            let account = account_named_at("user", body)?;
+            let reason = name_at(alloc, "reason", body)?;
+            Ok(ChangeCommand::AddAttention { account, reason })
+        }
+        ChangeRoute::RemoveAttention { account } => {
+            let reason = name_at(alloc, "reason", body)?;
+            Ok(ChangeCommand::RemoveAttention { account, reason })
+        }
+    }
 }
 
 /// A base of a branch: `commit` in the body.
@@ -49,12 +56,12 @@ fn record_base(
     project: &ProjectName,
     branch: &BranchName,
     body: &Value,
-) -> Result<Command, BadBody>
+) -> Result<Command, Bad>
     ensures { Gives result (command_in (RecordBase project.now branch.now) (view body.now)) }
 {
     let commit = name_at(alloc, "commit", body)?;
-    let project = project.copy(alloc)?;
-    let branch = branch.copy(alloc)?;
+    let project = project.copy()?;
+    let branch = branch.copy()?;
     Ok(Command::RecordBase {
         project,
         branch,
@@ -62,53 +69,41 @@ fn record_base(
     })
 }
 
-/// A new change: all of it in the body.
-#[tactic(auto, unfolding(crate::specs::Commands::command_in))]
-fn create_change(alloc: Global, body: &Value) -> Result<Command, BadBody>
-    ensures { Gives result (command_in CreateChange (view body.now)) }
-{
-    Ok(Command::CreateChange(new_change(alloc, body)?))
-}
-
-#[tactic(auto, unfolding(crate::specs::Commands::command_in))]
-fn on_change(
-    alloc: Global,
-    change: ChangeNo,
-    asked: ChangeRoute,
-    body: &Value,
-) -> Result<Command, BadBody>
-    ensures { Gives result (command_in (OnChange change asked) (view body.now)) }
-{
-    let command = change_command_in(alloc, asked, body)?;
-    Ok(Command::OnChange { change, command })
-}
-
-/// The least epoch that stays open: `epoch` in the body.
-#[tactic(auto, unfolding(crate::specs::Commands::command_in))]
-fn close_epoch(body: &Value) -> Result<Command, BadBody>
-    ensures { Gives result (command_in CloseEpoch (view body.now)) }
-{
-    let epoch = epoch_at("epoch", body)?;
-    Ok(Command::CloseEpoch { epoch })
-}
-
 /// The command that an object completes a route to. Its members that the route has no use for are ignored.
 ///
 /// Form exactly where it completes the route to none, as where the route is a question.
 #[tactic(auto, unfolding(crate::specs::Commands::command_in))]
-pub fn command_in(alloc: Global, route: &Route, body: &Value) -> Result<Command, BadBody>
+pub fn command_in(alloc: Global, route: &Route, body: &Value) -> Result<Command, Bad>
     ensures { Gives result (command_in route.now (view body.now)) }
 {
     match route {
-        Route::CreateAccount => create_account(alloc, body),
-        Route::PutGroup { group } => put_group(alloc, group, body),
-        Route::PutProject { project } => put_project(alloc, project, body),
+        Route::CreateAccount => {
+            let name = name_at(alloc, "name", body)?;
+            Ok(Command::CreateAccount { name })
+        }
+        Route::PutGroup { group } => {
+            let members = members_at(alloc, "members", body)?;
+            let group = group.copy()?;
+            Ok(Command::PutGroup { group, members })
+        }
+        Route::PutProject { project } => {
+            let file = file_at(alloc, "file", body)?;
+            let project = project.copy()?;
+            Ok(Command::PutProject { project, file })
+        }
         Route::RecordBase { project, branch } => record_base(alloc, project, branch, body),
-        Route::CreateChange => create_change(alloc, body),
-        Route::OnChange { change, asked } => on_change(alloc, *change, *asked, body),
+        Route::CreateChange => Ok(Command::CreateChange(new_change(alloc, body)?)),
+        Route::OnChange { change, asked } => {
+            let change = *change;
+            let command = change_command_in(alloc, *asked, body)?;
+            Ok(Command::OnChange { change, command })
+        }
         Route::Submit { change } => Ok(Command::Submit { change: *change }),
-        Route::CloseEpoch => close_epoch(body),
-        Route::Branch { .. } | Route::AskChange { .. } => Err(BadBody::Form),
+        Route::CloseEpoch => {
+            let epoch = epoch_at("epoch", body)?;
+            Ok(Command::CloseEpoch { epoch })
+        }
+        Route::Branch { .. } | Route::AskChange { .. } => Err(Bad::Form),
     }
 }
 
@@ -116,7 +111,7 @@ pub fn command_in(alloc: Global, route: &Route, body: &Value) -> Result<Command,
 ///
 /// Form exactly where it completes the route to none, as where the route is a question.
 #[tactic(auto, unfolding(crate::specs::Commands::command_of))]
-pub fn command_of(alloc: Global, route: &Route, body: &[u8]) -> Result<Command, BadBody>
+pub fn command_of(alloc: Global, route: &Route, body: &[u8]) -> Result<Command, Bad>
     ensures { Gives result (command_of route.now body.now) }
 {
     let body = body_of(alloc, body)?;

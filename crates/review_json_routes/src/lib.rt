@@ -12,11 +12,9 @@
 //! - **Must not know**: paths, lines or answers.
 #![tactic(auto)]
 
-pub mod change_commands;
 pub mod changes;
 pub mod commands;
 pub mod comments;
-pub mod fault;
 pub mod parts;
 pub mod questions;
 pub mod reviews;
@@ -27,7 +25,6 @@ pub mod votes;
 
 pub use changes::{new_change, new_patch};
 pub use commands::{command_in, command_of};
-pub use fault::BadBody;
 pub use parts::{
     account_at, change_at, epoch_at, epoch_or_first, file_at, members_at, name_at, text_at,
 };
@@ -36,3 +33,6 @@ pub use reviews::{has_refused, patch_in, said};
 pub use roles::{account_named_at, role_in};
 pub use route::{ChangeRoute, Route};
 pub use texts::{name_of_bytes, value_of};
+
+/// Why a line or a body was not read as a delivery.
+pub type BadBody = review_names::Bad;

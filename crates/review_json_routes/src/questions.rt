@@ -1,29 +1,27 @@
 //! Which routes are questions, and which need a body.
 ghost use Rattle.std.specs.Prelude.{◌≡◌, is_none};
-ghost use Rattle.serde_json.specs.Data.{object, no_members};
+ghost use Rattle.{serde_json.specs.Data.object, serde_json.specs.Data.no_members, review_names.specs.Bad.Gives};
 ghost use Rattle.review_json_routes.specs.Commands.{change_command_in, query_of, is_question, needs_body};
-ghost use Rattle.review_json_routes.specs.Parts.{Gives};
 
-use crate::fault::BadBody;
 use crate::route::{ChangeRoute, Route};
+use review_names::Bad;
 use review_words::Query;
-use std::alloc::Global;
 
 /// The question that a route is. Form exactly where it is none.
-pub fn query_of(alloc: Global, route: &Route) -> Result<Query, BadBody>
+pub fn query_of(route: &Route) -> Result<Query, Bad>
     ensures { Gives result (query_of route.now) }
 {
     match route {
         Route::Branch { project, branch } => {
-            let project = project.copy(alloc)?;
-            let branch = branch.copy(alloc)?;
+            let project = project.copy()?;
+            let branch = branch.copy()?;
             Ok(Query::Branch { project, branch })
         }
         Route::AskChange { change, query } => Ok(Query::OnChange {
             change: *change,
             query: *query,
         }),
-        _ => Err(BadBody::Form),
+        _ => Err(Bad::Form),
     }
 }
 

@@ -1,12 +1,10 @@
 //! The accounts that bodies name, and the roles that they give.
 ghost use Rattle.std.specs.Prelude.{◌≡◌};
-ghost use Rattle.serde_json.specs.View.{view};
-ghost use Rattle.review_json_routes.specs.Commands.{account_named, account_named_at, role_of, role_in};
-ghost use Rattle.review_json_routes.specs.Parts.{Gives};
+ghost use Rattle.{serde_json.specs.View.view, review_names.specs.Bad.Gives};
+ghost use Rattle.review_json_routes.specs.Commands.{account_named, account_named_at, role_in};
 
-use crate::fault::BadBody;
 use crate::parts::account_of;
-use review_names::read_account;
+use review_names::{Bad, read_account};
 use review_words::{AccountNo, Role};
 use serde_json::Value;
 
@@ -23,25 +21,19 @@ fn account_named(value: &Value) -> Option<AccountNo>
 /// The account that the member `key` of a body names, by a whole number or by the number's decimal
 /// text.
 #[tactic(auto, unfolding(crate::specs::Commands::account_named_at))]
-pub fn account_named_at(key: &str, body: &Value) -> Result<AccountNo, BadBody>
+pub fn account_named_at(key: &str, body: &Value) -> Result<AccountNo, Bad>
     ensures { Gives result (account_named_at key.now (view body.now)) }
 {
-    body.get(key).and_then(account_named).ok_or(BadBody::Form)
-}
-
-fn role_of(value: &Value) -> Option<Role>
-    ensures { result ≡ role_of (view value.now) }
-{
-    Role::from_name(value.as_str()?)
+    body.get(key).and_then(account_named).ok_or(Bad::Form)
 }
 
 /// The role that a body gives: `state`, the name of one, that of a reviewer where it is absent.
 #[tactic(auto, unfolding(crate::specs::Commands::role_in))]
-pub fn role_in(body: &Value) -> Result<Role, BadBody>
+pub fn role_in(body: &Value) -> Result<Role, Bad>
     ensures { Gives result (role_in (view body.now)) }
 {
     match body.get("state") {
-        Some(state) => role_of(state).ok_or(BadBody::Form),
+        Some(state) => state.as_str().and_then(Role::from_name).ok_or(Bad::Form),
         None => Ok(Role::Reviewer),
     }
 }

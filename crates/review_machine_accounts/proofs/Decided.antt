@@ -13,15 +13,14 @@ use Rattle.review_machine_rows.proofs.Common.{Command, Done, File, Nothing, Refu
 use Rattle.review_machine_rows.proofs.{Joins.placed_more, Joins.place_is_free, Lined.there_is}
 use Rattle.review_machine_rows.proofs.Puts.{at_place_of, no_base, no_base_more, no_file, no_project}
 use Rattle.review_machine_rows.specs.Answer.{IsAnswerBy, IsOutcome, first_refusal, refused_by, checks, IsAnswerAt, epoch_checks, refused_or}
-use Rattle.review_machine_rows.specs.Changes.{Reading, is_known, own_of, placed}
+use Rattle.review_machine_rows.specs.{Changes.Reading, Changes.own_of, Changes.placed, Desks.facts_of}
 use Rattle.review_machine_rows.specs.Known.{known, Agrees, IsKnown, is_so, is_there, members_of, at_place}
 use Rattle.review_machine_rows.specs.Rows.{Key, AccountKey, MemberKey, FileKey, BaseKey, PartKey, OddKey, Row, AccountRow, FileRow, BaseRow, APart, Count, Projects, BasesOf, ClosedEpochs, member_cmp, account_change, member_change, edited, after, count_after, after_put, count_put, place_cmp, ChangesNothing}
 use Rattle.review_machine_rows.specs.Steps.{OfCommand, command_wants}
 use Rattle.review_machine_rows.specs.View.{view, fact, counted, AreEnough, IsDecided, IsDecidedAt}
 use Rattle.review_machine_rows.specs.declared.rows.{Delta.Delta, PlaceKey.PlaceKey, Rows.Rows, StoredFile.StoredFile}
-use Rattle.review_machine_accounts.proofs.Members.{eq_sym, members_after}
-use Rattle.review_machine_accounts.proofs.Told.{account_told, member_told, held_told}
-use Rattle.review_machine_accounts.specs.Decisions.{IsEmpty}
+use Rattle.review_machine_laws.proofs.{Checked.asked_beside, Told.held_told}
+use Rattle.review_machine_accounts.{proofs.Members.eq_sym, proofs.Members.members_after, specs.Decisions.IsEmpty}
 use Rattle.review_machine_accounts.specs.inner.Words.{added, dropped, is_held, member_of}
 use Rattle.review_words.specs.declared.reply.Answer.TheVariants as made
 use Rattle.review_machine_rows.specs.declared.rows.Want.TheVariants as want
@@ -39,29 +38,6 @@ plain_fault _ expr = tt
 
 -- ==== what the loaded rows tell of the history, and what a command's reply and delta make of it
 
--- all that a command asks beside the caller was asked
-pub asked_beside : {reading : Reading} {file : Option File} (h : List Entry) (caller : ℕ) (command : Command) (rows : Rows) → AreEnough reading h caller (OfCommand command) file rows → AllByRecursion (IsKnown rows) (command_wants command)
-asked_beside h caller command rows l = (all_asked _ rows caller (OfCommand command) l.nothing_left).1.1.1
-
--- whether the caller is an account
-pub caller_is : {reading : Reading} {file : Option File} (h : List Entry) (caller : ℕ) (command : Command) (rows : Rows) → AreEnough reading h caller (OfCommand command) file rows → is_there (known rows (want.Account caller)) ≡ is_account h caller
-caller_is {reading = reading} h caller command rows l = account_told reading h rows caller l.agree (all_asked _ rows caller (OfCommand command) l.nothing_left).1.0
-
--- whether the caller is an administrator
-pub admin_is : {reading : Reading} {file : Option File} (h : List Entry) (caller : ℕ) (command : Command) (rows : Rows) → AreEnough reading h caller (OfCommand command) file rows →
-    is_so (known rows (want.Member (member_of administrators caller))) ≡ is_admin h caller
-admin_is {reading = reading} h caller command rows l = member_told reading h rows administrators caller l.agree (all_asked _ rows caller (OfCommand command) l.nothing_left).1.1.0
-
-each_account : (reading : Reading) (h : List Entry) (rows : Rows) (ns : List ℕ) → Agrees (view reading h) rows → AllByRecursion (IsKnown rows) (map want.Account ns) →
-    list_all (λ n. is_there (known rows (want.Account n))) ns ≡ list_all (is_account h) ns
-each_account reading h rows [] agree all = refl
-each_account reading h rows (n ∷ ns) agree all = λ i. account_told reading h rows n agree all.0 i && each_account reading h rows ns agree all.1 i
-
--- whether the new members of a group are accounts
-pub accounts_are : {reading : Reading} {file : Option File} (h : List Entry) (caller : ℕ) (group members : List ℕ) (rows : Rows) → AreEnough reading h caller (OfCommand (PutGroup group members)) file rows →
-    list_all (λ n. is_there (known rows (want.Account n))) members ≡ list_all (is_account h) members
-accounts_are {reading = reading} h caller group members rows l = each_account reading h rows members l.agree (asked_beside h caller (PutGroup group members) rows l).1
-
 -- whether an account was a member of the group that is put
 held_before : {reading : Reading} {file : Option File} (h : List Entry) (caller : ℕ) (group members : List ℕ) (rows : Rows) → AreEnough reading h caller (OfCommand (PutGroup group members)) file rows → (g : List ℕ) (a : ℕ) →
     bytes_eq group g ≡ true → is_held (members_of (known rows (want.Group group))) a ≡ is_listed h g a
@@ -77,38 +53,12 @@ outcome_answer reading h caller command reply is outcome = subst (λ o. MatchOpt
 
 -- the refusals by their checks
 pub unknown_refused : (reading : Reading) (h : List Entry) (caller : ℕ) (command : Command) → is_account h caller ≡ false → refused_by reading h caller command ≡ Some UnknownCaller
-unknown_refused reading h caller command e = ap (λ a. cond a (first_refusal (checks reading h caller command)) (Some UnknownCaller)) e
+unknown_refused reading h caller command e = ap (λ a. cond a (first_refusal (checks (facts_of reading h) caller command)) (Some UnknownCaller)) e
 
-abbrev create_refusal : Bool → Bool → Bool → Bool → Option Refusal
-create_refusal a b c d = cond a (cond b (cond (not c) (cond d None (Some Limit)) (Some NameTaken)) (Some NotAdmin)) (Some UnknownCaller)
-
-pub create_refused : (reading : Reading) (h : List Entry) (caller : ℕ) (name : List ℕ) (a b c d : Bool) →
-    is_account h caller ≡ a → is_admin h caller ≡ b → name_taken h name ≡ c → nat_lt (account_count h) 1000000 ≡ d →
-    refused_by reading h caller (CreateAccount name) ≡ create_refusal a b c d
-create_refused reading h caller name a b c d p q r s = λ i. create_refusal (p i) (q i) (r i) (s i)
-
-abbrev put_refusal : Bool → Bool → Bool → Bool → Option Refusal
-put_refusal a b c d = cond a (cond b (cond (not c) (cond d None (Some NoAccount)) (Some NameTaken)) (Some NotAdmin)) (Some UnknownCaller)
-
-pub put_refused : (reading : Reading) (h : List Entry) (caller : ℕ) (group members : List ℕ) (a b c d : Bool) →
-    is_account h caller ≡ a → is_admin h caller ≡ b → bytes_eq group registered_users ≡ c → list_all (is_account h) members ≡ d →
-    refused_by reading h caller (PutGroup group members) ≡ put_refusal a b c d
-put_refused reading h caller group members a b c d p q r s = λ i. put_refusal (p i) (q i) (r i) (s i)
-
-abbrev base_refusal : Bool → Bool → Bool → Bool → Bool → Option Refusal
-base_refusal a b c d e = cond a (cond b (cond c (cond (not d) (cond e None (Some Limit)) (Some CommitKnown)) (Some NoProject)) (Some NotAdmin)) (Some UnknownCaller)
-
-pub base_refused : (reading : Reading) (h : List Entry) (caller : ℕ) (project branch commit : List ℕ) (a b c d e : Bool) →
-    is_account h caller ≡ a → is_admin h caller ≡ b → is_project h project ≡ c → is_known reading h project branch commit ≡ d → nat_lt (base_count h project) 100000 ≡ e →
-    refused_by reading h caller (RecordBase project branch commit) ≡ base_refusal a b c d e
-base_refused reading h caller project branch commit a b c d e p q r s t = λ i. base_refusal (p i) (q i) (r i) (s i) (t i)
-
-abbrev project_refusal : Bool → Bool → Option Refusal
-project_refusal a b = cond a (cond b None (Some NotAdmin)) (Some UnknownCaller)
-
-pub project_refused : (reading : Reading) (h : List Entry) (caller : ℕ) (project file : List ℕ) (a b : Bool) →
-    is_account h caller ≡ a → is_admin h caller ≡ b → refused_by reading h caller (PutProject project file) ≡ project_refusal a b
-project_refused reading h caller project file a b p q = λ i. project_refusal (p i) (q i)
+-- before its file is read, a PutProject is refused where its caller is no administrator
+pub project_refused : (reading : Reading) (h : List Entry) (caller : ℕ) (project file : List ℕ) (b : Bool) → is_account h caller ≡ true → is_admin h caller ≡ b →
+    refused_by reading h caller (PutProject project file) ≡ cond b None (Some NotAdmin)
+project_refused reading h caller project file b p q = λ i. cond (p i) (cond (q i) None (Some NotAdmin)) (Some UnknownCaller)
 
 -- a delta without rows
 pub empty_changes : (delta : Delta) → IsEmpty delta → ChangesNothing delta
@@ -160,11 +110,11 @@ account_row_after false name before = refl
 
 -- the new account is the only new row
 pub create_decided : {reading : Reading} (h : List Entry) (caller : ℕ) (name : List ℕ) (delta : Delta) (number : ℕ) →
-    is_account h caller ≡ true → is_admin h caller ≡ true → name_taken h name ≡ false → nat_lt (account_count h) 1000000 ≡ true → number ≡ account_count h + 1 →
+    refused_by reading h caller (CreateAccount name) ≡ None → number ≡ account_count h + 1 →
     delta.accounts.items ≡ record { key = number; row = Some name } ∷ [] → delta.members.items ≡ [] → delta.file ≡ None → delta.base ≡ None → delta.changes.items ≡ [] → delta.least_epoch ≡ None →
     IsDecided reading h caller (CreateAccount name) delta (Done (made.Account number))
-create_decided {reading = reading} h caller name delta number a b c d n da dm df db dc de = record {
-  reply_is = outcome_answer reading h caller (CreateAccount name) (Done (made.Account number)) (create_refused reading h caller name true true false true a b c d) (ap (λ x. Done (made.Account x)) n);
+create_decided {reading = reading} h caller name delta number passes n da dm df db dc de = record {
+  reply_is = outcome_answer reading h caller (CreateAccount name) (Done (made.Account number)) passes (ap (λ x. Done (made.Account x)) n);
   row_is = λ epoch id k. rows k;
   count_is = λ epoch id k. counts k;
 }
@@ -190,11 +140,11 @@ create_decided {reading = reading} h caller name delta number a b c d n da dm df
 
 -- the rows of the group become those of its new members
 pub put_decided : {reading : Reading} {file : Option File} (h : List Entry) (caller : ℕ) (group members : List ℕ) (rows : Rows) (delta : Delta) → AreEnough reading h caller (OfCommand (PutGroup group members)) file rows →
-    is_account h caller ≡ true → is_admin h caller ≡ true → bytes_eq group registered_users ≡ false → list_all (is_account h) members ≡ true →
+    refused_by reading h caller (PutGroup group members) ≡ None →
     delta.accounts.items ≡ [] → delta.members.items ≡ added group (members_of (known rows (want.Group group))) members ++ dropped group (members_of (known rows (want.Group group))) members → delta.file ≡ None → delta.base ≡ None → delta.changes.items ≡ [] → delta.least_epoch ≡ None →
     IsDecided reading h caller (PutGroup group members) delta (Done made.Nothing)
-put_decided {reading = reading} h caller group members rows delta l a b c d da dm df db dc de = record {
-  reply_is = outcome_answer reading h caller (PutGroup group members) (Done made.Nothing) (put_refused reading h caller group members true true false true a b c d) refl;
+put_decided {reading = reading} h caller group members rows delta l passes da dm df db dc de = record {
+  reply_is = outcome_answer reading h caller (PutGroup group members) (Done made.Nothing) passes refl;
   row_is = λ epoch id k. each k;
   count_is = λ epoch id k. counts k;
 }
@@ -251,11 +201,11 @@ base_rows h project branch commit place p b n is = ⊎_elim
 
 -- the base is the last of its branch
 pub base_decided : {reading : Reading} (h : List Entry) (caller : ℕ) (project branch commit : List ℕ) (place : ℕ) (delta : Delta) → place ≡ length (bases h project branch) + 1 →
-    is_account h caller ≡ true → is_admin h caller ≡ true → is_project h project ≡ true → is_known reading h project branch commit ≡ false → nat_lt (base_count h project) 100000 ≡ true →
+    refused_by reading h caller (RecordBase project branch commit) ≡ None →
     delta.accounts.items ≡ [] → delta.members.items ≡ [] → delta.file ≡ None → delta.base ≡ Some (record { key = record { project = project; branch = branch; place = place }; row = commit }) → delta.changes.items ≡ [] → delta.least_epoch ≡ None →
     IsDecided reading h caller (RecordBase project branch commit) delta (Done made.Nothing)
-base_decided {reading = reading} h caller project branch commit place delta is a b c d e da dm df db dc de = record {
-  reply_is = outcome_answer reading h caller (RecordBase project branch commit) (Done made.Nothing) (base_refused reading h caller project branch commit true true true false true a b c d e) refl;
+base_decided {reading = reading} h caller project branch commit place delta is passes da dm df db dc de = record {
+  reply_is = outcome_answer reading h caller (RecordBase project branch commit) (Done made.Nothing) passes refl;
   row_is = λ epoch id k. rows k;
   count_is = λ epoch id k. counts k;
 }
@@ -369,15 +319,9 @@ close_decided {reading = reading} h caller epoch least delta a b c d da dm df db
 
 -- what refuses any command, whatever its epoch
 pub refused_in : (reading : Reading) (h : List Entry) (caller epoch : ℕ) (command : Command) (refusal : Refusal) → refused_by reading h caller command ≡ Some refusal → IsAnswerAt reading h caller epoch command (Refused refusal)
-refused_in reading h caller epoch (CreateAccount name) refusal is = refused_answer reading h caller (CreateAccount name) refusal is
-refused_in reading h caller epoch (PutGroup group members) refusal is = refused_answer reading h caller (PutGroup group members) refusal is
-refused_in reading h caller epoch (PutProject project text) refusal is = refused_answer reading h caller (PutProject project text) refusal is
-refused_in reading h caller epoch (RecordBase project branch commit) refusal is = refused_answer reading h caller (RecordBase project branch commit) refusal is
-refused_in reading h caller epoch (CreateChange new) refusal is = refused_answer reading h caller (CreateChange new) refusal is
-refused_in reading h caller epoch (OnChange n command) refusal is = refused_answer reading h caller (OnChange n command) refusal is
-refused_in reading h caller epoch (Submit n) refusal is = refused_answer reading h caller (Submit n) refusal is
 refused_in reading h caller epoch (CloseEpoch least) refusal is =
-    subst (λ o. MatchOption o (Refused refusal ≡ refused_or (first_refusal (epoch_checks h epoch least)) Nothing) (λ r. Refused refusal ≡ Refused r)) (sym is) refl
+    subst (λ o. MatchOption o (Refused refusal ≡ refused_or (first_refusal (epoch_checks (facts_of reading h) epoch least)) Nothing) (λ r. Refused refusal ≡ Refused r)) (sym is) refl
+refused_in reading h caller epoch command refusal is = refused_answer reading h caller command refusal is
 
 pub refused_pair_in : {reading : Reading} (h : List Entry) (caller epoch : ℕ) (command : Command) (r : Delta × Reply) (refusal : Refusal) →
     IsEmpty r.0 → r.1 ≡ Refused refusal → refused_by reading h caller command ≡ Some refusal → IsDecidedAt reading h caller epoch command r.0 r.1

@@ -5,9 +5,10 @@ ghost use Rattle.review_table.specs.Rows.{NamesOnce, rows_of};
 ghost use Rattle.review_words.specs.{History.Entry, History.is_account, Texts.IsStored};
 ghost use Rattle.review_words.specs.declared.command.Command.TheVariants.{CreateAccount, PutGroup};
 ghost use Rattle.review_words.specs.declared.reply.NotTaken.TheVariants.{Memory};
-ghost use Rattle.review_machine_rows.specs.{Changes.Reading, Decisions.NamesEachOnce, Files.File};
+ghost use Rattle.review_machine_rows.specs.Answer.{checks, first_refusal};
+ghost use Rattle.review_machine_rows.specs.{Changes.Reading, Decisions.NamesEachOnce, Desks.facts_in, Files.File};
 ghost use Rattle.review_machine_rows.specs.Known.{known, is_there, members_of};
-ghost use Rattle.review_machine_rows.specs.{Rows.HasNoEffect, Rows.member_cmp, Steps.OfCommand};
+ghost use Rattle.review_machine_rows.specs.{Limits.most_accounts, Rows.HasNoEffect, Rows.member_cmp, Steps.OfCommand};
 ghost use Rattle.review_machine_rows.specs.View.{AreEnough, IsDecided};
 ghost use Rattle.review_machine_accounts.specs.inner.Words.{added, dropped, member_of};
 ghost use Rattle.review_machine_rows.specs.declared.rows.Want.TheVariants as want;
@@ -34,29 +35,47 @@ pub fn create_account(
     ensures epoch { IfOk result (λ r. r.0.least_epoch ≡ None) }
     ensures once { IfOk result (λ r. NamesEachOnce r.0) }
 {
-    let admin = is_admin(alloc, rows, caller)?;
-    if !admin {
-        return Ok(refused(alloc, Refusal::NotAdmin));
+    let refusal = account_refusal(alloc, rows, caller, name)?;
+    if let Some(refusal) = refusal {
+        return Ok(refused(alloc, refusal));
     }
-    let taken = rows.has_holder(&Want::AccountNamed(name.copy(alloc)?));
-    if taken {
-        return Ok(refused(alloc, Refusal::NameTaken));
-    }
-    let Some(number) = next_account(rows.number(&Want::LastAccount)) else {
-        return Ok(refused(alloc, Refusal::Limit));
-    };
+    let number = next_account(rows.number(&Want::LastAccount));
     let delta = account_delta(alloc, number, name)?;
     Ok((delta, Reply::Done(Answer::Account(number))))
 }
 
-// The account after the last one, or none where that is the last that there can be.
-fn next_account(last: u64) -> Option<AccountNo>
-    ensures some { IfSome result (λ n. (n ≡ last + 1) × (last < 1000000)) }
-    ensures none { result ≡ None → 1000000 ≤ last }
+// The first check of a new account that fails, where one does.
+fn account_refusal(
+    alloc: Global,
+    rows: &Rows,
+    caller: AccountNo,
+    name: &AccountName,
+) -> Result<Option<Refusal>, AllocError>
+    ensures { IfOk result (λ r. r ≡ first_refusal (checks (facts_in rows.now) caller (CreateAccount name.now))) }
 {
-    match u32::try_from(last) {
-        Ok(last) => AccountNo::after(last),
-        Err(_) => None,
+    if !is_admin(alloc, rows, caller)? {
+        return Ok(Some(Refusal::NotAdmin));
+    }
+    if rows.has_holder(&Want::AccountNamed(name.copy()?)) {
+        return Ok(Some(Refusal::NameTaken));
+    }
+    if rows.number(&Want::LastAccount) >= 1_000_000 {
+        return Ok(Some(Refusal::Limit));
+    }
+    Ok(None)
+}
+
+// The account after the last one.
+fn next_account(last: u64) -> AccountNo
+    requires { last < most_accounts }
+    ensures { result ≡ last + 1 }
+{
+    let Ok(last) = u32::try_from(last) else {
+        unreachable!()
+    };
+    match AccountNo::after(last) {
+        Some(next) => next,
+        None => unreachable!(),
     }
 }
 
@@ -70,7 +89,7 @@ fn account_delta(alloc: Global, number: AccountNo, name: &AccountName) -> Result
     ensures epoch { IfOk result (λ delta. delta.least_epoch ≡ None) }
     ensures once { IfOk result NamesEachOnce }
 {
-    let name = name.copy(alloc)?;
+    let name = name.copy()?;
     let mut delta = nothing(alloc);
     delta.accounts.push(RowEdit {
         key: number,
@@ -95,19 +114,35 @@ pub fn put_group(
     ensures epoch { IfOk result (λ r. r.0.least_epoch ≡ None) }
     ensures once { IfOk result (λ r. NamesEachOnce r.0) }
 {
-    let admin = is_admin(alloc, rows, caller)?;
-    if !admin {
-        return Ok(refused(alloc, Refusal::NotAdmin));
-    }
-    if group.as_str() == "Registered-Users" {
-        return Ok(refused(alloc, Refusal::NameTaken));
-    }
-    if !have_accounts(rows, members) {
-        return Ok(refused(alloc, Refusal::NoAccount));
+    let refusal = group_refusal(alloc, rows, caller, group, members)?;
+    if let Some(refusal) = refusal {
+        return Ok(refused(alloc, refusal));
     }
     let mut delta = nothing(alloc);
     delta.members = member_changes(alloc, rows, group, members)?;
     Ok((delta, Reply::Done(Answer::Nothing)))
+}
+
+// The first check of the members of a group that fails, where one does.
+fn group_refusal(
+    alloc: Global,
+    rows: &Rows,
+    caller: AccountNo,
+    group: &GroupName,
+    members: &Members,
+) -> Result<Option<Refusal>, AllocError>
+    ensures { IfOk result (λ r. r ≡ first_refusal (checks (facts_in rows.now) caller (PutGroup group.now members.now))) }
+{
+    if !is_admin(alloc, rows, caller)? {
+        return Ok(Some(Refusal::NotAdmin));
+    }
+    if group.as_str() == "Registered-Users" {
+        return Ok(Some(Refusal::NameTaken));
+    }
+    if !have_accounts(rows, members) {
+        return Ok(Some(Refusal::NoAccount));
+    }
+    Ok(None)
 }
 
 fn have_accounts(rows: &Rows, members: &Members) -> bool
@@ -147,7 +182,7 @@ fn changes_from(
 {
     let mut changes = add_members(alloc, held, group, members)?;
     let before = held.rows(alloc)?;
-    drop_members(alloc, &mut changes, &before, group, members)?;
+    drop_members(&mut changes, &before, group, members)?;
     Ok(changes)
 }
 
@@ -162,13 +197,12 @@ fn add_members(
 {
     let mut changes = Vec::new(alloc);
     for account in members.as_slice() {
-        add_member(alloc, &mut changes, held, group, *account)?;
+        add_member(&mut changes, held, group, *account)?;
     }
     Ok(changes)
 }
 
 fn add_member(
-    alloc: Global,
     changes: &mut Vec<RowEdit<MemberKey, ()>>,
     held: &Table<AccountNo, ()>,
     group: &GroupName,
@@ -177,24 +211,23 @@ fn add_member(
     ensures { OnOk result (changes.new.items ≡ changes.old.items ++ added group.now (rows_of held.now) (account ∷ [])) }
 {
     if held.get(&account).is_none() {
-        let key = member_key(alloc, group, account)?;
+        let key = member_key(group, account)?;
         changes.push(RowEdit { key, row: Some(()) })?;
     }
     Ok(())
 }
 
-fn member_key(alloc: Global, group: &GroupName, account: AccountNo) -> Result<MemberKey, AllocError>
+fn member_key(group: &GroupName, account: AccountNo) -> Result<MemberKey, AllocError>
     ensures { IfOk result (λ k. k ≡ member_of group.now account) }
 {
     Ok(MemberKey {
-        group: group.copy(alloc)?,
+        group: group.copy()?,
         account,
     })
 }
 
 #[tactic(auto, using(crate::proofs::Members::dropped_more))]
 fn drop_members(
-    alloc: Global,
     changes: &mut Vec<RowEdit<MemberKey, ()>>,
     held: &[(&AccountNo, &())],
     group: &GroupName,
@@ -203,13 +236,12 @@ fn drop_members(
     ensures { OnOk result (changes.new.items ≡ changes.old.items ++ dropped group.now (map deref_pair held.now) members.now) }
 {
     for (account, _) in held {
-        drop_member(alloc, changes, **account, group, members)?;
+        drop_member(changes, **account, group, members)?;
     }
     Ok(())
 }
 
 fn drop_member(
-    alloc: Global,
     changes: &mut Vec<RowEdit<MemberKey, ()>>,
     account: AccountNo,
     group: &GroupName,
@@ -218,7 +250,7 @@ fn drop_member(
     ensures { OnOk result (changes.new.items ≡ changes.old.items ++ dropped group.now ((account, tt) ∷ []) members.now) }
 {
     if !members.has(account) {
-        let key = member_key(alloc, group, account)?;
+        let key = member_key(group, account)?;
         changes.push(RowEdit { key, row: None })?;
     }
     Ok(())

@@ -3,8 +3,9 @@ ghost use Rattle.std.specs.Prelude.{◌≡◌, List, Option, IfOk, IfErr, true, 
 ghost use Rattle.review_words.specs.History.{Entry, is_account};
 ghost use Rattle.review_words.specs.{Texts.IsStored, declared.command.Command.TheVariants.RecordBase};
 ghost use Rattle.review_words.specs.declared.reply.NotTaken.TheVariants.{Memory};
-ghost use Rattle.review_machine_rows.specs.{Changes.Reading, Decisions.NamesEachOnce, Files.File, Rows.HasNoEffect};
-ghost use Rattle.review_machine_rows.specs.{Steps.OfCommand, View.AreEnough, View.IsDecided};
+ghost use Rattle.review_machine_rows.specs.Answer.{checks, first_refusal};
+ghost use Rattle.review_machine_rows.specs.{Changes.Reading, Decisions.NamesEachOnce, Desks.facts_in, Files.File};
+ghost use Rattle.review_machine_rows.specs.{Rows.HasNoEffect, Steps.OfCommand, View.AreEnough, View.IsDecided};
 
 use crate::callers::is_admin;
 use crate::commits::is_known;
@@ -15,7 +16,7 @@ use review_machine_rows::{Delta, PlaceKey, Put, Rows, Want};
 use review_words::{
     AccountNo, Answer, BranchName, CommitName, NotTaken, ProjectName, Refusal, Reply,
 };
-use std::alloc::Global;
+use std::alloc::{AllocError, Global};
 
 /// Records a commit as the next base of a branch. Refused for an administrator missing, a project that isn't there, a commit that is known in
 /// the branch, as a base or as that of a patch set, or the most bases of a project, in this order; an error is want of memory.
@@ -34,25 +35,13 @@ pub fn record_base(
     ensures epoch { IfOk result (λ r. r.0.least_epoch ≡ None) }
     ensures once { IfOk result (λ r. NamesEachOnce r.0) }
 {
-    let admin = is_admin(alloc, rows, caller)?;
-    if !admin {
-        return Ok(refused(alloc, Refusal::NotAdmin));
+    let refusal = base_refusal(alloc, rows, caller, project, branch, commit)?;
+    if let Some(refusal) = refusal {
+        return Ok(refused(alloc, refusal));
     }
-    let there = is_project(alloc, rows, project)?;
-    if !there {
-        return Ok(refused(alloc, Refusal::NoProject));
-    }
-    let known = is_known(alloc, rows, project, branch, commit)?;
-    if known {
-        return Ok(refused(alloc, Refusal::CommitKnown));
-    }
-    let room = has_room(alloc, rows, project)?;
-    if !room {
-        return Ok(refused(alloc, Refusal::Limit));
-    }
-    let last = rows.number(&Want::LastPlace(branch_of(alloc, project, branch)?));
+    let last = rows.number(&Want::LastPlace(branch_of(project, branch)?));
     let place = last.saturating_add(1);
-    let base = base_of(alloc, project, branch, commit)?;
+    let base = base_of(project, branch, commit)?;
     let mut delta = nothing(alloc);
     delta.base = Some(Put {
         key: PlaceKey {
@@ -63,4 +52,30 @@ pub fn record_base(
         row: base.commit,
     });
     Ok((delta, Reply::Done(Answer::Nothing)))
+}
+
+// The first check of a new base that fails, where one does.
+fn base_refusal(
+    alloc: Global,
+    rows: &Rows,
+    caller: AccountNo,
+    project: &ProjectName,
+    branch: &BranchName,
+    commit: &CommitName,
+) -> Result<Option<Refusal>, AllocError>
+    ensures { IfOk result (λ r. r ≡ first_refusal (checks (facts_in rows.now) caller (RecordBase project.now branch.now commit.now))) }
+{
+    if !is_admin(alloc, rows, caller)? {
+        return Ok(Some(Refusal::NotAdmin));
+    }
+    if !is_project(rows, project)? {
+        return Ok(Some(Refusal::NoProject));
+    }
+    if is_known(rows, project, branch, commit)? {
+        return Ok(Some(Refusal::CommitKnown));
+    }
+    if !has_room(rows, project)? {
+        return Ok(Some(Refusal::Limit));
+    }
+    Ok(None)
 }

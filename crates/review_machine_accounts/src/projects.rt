@@ -6,20 +6,20 @@ ghost use Rattle.review_machine_rows.specs.declared.rows.Want.TheVariants as wan
 
 use review_machine_rows::{Counted, Rows, Want};
 use review_words::ProjectName;
-use std::alloc::{AllocError, Global};
+use std::alloc::AllocError;
 
 /// Whether a project is known to be there.
-pub fn is_project(alloc: Global, rows: &Rows, project: &ProjectName) -> Result<bool, AllocError>
+pub fn is_project(rows: &Rows, project: &ProjectName) -> Result<bool, AllocError>
     ensures { IfOk result (λ b. b ≡ is_so (known rows.now (want.Project project.now))) }
 {
-    let project = project.copy(alloc)?;
+    let project = project.copy()?;
     Ok(rows.is_so(&Want::Project(project)))
 }
 
 /// Whether there is known to be room for one more base of a project.
-pub fn has_room(alloc: Global, rows: &Rows, project: &ProjectName) -> Result<bool, AllocError>
+pub fn has_room(rows: &Rows, project: &ProjectName) -> Result<bool, AllocError>
     ensures { IfOk result (λ b. b ≡ is_so (known rows.now (want.Room (counted.BasesOf project.now)))) }
 {
-    let project = project.copy(alloc)?;
+    let project = project.copy()?;
     Ok(rows.is_so(&Want::Room(Counted::BasesOf(project))))
 }

@@ -15,11 +15,11 @@ pub fn copied_new(alloc: Global, new: &NewChange) -> Result<NewChange, AllocErro
     ensures { IfOk result (λ n. n ≡ new.now) }
 {
     Ok(NewChange {
-        project: new.project.copy(alloc)?,
-        branch: new.branch.copy(alloc)?,
-        subject: new.subject.copy(alloc)?,
-        commit: new.commit.copy(alloc)?,
-        parent: new.parent.copy(alloc)?,
+        project: new.project.copy()?,
+        branch: new.branch.copy()?,
+        subject: new.subject.copy()?,
+        commit: new.commit.copy()?,
+        parent: new.parent.copy()?,
         paths: new.paths.copy(alloc)?,
         wip: new.wip,
     })
@@ -30,8 +30,8 @@ pub fn copied_patch(alloc: Global, patch: &NewPatch) -> Result<NewPatch, AllocEr
     ensures { IfOk result (λ p. p ≡ patch.now) }
 {
     Ok(NewPatch {
-        commit: patch.commit.copy(alloc)?,
-        parent: patch.parent.copy(alloc)?,
+        commit: patch.commit.copy()?,
+        parent: patch.parent.copy()?,
         kind: patch.kind,
         paths: patch.paths.copy(alloc)?,
     })
@@ -67,13 +67,13 @@ pub fn copied_marks(
 }
 
 /// A header once more. An error where there was no memory for it.
-pub fn copied_header(alloc: Global, header: &Header) -> Result<Header, AllocError>
+pub fn copied_header(header: &Header) -> Result<Header, AllocError>
     ensures { IfOk result (λ h. h ≡ header.now) }
 {
     Ok(Header {
-        project: header.project.copy(alloc)?,
-        branch: header.branch.copy(alloc)?,
-        subject: header.subject.copy(alloc)?,
+        project: header.project.copy()?,
+        branch: header.branch.copy()?,
+        subject: header.subject.copy()?,
         owner: header.owner,
         state: header.state,
         wip: header.wip,
@@ -85,8 +85,8 @@ pub fn copied_header(alloc: Global, header: &Header) -> Result<Header, AllocErro
 impl Copied for PatchRow {
     fn copied(&self, alloc: Global) -> Result<PatchRow, AllocError> {
         Ok(PatchRow {
-            commit: self.commit.copy(alloc)?,
-            parent: self.parent.copy(alloc)?,
+            commit: self.commit.copy()?,
+            parent: self.parent.copy()?,
             kind: self.kind,
             uploader: self.uploader,
             paths: self.paths.copy(alloc)?,
@@ -96,7 +96,7 @@ impl Copied for PatchRow {
 
 impl Copied for Comment {
     fn copied(&self, alloc: Global) -> Result<Comment, AllocError> {
-        self.copy(alloc)
+        self.copy()
     }
 }
 
@@ -134,5 +134,5 @@ fn copied_rows<K: Key, V: Copied>(
 fn copied_row<K: Key, V: Copied>(alloc: Global, key: &K, row: &V) -> Result<(K, V), AllocError>
     ensures { IfOk result (λ copy. copy ≡ (key.now, row.now)) }
 {
-    Ok((key.copy(alloc)?, row.copied(alloc)?))
+    Ok((key.copy()?, row.copied(alloc)?))
 }

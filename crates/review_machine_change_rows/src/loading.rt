@@ -5,10 +5,10 @@ ghost use Rattle.review_machine_change_rows.specs.Tables.{HaveFault, Show};
 ghost use Rattle.review_machine_change_rows.specs.inner.Words.{AreInOrder, IsGap};
 
 use crate::tables::ChangeTables;
-use review_core_rules::{ChangeRows, Comment, PatchRow};
+use review_core_rules::ChangeRows;
 use review_machine_rows::ShelfFault;
+use review_names::{Number, NumberKind};
 use review_table::Table;
-use review_words::{CommentNo, PatchNo};
 use std::alloc::{AllocError, Global};
 
 /// Why a change, or the bases of a branch, are not given.
@@ -58,8 +58,8 @@ fn ordered(alloc: Global, tables: ChangeTables) -> Result<ChangeRows, ChangeFaul
         comments,
         attention,
     } = tables;
-    let patches = patches_in_order(alloc, patches)?;
-    let comments = comments_in_order(alloc, comments)?;
+    let patches = in_order(alloc, patches)?;
+    let comments = in_order(alloc, comments)?;
     Ok(ChangeRows {
         header,
         patches,
@@ -85,40 +85,23 @@ pub fn change_rows(alloc: Global, tables: ChangeTables) -> Result<Box<ChangeRows
     Ok(boxed(alloc, rows)?)
 }
 
-fn patches_in_order(
+// The rows of a table in the order of their numbers, or that these have a gap.
+fn in_order<K: NumberKind, V: Drop>(
     alloc: Global,
-    table: Table<PatchNo, PatchRow>,
-) -> Result<Vec<PatchRow>, ChangeFault>
-    ensures rows { IfOk result (λ patches. AreInOrder (rows_of table) patches.items) }
+    table: Table<Number<K>, V>,
+) -> Result<Vec<V>, ChangeFault>
+    ensures rows { IfOk result (λ rows. AreInOrder (rows_of table) rows.items) }
     ensures fault { IfErr result (IsGap (rows_of table)) }
 {
     table.once();
-    let mut patches = Vec::new(alloc);
-    for (number, patch) in table.into_rows(alloc)? {
-        if number.get() as usize != patches.len() + 1 {
+    let mut rows = Vec::new(alloc);
+    for (number, row) in table.into_rows(alloc)? {
+        if number.get() as usize != rows.len() + 1 {
             return Err(ChangeFault::Gap);
         }
-        add(&mut patches, patch)?;
+        add(&mut rows, row)?;
     }
-    Ok(patches)
-}
-
-fn comments_in_order(
-    alloc: Global,
-    table: Table<CommentNo, Comment>,
-) -> Result<Vec<Comment>, ChangeFault>
-    ensures rows { IfOk result (λ comments. AreInOrder (rows_of table) comments.items) }
-    ensures fault { IfErr result (IsGap (rows_of table)) }
-{
-    table.once();
-    let mut comments = Vec::new(alloc);
-    for (number, comment) in table.into_rows(alloc)? {
-        if number.get() as usize != comments.len() + 1 {
-            return Err(ChangeFault::Gap);
-        }
-        add(&mut comments, comment)?;
-    }
-    Ok(comments)
+    Ok(rows)
 }
 
 fn add<V: Drop>(rows: &mut Vec<V>, row: V) -> Result<(), AllocError>

@@ -27,7 +27,7 @@ impl Copied for Role {
 impl Copied for AttentionEntry {
     fn copied(&self, alloc: Global) -> Result<AttentionEntry, AllocError> {
         Ok(AttentionEntry {
-            reason: self.reason.copy(alloc)?,
+            reason: self.reason.copy()?,
             request: self.request,
         })
     }
@@ -35,6 +35,6 @@ impl Copied for AttentionEntry {
 
 impl Copied for AccountName {
     fn copied(&self, alloc: Global) -> Result<AccountName, AllocError> {
-        self.copy(alloc)
+        self.copy()
     }
 }

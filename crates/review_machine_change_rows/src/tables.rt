@@ -24,7 +24,7 @@ pub fn copied_tables(alloc: Global, tables: &ChangeTables) -> Result<ChangeTable
     ensures { IfOk result (λ t. (part : Part) → part_in t part ≡ part_in tables.now part) }
 {
     let marks = copied_marks(alloc, &tables.votes, &tables.roles, &tables.attention)?;
-    let header = copied_header(alloc, &tables.header)?;
+    let header = copied_header(&tables.header)?;
     let patches = copied_table(alloc, &tables.patches)?;
     let comments = copied_table(alloc, &tables.comments)?;
     Ok(ChangeTables {

@@ -21,8 +21,8 @@ use Rattle.review_machine_rows.specs.Rows.{member_cmp, APart, edited, part_chang
 use Rattle.review_machine_rows.specs.View.{AreEnough, IsDecided, counted, fact, view}
 use Rattle.review_machine_rows.specs.declared.rows.{ChangeEdit.ChangeEdit, Delta.Delta, Rows.Rows}
 use Rattle.review_machine_change_rows.proofs.Edited.{after_mapped}
-use Rattle.review_machine_accounts.proofs.Decided.{outcome_answer}
-use Rattle.review_machine_changes.specs.Facts.{EditsChange, MakesChange, next_request, setting_in}
+use Rattle.review_machine_accounts.{proofs.Decided.outcome_answer, specs.Decisions.EditsChanges}
+use Rattle.review_machine_changes.specs.Facts.{MakesChange, next_request, setting_in}
 use Rattle.review_machine_changes.specs.inner.Facts.{next_numbers, IsReviewed, IsUploaded}
 use Rattle.review_machine_rows.specs.declared.rows.Want.TheVariants as want
 
@@ -41,7 +41,7 @@ pub makes : (n : ℕ) (rows : ChangeRows) (new : Change) (d : EditedChange) (r :
 makes n rows new d r m made = IfOk-weaker r (MakesChange n (seen d.rows.now) (after_edits d)) (MakesChange n (seen rows) new) (λ delta. made_of n rows new d delta m) made
 
 -- a delta of one edit names each key once, where the edit does
-pub one_edit_once : (e : ChangeEdit) (delta : Delta) → EditsChange e delta → NamesRowsOnce e → NamesEachOnce delta
+pub one_edit_once : (e : ChangeEdit) (delta : Delta) → EditsChanges (e ∷ []) delta → NamesRowsOnce e → NamesEachOnce delta
 one_edit_once e delta m once = (
   subst (NamesOnce nat_cmp) (sym m.accounts) tt,
   subst (NamesOnce member_cmp) (sym m.members) tt,

@@ -6,11 +6,10 @@ ghost use Rattle.review_words.specs.History.{Entry, is_account};
 ghost use Rattle.review_words.specs.{Texts.IsStored, declared.command.Command.TheVariants.CreateChange};
 ghost use Rattle.review_words.specs.declared.reply.NotTaken.TheVariants.{Memory};
 ghost use Rattle.review_core_rules.specs.{Change.begun, Parts.Part, Parts.part_row};
-ghost use Rattle.review_machine_rows.specs.{Answer.first_refusal, Answer.most_requests, Changes.Reading};
-ghost use Rattle.review_machine_rows.specs.Decisions.{NamesEachOnce, NamesRowsOnce};
+ghost use Rattle.review_machine_rows.specs.{Answer.checks, Answer.first_refusal, Answer.most_requests, Changes.Reading};
+ghost use Rattle.review_machine_rows.specs.{Decisions.NamesEachOnce, Decisions.NamesRowsOnce, Desks.facts_by};
 ghost use Rattle.review_machine_rows.specs.{Known.known, Known.number_of, Rows.HasNoEffect, Rows.part_change};
 ghost use Rattle.review_machine_rows.specs.{Steps.OfCommand, View.AreEnough, View.IsDecided};
-ghost use Rattle.review_machine_changes.specs.inner.Facts.{create_checks};
 ghost use Rattle.review_machine_rows.specs.declared.rows.Want.TheVariants as want;
 
 use crate::edits::delta_of;
@@ -26,41 +25,35 @@ use review_words::{AccountNo, Answer, ChangeNo, NewChange, NotTaken, PatchNo, Re
 use std::alloc::{AllocError, Global};
 
 /// Whether a project has a branch.
-fn has_branch(
-    alloc: Global,
-    rows: &Rows,
-    project: &ProjectName,
-    branch: &BranchName,
-) -> Result<bool, AllocError>
+fn has_branch(rows: &Rows, project: &ProjectName, branch: &BranchName) -> Result<bool, AllocError>
     ensures { IfOk result (λ b. b ≡ nat_le 1 (number_of (known rows.now (want.LastPlace (record { project = project.now; branch = branch.now }))))) }
 {
-    let key = branch_of(alloc, project, branch)?;
+    let key = branch_of(project, branch)?;
     Ok(rows.number(&Want::LastPlace(key)) > 0)
 }
 
 /// The first check of a new change that fails, where one does.
 fn create_refusal(
-    alloc: Global,
     effective: Option<&ProjectFile>,
     rows: &Rows,
     caller: AccountNo,
     new: &NewChange,
 ) -> Result<Option<Refusal>, AllocError>
-    ensures { IfOk result (λ r. r ≡ first_refusal (create_checks (option_copied effective.entry) rows.now caller new.now)) }
+    ensures { IfOk result (λ r. r ≡ first_refusal (checks (facts_by rows.now (option_copied effective.entry)) caller (CreateChange new.now))) }
 {
     let Some(file) = effective else {
         return Ok(Some(Refusal::NoProject));
     };
-    if !has_branch(alloc, rows, &new.project, &new.branch)? {
+    if !has_branch(rows, &new.project, &new.branch)? {
         return Ok(Some(Refusal::NoBranch));
     }
-    if !has_right(alloc, rows, file, Right::Create, caller)? {
+    if !has_right(rows, file, Right::Create, caller)? {
         return Ok(Some(Refusal::NotAllowed));
     }
-    if is_known(alloc, rows, &new.project, &new.branch, &new.commit)? {
+    if is_known(rows, &new.project, &new.branch, &new.commit)? {
         return Ok(Some(Refusal::CommitKnown));
     }
-    if !is_known(alloc, rows, &new.project, &new.branch, &new.parent)? {
+    if !is_known(rows, &new.project, &new.branch, &new.parent)? {
         return Ok(Some(Refusal::UnknownParent));
     }
     if rows.number(&Want::LastChange) >= 1_000_000_000 {
@@ -126,7 +119,7 @@ pub fn create_change(
     ensures once { IfOk result (λ r. NamesEachOnce r.0) }
 {
     one_effective_file();
-    let refusal = create_refusal(alloc, effective, rows, caller, new)?;
+    let refusal = create_refusal(effective, rows, caller, new)?;
     if let Some(refusal) = refusal {
         return Ok(refused(alloc, refusal));
     }

@@ -1,9 +1,10 @@
 //! The change that a command names, and what it makes of it.
-ghost use Rattle.std.specs.Prelude.{◌≡◌, ◌⊎◌, IfOk, IfErr};
+ghost use Rattle.std.specs.Prelude.{[], ◌≡◌, ◌⊎◌, ◌∷◌, IfOk, IfErr};
 ghost use Rattle.review_words.specs.declared.reply.NotTaken.TheVariants.{Damaged, Memory};
 ghost use Rattle.review_core_rules.specs.{EditedChanges.after_edits, Seen.seen, Sound.IsSound};
 ghost use Rattle.review_machine_rows.specs.Decisions.{NamesEachOnce, NamesRowsOnce};
-ghost use Rattle.review_machine_changes.specs.Facts.{EditsChange, IsChecked, MakesChange};
+ghost use Rattle.review_machine_accounts.specs.Decisions.{EditsChanges};
+ghost use Rattle.review_machine_changes.specs.Facts.{IsChecked, MakesChange};
 
 use review_core::{ChangeFile, RowsFault};
 use review_core_rules::{ChangeRows, EditedChange};
@@ -56,7 +57,7 @@ pub fn checked_by<'r>(file: ChangeFile<'r>, refusal: Option<Refusal>) -> Checked
 
 /// The delta of one edit.
 pub fn delta_of(alloc: Global, edit: ChangeEdit) -> Result<Delta, AllocError>
-    ensures edits { IfOk result (EditsChange edit) }
+    ensures edits { IfOk result (EditsChanges (edit ∷ [])) }
     ensures once { IfOk result (λ delta. NamesRowsOnce edit → NamesEachOnce delta) }
 {
     let mut delta = nothing(alloc);

@@ -1,42 +1,32 @@
 //! What rows tell of a command on a change.
 ghost use Rattle.std.specs.{List.list_any, Prelude.◌≡◌, Prelude.IfOk};
-ghost use Rattle.{review_file_rules.specs.Rights.groups_of, review_core_rules.specs.Change.is_open};
-ghost use Rattle.review_machine_changes.specs.Facts.{in_rows, right_in};
+ghost use Rattle.review_core_rules.specs.Change.{is_open};
+ghost use Rattle.review_machine_rows.specs.{Answer.has_right, Desks.facts_in, Desks.in_rows};
 
 use review_file::{ProjectFile, Right};
 use review_machine_rows::{MemberKey, Rows, Want};
 use review_words::{AccountNo, GroupName, State};
-use std::alloc::{AllocError, Global};
+use std::alloc::AllocError;
 
 /// Whether an account is known to be in a group; every account is in `Registered-Users`.
-pub fn is_in(
-    alloc: Global,
-    rows: &Rows,
-    account: AccountNo,
-    group: &GroupName,
-) -> Result<bool, AllocError>
+pub fn is_in(rows: &Rows, account: AccountNo, group: &GroupName) -> Result<bool, AllocError>
     ensures { IfOk result (λ b. b ≡ in_rows rows.now account group.now) }
 {
     if group.as_str() == "Registered-Users" {
         return Ok(true);
     }
     let key = MemberKey {
-        group: group.copy(alloc)?,
+        group: group.copy()?,
         account,
     };
     Ok(rows.is_so(&Want::Member(key)))
 }
 
-fn is_in_any(
-    alloc: Global,
-    rows: &Rows,
-    account: AccountNo,
-    groups: &[GroupName],
-) -> Result<bool, AllocError>
+fn is_in_any(rows: &Rows, account: AccountNo, groups: &[GroupName]) -> Result<bool, AllocError>
     ensures { IfOk result (λ b. b ≡ list_any (in_rows rows.now account) groups.now) }
 {
     for group in groups {
-        if is_in(alloc, rows, account, group)? {
+        if is_in(rows, account, group)? {
             return Ok(true);
         }
     }
@@ -45,15 +35,14 @@ fn is_in_any(
 
 /// Whether an account is known to have a right, by the project's file.
 pub fn has_right(
-    alloc: Global,
     rows: &Rows,
     file: &ProjectFile,
     right: Right,
     account: AccountNo,
 ) -> Result<bool, AllocError>
-    ensures { IfOk result (λ b. b ≡ right_in rows.now file.now right account) }
+    ensures { IfOk result (λ b. b ≡ has_right (facts_in rows.now) file.now right account) }
 {
-    is_in_any(alloc, rows, account, file.groups(right))
+    is_in_any(rows, account, file.groups(right))
 }
 
 /// Whether a state is open.

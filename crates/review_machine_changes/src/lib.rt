@@ -21,5 +21,3 @@ pub mod uploading;
 
 pub use creating::create_change;
 pub use requests::on_change;
-pub use reviewing::review;
-pub use uploading::upload;

@@ -1,15 +1,15 @@
 //! Values on labels.
 ghost use Rattle.std.specs.{List.list_all, List.list_any, Ordering.int_eq};
-ghost use Rattle.std.specs.Prelude.{◌≡◌, ◌&&◌, IfOk, int_le, is_some, filter};
+ghost use Rattle.std.specs.Prelude.{◌≡◌, Some, ◌&&◌, IfOk, int_le, is_some, filter};
 ghost use Rattle.review_file_rules.specs.Rights.{greatest_of, least_of};
-ghost use Rattle.{review_core_rules.specs.Change.label_in, review_machine_rows.specs.Answer.is_value_of};
-ghost use Rattle.review_machine_changes.specs.Facts.{in_rows, range_in};
+ghost use Rattle.review_core_rules.specs.Change.{label_in};
+ghost use Rattle.review_machine_rows.specs.{Answer.is_in_range, Answer.is_value_of, Desks.facts_by, Desks.in_rows};
 
 use crate::facts::is_in;
 use review_file::{Grant, Label, ProjectFile, grants_of};
 use review_machine_rows::Rows;
 use review_words::{AccountNo, Given};
-use std::alloc::{AllocError, Global};
+use std::alloc::AllocError;
 
 /// Whether a file has each of the labels that values are given on.
 pub fn has_labels(file: &ProjectFile, given: &[Given]) -> bool
@@ -42,16 +42,15 @@ fn is_value(label: &Label, value: i8) -> bool
 
 /// Whether each value that is given lies in the range of an account, as far as rows tell its groups.
 pub fn are_in_range(
-    alloc: Global,
     rows: &Rows,
     file: &ProjectFile,
     account: AccountNo,
     given: &[Given],
 ) -> Result<bool, AllocError>
-    ensures { IfOk result (λ b. b ≡ list_all (range_in rows.now file.now account) given.now) }
+    ensures { IfOk result (λ b. b ≡ list_all (is_in_range (facts_by rows.now (Some file.now)) file.now account) given.now) }
 {
     for one in given {
-        if !is_in_range(alloc, rows, file, account, one)? {
+        if !is_in_range(rows, file, account, one)? {
             return Ok(false);
         }
     }
@@ -59,17 +58,16 @@ pub fn are_in_range(
 }
 
 fn is_in_range(
-    alloc: Global,
     rows: &Rows,
     file: &ProjectFile,
     account: AccountNo,
     given: &Given,
 ) -> Result<bool, AllocError>
-    ensures { IfOk result (λ b. b ≡ range_in rows.now file.now account given.now) }
+    ensures { IfOk result (λ b. b ≡ is_in_range (facts_by rows.now (Some file.now)) file.now account given.now) }
 {
     let grants = grants_of(file, &given.label);
-    let least = least_in(alloc, rows, account, grants)?;
-    let greatest = greatest_in(alloc, rows, account, grants)?;
+    let least = least_in(rows, account, grants)?;
+    let greatest = greatest_in(rows, account, grants)?;
     Ok(lies_within(given.value, least, greatest))
 }
 
@@ -79,34 +77,24 @@ fn lies_within(value: i8, least: i8, greatest: i8) -> bool
     least <= value && value <= greatest
 }
 
-fn least_in(
-    alloc: Global,
-    rows: &Rows,
-    account: AccountNo,
-    grants: &[Grant],
-) -> Result<i8, AllocError>
+fn least_in(rows: &Rows, account: AccountNo, grants: &[Grant]) -> Result<i8, AllocError>
     ensures { IfOk result (λ n. n ≡ least_of (filter (λ x. in_rows rows.now account x.group) grants.now)) }
 {
     let mut least = 0;
     for grant in grants {
-        if is_in(alloc, rows, account, &grant.group)? {
+        if is_in(rows, account, &grant.group)? {
             least = least.min(grant.least);
         }
     }
     Ok(least)
 }
 
-fn greatest_in(
-    alloc: Global,
-    rows: &Rows,
-    account: AccountNo,
-    grants: &[Grant],
-) -> Result<i8, AllocError>
+fn greatest_in(rows: &Rows, account: AccountNo, grants: &[Grant]) -> Result<i8, AllocError>
     ensures { IfOk result (λ n. n ≡ greatest_of (filter (λ x. in_rows rows.now account x.group) grants.now)) }
 {
     let mut greatest = 0;
     for grant in grants {
-        if is_in(alloc, rows, account, &grant.group)? {
+        if is_in(rows, account, &grant.group)? {
             greatest = greatest.max(grant.greatest);
         }
     }

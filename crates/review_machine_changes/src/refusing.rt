@@ -1,10 +1,15 @@
 //! The first check of a request on a change that fails.
-ghost use Rattle.std.specs.Prelude.{◌≡◌, ◌||◌, ◌∷◌, [], not, IfOk, option_copied, if◌then◌else◌};
-ghost use Rattle.{review_words.specs.declared.reply.Refusal.TheVariants.SameState, review_core_rules.specs.Seen.seen};
-ghost use Rattle.review_machine_rows.specs.Answer.{first_refusal, has_role, is_merged};
-ghost use Rattle.review_machine_changes.specs.Requests.{abandon_list, call_list, flag_list, leave_list, plain_list, removal_list, restore_list, right_by, role_list, runs_in};
+ghost use Rattle.std.specs.Prelude.{◌≡◌, ◌∷◌, [], false, not, IfOk, option_copied, unwrap_or, if◌then◌else◌};
+ghost use Rattle.review_words.specs.declared.reply.Refusal.TheVariants.{SameState};
+ghost use Rattle.{review_file_rules.specs.Inherited.no_file, review_core_rules.specs.Seen.seen};
+ghost use Rattle.review_machine_rows.specs.Answer.{abandon_checks, call_checks, first_refusal, flag_checks, has_right, has_role, is_merged, leave_checks, may_abandon, removal_checks, request_checks, restore_checks, role_checks, runs};
+ghost use Rattle.review_machine_rows.specs.Desks.{facts_by, facts_in};
+ghost use Rattle.review_machine_changes.specs.inner.Words.{lacks_file};
+ghost use Rattle.review_file_rules.specs.declared.parts.Right.TheVariants as right;
 
 use crate::facts::{has_right, is_open};
+use crate::reviewing::review_refusal;
+use crate::uploading::upload_refusal;
 use review_core::ChangeFile;
 use review_core_rules::{ChangeRows, Header};
 use review_file::{ProjectFile, Right};
@@ -20,7 +25,7 @@ fn runs(
     caller: AccountNo,
     change: &ChangeRows,
 ) -> Result<bool, AllocError>
-    ensures { IfOk result (λ b. b ≡ runs_in rows.now caller (seen change.now)) }
+    ensures { IfOk result (λ b. b ≡ runs (facts_in rows.now) caller (seen change.now)) }
 {
     if caller == change.header.owner {
         return Ok(true);
@@ -30,15 +35,14 @@ fn runs(
 
 /// Whether an account is known to have the right to abandon.
 fn has_right_by(
-    alloc: Global,
     effective: Option<&ProjectFile>,
     rows: &Rows,
     caller: AccountNo,
 ) -> Result<bool, AllocError>
-    ensures { IfOk result (λ b. b ≡ right_by (option_copied effective.entry) rows.now caller) }
+    ensures { IfOk result (λ b. b ≡ has_right (facts_in rows.now) (unwrap_or (option_copied effective.entry) no_file) right.Abandon caller) }
 {
     match effective {
-        Some(file) => has_right(alloc, rows, file, Right::Abandon, caller),
+        Some(file) => has_right(rows, file, Right::Abandon, caller),
         None => Ok(false),
     }
 }
@@ -51,12 +55,12 @@ fn may_abandon(
     caller: AccountNo,
     change: &ChangeRows,
 ) -> Result<bool, AllocError>
-    ensures { IfOk result (λ b. b ≡ (runs_in rows.now caller (seen change.now) || right_by (option_copied effective.entry) rows.now caller)) }
+    ensures { IfOk result (λ b. b ≡ may_abandon (facts_by rows.now (option_copied effective.entry)) caller (seen change.now)) }
 {
     if runs(alloc, rows, caller, change)? {
         return Ok(true);
     }
-    has_right_by(alloc, effective, rows, caller)
+    has_right_by(effective, rows, caller)
 }
 
 /// Whether an account has just this role.
@@ -77,7 +81,7 @@ fn is_merged(state: State) -> bool
 }
 
 fn role_refusal(rows: &Rows, change: &ChangeRows, account: AccountNo, role: Role) -> Option<Refusal>
-    ensures { result ≡ first_refusal (role_list rows.now account role (seen change.now)) }
+    ensures { result ≡ first_refusal (role_checks (facts_in rows.now) account role (seen change.now)) }
 {
     if !rows.is_there(&Want::Account(account)) {
         return Some(Refusal::NoAccount);
@@ -95,7 +99,7 @@ fn removal_refusal(
     change: &ChangeRows,
     account: AccountNo,
 ) -> Result<Option<Refusal>, AllocError>
-    ensures { IfOk result (λ r. r ≡ first_refusal (removal_list rows.now caller account (seen change.now))) }
+    ensures { IfOk result (λ r. r ≡ first_refusal (removal_checks (facts_in rows.now) caller account (seen change.now))) }
 {
     if !rows.is_there(&Want::Account(account)) {
         return Ok(Some(Refusal::NoAccount));
@@ -120,7 +124,7 @@ fn flag_refusal(
     change: &ChangeRows,
     was: bool,
 ) -> Result<Option<Refusal>, AllocError>
-    ensures { IfOk result (λ r. r ≡ first_refusal (flag_list rows.now caller was (seen change.now))) }
+    ensures { IfOk result (λ r. r ≡ first_refusal (flag_checks (facts_in rows.now) caller was (seen change.now))) }
 {
     if !runs(alloc, rows, caller, change)? {
         return Ok(Some(Refusal::NotAllowed));
@@ -147,7 +151,7 @@ fn abandon_refusal(
     caller: AccountNo,
     change: &ChangeRows,
 ) -> Result<Option<Refusal>, AllocError>
-    ensures { IfOk result (λ r. r ≡ first_refusal (abandon_list (option_copied effective.entry) rows.now caller (seen change.now))) }
+    ensures { IfOk result (λ r. r ≡ first_refusal (abandon_checks (facts_by rows.now (option_copied effective.entry)) caller (seen change.now))) }
 {
     if !may_abandon(alloc, effective, rows, caller, change)? {
         return Ok(Some(Refusal::NotAllowed));
@@ -165,7 +169,7 @@ fn restore_refusal(
     caller: AccountNo,
     change: &ChangeRows,
 ) -> Result<Option<Refusal>, AllocError>
-    ensures { IfOk result (λ r. r ≡ first_refusal (restore_list (option_copied effective.entry) rows.now caller (seen change.now))) }
+    ensures { IfOk result (λ r. r ≡ first_refusal (restore_checks (facts_by rows.now (option_copied effective.entry)) caller (seen change.now))) }
 {
     if !may_abandon(alloc, effective, rows, caller, change)? {
         return Ok(Some(Refusal::NotAllowed));
@@ -180,7 +184,7 @@ fn restore_refusal(
 }
 
 fn call_refusal(rows: &Rows, file: &ChangeFile, account: AccountNo) -> Option<Refusal>
-    ensures { result ≡ first_refusal (call_list rows.now account (seen file.now.rows.now)) }
+    ensures { result ≡ first_refusal (call_checks (facts_in rows.now) account (seen file.now.rows.now)) }
 {
     if !rows.is_there(&Want::Account(account)) {
         return Some(Refusal::NoAccount);
@@ -199,7 +203,7 @@ fn call_refusal(rows: &Rows, file: &ChangeFile, account: AccountNo) -> Option<Re
 }
 
 fn leave_refusal(rows: &Rows, change: &ChangeRows, account: AccountNo) -> Option<Refusal>
-    ensures { result ≡ first_refusal (leave_list rows.now account (seen change.now)) }
+    ensures { result ≡ first_refusal (leave_checks (facts_in rows.now) account (seen change.now)) }
 {
     if !rows.is_there(&Want::Account(account)) {
         return Some(Refusal::NoAccount);
@@ -213,8 +217,8 @@ fn leave_refusal(rows: &Rows, change: &ChangeRows, account: AccountNo) -> Option
     None
 }
 
-/// The first check of a request that fails, where one does; none of a patch set and of a review are looked at.
-pub fn plain_refusal(
+/// The first check of a request that fails, where one does. A request that needs a file is judged by one.
+pub fn request_refusal(
     alloc: Global,
     effective: Option<&ProjectFile>,
     rows: &Rows,
@@ -222,12 +226,16 @@ pub fn plain_refusal(
     command: &ChangeCommand,
     file: &ChangeFile,
 ) -> Result<Option<Refusal>, AllocError>
-    ensures { IfOk result (λ r. r ≡ first_refusal (plain_list (option_copied effective.entry) rows.now caller command.now (seen file.now.rows.now))) }
+    requires { lacks_file (option_copied effective) command.now ≡ false }
+    ensures { IfOk result (λ r. r ≡ first_refusal (request_checks (facts_by rows.now (option_copied effective.entry)) caller command.now (seen file.now.rows.now))) }
 {
     let change = file.rows();
     match command {
-        ChangeCommand::Upload(_) => Ok(None),
-        ChangeCommand::Review(_) => Ok(None),
+        ChangeCommand::Upload(patch) => match effective {
+            Some(project) => upload_refusal(project, rows, caller, patch, change),
+            None => unreachable!(),
+        },
+        ChangeCommand::Review(review) => review_refusal(effective, rows, caller, review, change),
         ChangeCommand::AddReviewer { account, role } => {
             Ok(role_refusal(rows, change, *account, *role))
         }

@@ -5,20 +5,21 @@ ghost use Rattle.review_words.specs.{Texts.IsStored, declared.command.Command.Th
 ghost use Rattle.review_words.specs.declared.reply.NotTaken.TheVariants.{Damaged, Memory};
 ghost use Rattle.review_core_rules.specs.{Change.after_plain, EditedChanges.Makes, Seen.seen};
 ghost use Rattle.review_core_rules.specs.Sound.{IsSound, fits};
-ghost use Rattle.review_machine_rows.specs.{Answer.first_refusal, Answer.most_requests, Changes.Reading};
-ghost use Rattle.review_machine_rows.specs.Decisions.{IsUndecided, NamesEachOnce};
-ghost use Rattle.review_machine_rows.specs.{Rows.HasNoEffect, Steps.OfCommand, View.AreEnough, View.IsDecided};
-ghost use Rattle.review_machine_changes.specs.{Facts.IsChecked, Facts.MakesChange, Requests.plain_list};
-ghost use Rattle.review_machine_changes.specs.inner.Words.{IsPlainlyDone, is_plain, lacks_file, asks_right};
+ghost use Rattle.review_machine_rows.specs.Answer.{first_refusal, most_requests, request_checks};
+ghost use Rattle.review_machine_rows.specs.{Changes.Reading, Decisions.IsUndecided, Decisions.NamesEachOnce};
+ghost use Rattle.review_machine_rows.specs.{Desks.facts_by, Rows.HasNoEffect, Steps.needs_file, Steps.OfCommand};
+ghost use Rattle.review_machine_rows.specs.View.{AreEnough, IsDecided};
+ghost use Rattle.review_machine_changes.specs.Facts.{IsChecked, MakesChange};
+ghost use Rattle.review_machine_changes.specs.inner.Words.{IsDone, IsPlainlyDone, is_plain, lacks_file};
 
 use crate::edits::{Checked, change_file, checked_by, turned};
-use crate::refusing::plain_refusal;
-use crate::reviewing::review;
-use crate::uploading::upload;
+use crate::refusing::request_refusal;
+use crate::reviewing::reviewed;
+use crate::uploading::uploaded;
 use review_core::ChangeFile;
 use review_core_rules::{ChangeRows, EditedChange};
 use review_file::ProjectFile;
-use review_file_rules::one_effective_file;
+use review_file_rules::{groups_suffice, one_effective_file};
 use review_machine_accounts::refused;
 use review_machine_laws::changes_are_sound;
 use review_machine_rows::{Delta, Rows, Want};
@@ -42,18 +43,33 @@ pub fn on_change(
     ensures epoch { IfOk result (λ r. r.0.least_epoch ≡ None) }
     ensures once { IfOk result (λ r. NamesEachOnce r.0) }
 {
-    match command {
-        ChangeCommand::Upload(patch) => upload(alloc, effective, rows, caller, change, patch),
-        ChangeCommand::Review(said) => review(alloc, effective, rows, caller, change, said),
-        _ => request(alloc, effective, rows, caller, change, command),
+    one_effective_file();
+    changes_are_sound();
+    groups_suffice();
+    let Some(found) = rows.change(change) else {
+        return Ok(refused(alloc, Refusal::NoChange));
+    };
+    if lacks_file(effective, command) {
+        return Err(NotTaken::Damaged);
+    }
+    let checked = check(alloc, effective, rows, caller, command, found)?;
+    match checked {
+        Checked::Passes(file) => {
+            Ok(done(alloc, effective, rows, caller, change, &file, command)?)
+        }
+        Checked::Fails(refusal) => Ok(refused(alloc, refusal)),
     }
 }
 
-/// Whether a right in the project's file decides a request that is neither a patch set nor a review.
-fn asks_right(command: &ChangeCommand) -> bool
-    ensures { result ≡ asks_right command.now }
+/// Whether a request is judged by the file of its project.
+fn needs_file(command: &ChangeCommand) -> bool
+    ensures { result ≡ needs_file command.now }
 {
-    matches!(command, ChangeCommand::Abandon | ChangeCommand::Restore)
+    match command {
+        ChangeCommand::Upload(_) | ChangeCommand::Abandon | ChangeCommand::Restore => true,
+        ChangeCommand::Review(review) => !review.labels.as_slice().is_empty(),
+        _ => false,
+    }
 }
 
 /// Whether a request is judged by the project's file, and there is none.
@@ -62,44 +78,12 @@ fn lacks_file(effective: Option<&ProjectFile>, command: &ChangeCommand) -> bool
 {
     match effective {
         Some(_) => false,
-        None => asks_right(command),
-    }
-}
-
-/// The answer to a request that is neither a patch set nor a review, and what it changes.
-fn request(
-    alloc: Global,
-    effective: Option<&ProjectFile>,
-    rows: &Rows,
-    caller: AccountNo,
-    change: ChangeNo,
-    command: &ChangeCommand,
-) -> Result<(Delta, Reply), NotTaken>
-    requires { is_plain command.now ≡ true }
-    ensures decided { IfOk result (λ r. (reading : Reading) (h : List Entry) → length h < most_requests → is_account h caller ≡ true → AreEnough reading h caller (OfCommand (OnChange change command.now)) (option_copied effective.entry) rows.now → IsDecided reading h caller (OnChange change command.now) r.0 r.1) }
-    ensures cause { IfErr result (IsUndecided caller (OnChange change command.now) (option_copied effective.entry) rows.now) }
-    ensures stored { IfOk result (λ r. IsStored r.1) }
-    ensures refused { IfOk result (λ r. HasNoEffect r.1 r.0) }
-    ensures epoch { IfOk result (λ r. r.0.least_epoch ≡ None) }
-    ensures once { IfOk result (λ r. NamesEachOnce r.0) }
-{
-    one_effective_file();
-    changes_are_sound();
-    let Some(found) = rows.change(change) else {
-        return Ok(refused(alloc, Refusal::NoChange));
-    };
-    if lacks_file(effective, command) {
-        return Err(NotTaken::Damaged);
-    }
-    let checked = plain_checked(alloc, effective, rows, caller, command, found)?;
-    match checked {
-        Checked::Passes(file) => Ok(done(alloc, rows, caller, change, &file, command)?),
-        Checked::Fails(refusal) => Ok(refused(alloc, refusal)),
+        None => needs_file(command),
     }
 }
 
 /// What the checks of a request on a change come to. Damaged only where the change isn't sound.
-fn plain_checked<'r>(
+fn check<'r>(
     alloc: Global,
     effective: Option<&ProjectFile>,
     rows: &Rows,
@@ -107,12 +91,41 @@ fn plain_checked<'r>(
     command: &ChangeCommand,
     found: &'r ChangeRows,
 ) -> Result<Checked<'r>, NotTaken>
-    ensures checked { IfOk result (IsChecked (first_refusal (plain_list (option_copied effective.entry) rows.now caller command.now (seen found.now))) (seen found.now)) }
+    requires { lacks_file (option_copied effective) command.now ≡ false }
+    ensures checked { IfOk result (IsChecked (first_refusal (request_checks (facts_by rows.now (option_copied effective.entry)) caller command.now (seen found.now))) (seen found.now)) }
     ensures cause { IfErr result (λ e. (e ≡ Memory) ⊎ ((e ≡ Damaged) × (IsSound (seen found.now) → ⊥))) }
 {
     let file = change_file(alloc, found)?;
-    let refusal = plain_refusal(alloc, effective, rows, caller, command, &file)?;
+    let refusal = request_refusal(alloc, effective, rows, caller, command, &file)?;
     Ok(checked_by(file, refusal))
+}
+
+/// The answer to a request that no check refuses, and what it changes.
+fn done(
+    alloc: Global,
+    effective: Option<&ProjectFile>,
+    rows: &Rows,
+    caller: AccountNo,
+    change: ChangeNo,
+    file: &ChangeFile,
+    command: &ChangeCommand,
+) -> Result<(Delta, Reply), AllocError>
+    requires judged { lacks_file (option_copied effective) command.now ≡ false }
+    requires fits { fits command.now (seen file.now.rows.now) ≡ true }
+    ensures made { IfOk result (λ r. IsDone (option_copied effective.entry) change command.now caller rows.now (seen file.now.rows.now) r.0 r.1) }
+    ensures stored { IfOk result (λ r. IsStored r.1) }
+    ensures refused { IfOk result (λ r. HasNoEffect r.1 r.0) }
+    ensures epoch { IfOk result (λ r. r.0.least_epoch ≡ None) }
+    ensures once { IfOk result (λ r. NamesEachOnce r.0) }
+{
+    match command {
+        ChangeCommand::Upload(patch) => match effective {
+            Some(project) => uploaded(alloc, project, rows, caller, change, file, patch),
+            None => unreachable!(),
+        },
+        ChangeCommand::Review(review) => reviewed(alloc, rows, caller, change, file, review),
+        _ => plainly_done(alloc, rows, caller, change, file, command),
+    }
 }
 
 /// What a request makes of a change.
@@ -167,8 +180,8 @@ fn delta_by(
     turned(alloc, change, edited)
 }
 
-/// The answer to a request that no check refuses, and what it changes.
-fn done(
+/// The answer to a request that is neither a patch set nor a review, where no check refuses it, and what it changes.
+fn plainly_done(
     alloc: Global,
     rows: &Rows,
     caller: AccountNo,

@@ -1,45 +1,37 @@
 //! Reviews.
 ghost use Rattle.std.specs.Option.{option_map_or};
-ghost use Rattle.std.specs.Prelude.{◌≡◌, ◌≤◌, ◌<◌, ◌+◌, ◌⊎◌, nat_le, None, List, Option, IfOk, IfErr, Some, length, option_copied, true, false, ◌==◌};
+ghost use Rattle.std.specs.Prelude.{◌≡◌, Some, ◌≤◌, ◌+◌, nat_le, None, IfOk, length, option_copied, true, false, ◌==◌, unwrap_or};
 ghost use Rattle.review_names.specs.Forms.{is_within, most_comments, most_patches};
-ghost use Rattle.review_words.specs.History.{Entry, is_account};
 ghost use Rattle.review_words.specs.{Texts.IsStored, declared.command.ChangeCommand.TheVariants.Review as ReviewOf};
-ghost use Rattle.review_words.specs.declared.command.Command.TheVariants.{OnChange};
-ghost use Rattle.review_words.specs.declared.reply.NotTaken.TheVariants.{Damaged, Memory};
+ghost use Rattle.review_file_rules.specs.Inherited.{no_file};
 ghost use Rattle.review_core_rules.specs.Change.{after_plain, current, reviewed, said};
-ghost use Rattle.review_core_rules.specs.{Seen.seen, Sound.IsSound, Sound.answer_stored, Sound.fits};
-ghost use Rattle.review_machine_rows.specs.Answer.{first_refusal, most_requests, numbers_after};
-ghost use Rattle.review_machine_rows.specs.{Changes.Reading, Decisions.IsUndecided, Decisions.NamesEachOnce};
-ghost use Rattle.review_machine_rows.specs.{Rows.HasNoEffect, Steps.OfCommand, View.AreEnough, View.IsDecided};
-ghost use Rattle.review_machine_changes.specs.Facts.{IsChecked, MakesChange};
-ghost use Rattle.review_machine_changes.specs.inner.Facts.{IsReviewed, LacksFile, given_in, given_of, next_numbers, review_list};
+ghost use Rattle.review_core_rules.specs.{Seen.seen, Sound.answer_stored, Sound.fits};
+ghost use Rattle.review_machine_rows.specs.Answer.{first_refusal, given_checks, review_checks};
+ghost use Rattle.review_machine_rows.specs.{Decisions.NamesEachOnce, Desks.facts_by, Rows.HasNoEffect};
+ghost use Rattle.review_machine_changes.specs.Facts.{MakesChange};
+ghost use Rattle.review_machine_changes.specs.inner.{Facts.IsReviewed, Facts.next_numbers, Words.lacks_file};
 
-use crate::edits::{Checked, change_file, checked_by, turned};
+use crate::edits::turned;
 use crate::facts::is_open;
 use crate::ranges::{are_in_range, has_labels, has_values};
 use review_core::ChangeFile;
 use review_core_rules::ChangeRows;
 use review_file::ProjectFile;
-use review_file_rules::one_effective_file;
-use review_machine_accounts::refused;
-use review_machine_laws::changes_are_sound;
 use review_machine_rows::{Delta, Rows, Want};
 use review_words::{
-    AccountNo, Answer, ChangeNo, CommentNo, CommentNumbers, NewComment, NotTaken, Refusal, Reply,
-    Review,
+    AccountNo, Answer, ChangeNo, CommentNo, CommentNumbers, NewComment, Refusal, Reply, Review,
 };
 use std::alloc::{AllocError, Global};
 
 /// The first check of the values that a review gives which fails, where one does.
 fn given_refusal(
-    alloc: Global,
     file: &ProjectFile,
     rows: &Rows,
     caller: AccountNo,
     review: &Review,
     change: &ChangeRows,
 ) -> Result<Option<Refusal>, AllocError>
-    ensures { IfOk result (λ r. r ≡ first_refusal (given_in file.now rows.now caller review.now (seen change.now) review.now.labels)) }
+    ensures { IfOk result (λ r. r ≡ first_refusal (given_checks (facts_by rows.now (Some file.now)) file.now caller review.now (seen change.now) review.now.labels)) }
 {
     let given = review.labels.as_slice();
     if given.is_empty() {
@@ -57,7 +49,7 @@ fn given_refusal(
     if !has_values(file, given) {
         return Ok(Some(Refusal::ValueOut));
     }
-    if !are_in_range(alloc, rows, file, caller, given)? {
+    if !are_in_range(rows, file, caller, given)? {
         return Ok(Some(Refusal::VoteRestricted));
     }
     Ok(None)
@@ -111,44 +103,39 @@ fn is_answer(stored: usize, comment: &NewComment) -> bool
 
 /// The first check of the values that a review gives which fails, where one does. Values need a file to be judged by.
 fn values_refusal(
-    alloc: Global,
     effective: Option<&ProjectFile>,
     rows: &Rows,
     caller: AccountNo,
     review: &Review,
     change: &ChangeRows,
-) -> Result<Option<Refusal>, NotTaken>
-    ensures refusal { IfOk result (λ r. r ≡ first_refusal (given_of (option_copied effective.entry) rows.now caller review.now (seen change.now))) }
-    ensures judged { IfOk result (λ r. LacksFile (option_copied effective.entry) review.now.labels → ⊥) }
-    ensures cause { IfErr result (λ e. (e ≡ Memory) ⊎ ((e ≡ Damaged) × LacksFile (option_copied effective.entry) review.now.labels)) }
+) -> Result<Option<Refusal>, AllocError>
+    requires { lacks_file (option_copied effective) (ReviewOf review.now) ≡ false }
+    ensures { IfOk result (λ r. r ≡ first_refusal (given_checks (facts_by rows.now (option_copied effective.entry)) (unwrap_or (option_copied effective.entry) no_file) caller review.now (seen change.now) review.now.labels)) }
 {
-    let Some(file) = effective else {
-        if review.labels.as_slice().is_empty() {
-            return Ok(None);
-        }
-        return Err(NotTaken::Damaged);
-    };
-    Ok(given_refusal(alloc, file, rows, caller, review, change)?)
+    match effective {
+        Some(file) => given_refusal(file, rows, caller, review, change),
+        None => Ok(None),
+    }
 }
 
-/// The first check of a review that fails, where one does.
-fn review_refusal(
-    alloc: Global,
+/// The first check of a review that fails, where one does: for a patch set that isn't there; where values are given for a closed change, an
+/// older patch set, a label that the project's file hasn't, a value that is none of its label's, or one outside the account's range, each over
+/// all values; then for an answer to a comment that isn't there, or the last number of a comment given, in this order.
+pub fn review_refusal(
     effective: Option<&ProjectFile>,
     rows: &Rows,
     caller: AccountNo,
     review: &Review,
     change: &ChangeRows,
-) -> Result<Option<Refusal>, NotTaken>
-    requires { is_within most_patches (current (seen change.now)) ≡ true }
-    ensures refusal { IfOk result (λ r. r ≡ first_refusal (review_list (option_copied effective.entry) rows.now caller review.now (seen change.now))) }
-    ensures judged { IfOk result (λ r. LacksFile (option_copied effective.entry) review.now.labels → is_within (current (seen change.now)) (reviewed review.now (seen change.now)) ≡ false) }
-    ensures cause { IfErr result (λ e. (e ≡ Memory) ⊎ ((e ≡ Damaged) × LacksFile (option_copied effective.entry) review.now.labels)) }
+) -> Result<Option<Refusal>, AllocError>
+    requires within { is_within most_patches (current (seen change.now)) ≡ true }
+    requires judged { lacks_file (option_copied effective) (ReviewOf review.now) ≡ false }
+    ensures { IfOk result (λ r. r ≡ first_refusal (review_checks (facts_by rows.now (option_copied effective.entry)) caller review.now (seen change.now))) }
 {
     if !has_reviewed(review, change) {
         return Ok(Some(Refusal::NoPatchSet));
     }
-    let values = values_refusal(alloc, effective, rows, caller, review, change)?;
+    let values = values_refusal(effective, rows, caller, review, change)?;
     if values.is_some() {
         return Ok(values);
     }
@@ -227,57 +214,8 @@ fn with_review(
     turned(alloc, change, edited)
 }
 
-/// What an account says of a patch set of a change: a message, values on labels, comments. Refused for a change or a patch set that isn't
-/// there; where values are given for a closed change, an older patch set, a label that the project's file hasn't, a value that is none of
-/// its label's, or one outside the account's range, each over all values; then for an answer to a comment that isn't there, or the last
-/// number of a comment given, in this order. An error is want of memory, or Damaged, where the rows are those of no history.
-pub fn review(
-    alloc: Global,
-    effective: Option<&ProjectFile>,
-    rows: &Rows,
-    caller: AccountNo,
-    change: ChangeNo,
-    review: &Review,
-) -> Result<(Delta, Reply), NotTaken>
-    ensures decided { IfOk result (λ r. (reading : Reading) (h : List Entry) → length h < most_requests → is_account h caller ≡ true → AreEnough reading h caller (OfCommand (OnChange change (ReviewOf review.now))) (option_copied effective.entry) rows.now → IsDecided reading h caller (OnChange change (ReviewOf review.now)) r.0 r.1) }
-    ensures cause { IfErr result (IsUndecided caller (OnChange change (ReviewOf review.now)) (option_copied effective.entry) rows.now) }
-    ensures stored { IfOk result (λ r. IsStored r.1) }
-    ensures refused { IfOk result (λ r. HasNoEffect r.1 r.0) }
-    ensures epoch { IfOk result (λ r. r.0.least_epoch ≡ None) }
-    ensures once { IfOk result (λ r. NamesEachOnce r.0) }
-{
-    one_effective_file();
-    changes_are_sound();
-    let Some(found) = rows.change(change) else {
-        return Ok(refused(alloc, Refusal::NoChange));
-    };
-    let checked = review_checked(alloc, effective, rows, caller, review, found)?;
-    match checked {
-        Checked::Passes(file) => Ok(reviewed(alloc, rows, caller, change, &file, review)?),
-        Checked::Fails(refusal) => Ok(refused(alloc, refusal)),
-    }
-}
-
-/// What the checks of a review of a change come to. Damaged only where the change isn't sound, or there is no file to judge values by.
-fn review_checked<'r>(
-    alloc: Global,
-    effective: Option<&ProjectFile>,
-    rows: &Rows,
-    caller: AccountNo,
-    review: &Review,
-    found: &'r ChangeRows,
-) -> Result<Checked<'r>, NotTaken>
-    ensures checked { IfOk result (IsChecked (first_refusal (review_list (option_copied effective.entry) rows.now caller review.now (seen found.now))) (seen found.now)) }
-    ensures judged { IfOk result (λ r. LacksFile (option_copied effective.entry) review.now.labels → is_within (current (seen found.now)) (reviewed review.now (seen found.now)) ≡ false) }
-    ensures cause { IfErr result (λ e. (e ≡ Memory) ⊎ ((e ≡ Damaged) × ((IsSound (seen found.now) → ⊥) ⊎ LacksFile (option_copied effective.entry) review.now.labels))) }
-{
-    let file = change_file(alloc, found)?;
-    let refusal = review_refusal(alloc, effective, rows, caller, review, found)?;
-    Ok(checked_by(file, refusal))
-}
-
-/// The answer to a review that no check refuses, and what it changes.
-fn reviewed(
+/// The answer to a review that no check refuses, and what it changes: a message, values on labels, comments.
+pub fn reviewed(
     alloc: Global,
     rows: &Rows,
     caller: AccountNo,

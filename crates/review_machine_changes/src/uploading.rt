@@ -1,71 +1,64 @@
 //! New patch sets.
-ghost use Rattle.std.specs.Prelude.{◌≡◌, ◌⊎◌, ◌<◌, ◌+◌, ◌==◌, ◌||◌, List, IfOk, IfErr, length, option_copied, true, None};
+ghost use Rattle.std.specs.Prelude.{◌≡◌, ◌⊎◌, ◌<◌, ◌+◌, ◌==◌, ◌||◌, Some, IfOk, true, None};
 ghost use Rattle.review_names.specs.Forms.{is_within, most_patches};
-ghost use Rattle.review_words.specs.{History.Entry, History.is_account, Texts.IsStored, Texts.IsStoredAnswer};
+ghost use Rattle.review_words.specs.Texts.{IsStored, IsStoredAnswer};
 ghost use Rattle.review_words.specs.declared.command.ChangeCommand.TheVariants.{Upload as UploadOf};
-ghost use Rattle.review_words.specs.declared.{command.Command.TheVariants.OnChange, reply.Answer.TheVariants.Patch};
-ghost use Rattle.review_words.specs.declared.reply.NotTaken.TheVariants.{Damaged, Memory};
+ghost use Rattle.review_words.specs.declared.reply.Answer.TheVariants.{Patch};
 ghost use Rattle.review_core_rules.specs.Change.{after, carried, copying, current, is_lost};
-ghost use Rattle.review_core_rules.specs.{Counts.AreMany, EditedChanges.Makes, Seen.seen, Sound.IsSound, Sound.fits};
-ghost use Rattle.review_core_rules.specs.Votes.{voted};
-ghost use Rattle.review_machine_rows.specs.{Answer.first_refusal, Answer.most_requests, Changes.Reading};
-ghost use Rattle.review_machine_rows.specs.Decisions.{IsUndecided, NamesEachOnce};
-ghost use Rattle.review_machine_rows.specs.{Rows.HasNoEffect, Steps.OfCommand, View.AreEnough, View.IsDecided};
-ghost use Rattle.review_machine_changes.specs.Facts.{IsChecked, right_in, setting_in};
-ghost use Rattle.review_machine_changes.specs.inner.Facts.{IsUploaded, upload_list};
+ghost use Rattle.review_core_rules.specs.{Counts.AreMany, EditedChanges.Makes, Seen.seen, Sound.fits, Votes.voted};
+ghost use Rattle.review_machine_rows.specs.Answer.{first_refusal, has_right, upload_checks};
+ghost use Rattle.review_machine_rows.specs.{Decisions.NamesEachOnce, Desks.facts_by, Desks.facts_in, Rows.HasNoEffect};
+ghost use Rattle.review_machine_changes.specs.{Facts.setting_in, inner.Facts.IsUploaded};
 ghost use Rattle.review_file_rules.specs.declared.parts.Right.TheVariants as right;
 
-use crate::edits::{Checked, change_file, checked_by, turned};
+use crate::edits::turned;
 use crate::facts::{has_right, is_open};
 use review_core::{ChangeFile, Copied};
 use review_core_rules::{ChangeRows, EditedChange, Header};
 use review_file::{ProjectFile, Right};
-use review_file_rules::{groups_suffice, one_effective_file};
-use review_machine_accounts::{is_known, refused};
+use review_machine_accounts::is_known;
 use review_machine_change_rows::copied_patch;
-use review_machine_laws::changes_are_sound;
 use review_machine_rows::{Delta, Rows, Want};
-use review_words::{AccountNo, Answer, ChangeNo, NewPatch, NotTaken, PatchNo, Refusal, Reply};
+use review_words::{AccountNo, Answer, ChangeNo, NewPatch, PatchNo, Refusal, Reply};
 use std::alloc::{AllocError, Global};
 
 /// Whether an account may send patch sets of a change: as its owner, or by the right to.
 fn may_upload(
-    alloc: Global,
     file: &ProjectFile,
     rows: &Rows,
     caller: AccountNo,
     header: &Header,
 ) -> Result<bool, AllocError>
-    ensures { IfOk result (λ b. b ≡ ((caller == header.now.owner) || right_in rows.now file.now right.Upload caller)) }
+    ensures { IfOk result (λ b. b ≡ ((caller == header.now.owner) || has_right (facts_in rows.now) file.now right.Upload caller)) }
 {
     if caller == header.owner {
         return Ok(true);
     }
-    has_right(alloc, rows, file, Right::Upload, caller)
+    has_right(rows, file, Right::Upload, caller)
 }
 
-/// The first check of a new patch set that fails, where one does.
-fn upload_refusal(
-    alloc: Global,
+/// The first check of a new patch set that fails, where one does: for an account that isn't the owner and has no right to upload, a closed
+/// change, a commit that is known in the branch, a parent that isn't, or the last number given, in this order.
+pub fn upload_refusal(
     file: &ProjectFile,
     rows: &Rows,
     caller: AccountNo,
     patch: &NewPatch,
     change: &ChangeRows,
 ) -> Result<Option<Refusal>, AllocError>
-    ensures { IfOk result (λ r. r ≡ first_refusal (upload_list file.now rows.now caller patch.now (seen change.now))) }
+    ensures { IfOk result (λ r. r ≡ first_refusal (upload_checks (facts_by rows.now (Some file.now)) caller patch.now (seen change.now))) }
 {
     let header = &change.header;
-    if !may_upload(alloc, file, rows, caller, header)? {
+    if !may_upload(file, rows, caller, header)? {
         return Ok(Some(Refusal::NotAllowed));
     }
     if !is_open(header.state) {
         return Ok(Some(Refusal::Closed));
     }
-    if is_known(alloc, rows, &header.project, &header.branch, &patch.commit)? {
+    if is_known(rows, &header.project, &header.branch, &patch.commit)? {
         return Ok(Some(Refusal::CommitKnown));
     }
-    if !is_known(alloc, rows, &header.project, &header.branch, &patch.parent)? {
+    if !is_known(rows, &header.project, &header.branch, &patch.parent)? {
         return Ok(Some(Refusal::UnknownParent));
     }
     if change.patches.len() >= 1000 {
@@ -100,60 +93,6 @@ fn patch_answer(change: ChangeNo, patch: PatchNo, counts: Copied) -> Answer
     }
 }
 
-/// A new patch set of a change, with the votes of the one before it that copy conditions copy, by the project's file and the groups before
-/// the command. The answer has the numbers of votes that were copied and that weren't. Refused for a change that isn't there, for an account
-/// that isn't the owner and has no right to upload, a closed change, a commit that is known in the branch, a parent that isn't, or the last
-/// number given, in this order. An error is want of memory, or Damaged, where the rows are those of no history.
-pub fn upload(
-    alloc: Global,
-    effective: Option<&ProjectFile>,
-    rows: &Rows,
-    caller: AccountNo,
-    change: ChangeNo,
-    patch: &NewPatch,
-) -> Result<(Delta, Reply), NotTaken>
-    ensures decided { IfOk result (λ r. (reading : Reading) (h : List Entry) → length h < most_requests → is_account h caller ≡ true → AreEnough reading h caller (OfCommand (OnChange change (UploadOf patch.now))) (option_copied effective.entry) rows.now → IsDecided reading h caller (OnChange change (UploadOf patch.now)) r.0 r.1) }
-    ensures cause { IfErr result (IsUndecided caller (OnChange change (UploadOf patch.now)) (option_copied effective.entry) rows.now) }
-    ensures stored { IfOk result (λ r. IsStored r.1) }
-    ensures refused { IfOk result (λ r. HasNoEffect r.1 r.0) }
-    ensures epoch { IfOk result (λ r. r.0.least_epoch ≡ None) }
-    ensures once { IfOk result (λ r. NamesEachOnce r.0) }
-{
-    one_effective_file();
-    changes_are_sound();
-    groups_suffice();
-    let Some(found) = rows.change(change) else {
-        return Ok(refused(alloc, Refusal::NoChange));
-    };
-    let Some(project) = effective else {
-        return Err(NotTaken::Damaged);
-    };
-    let checked = upload_checked(alloc, project, rows, caller, patch, found)?;
-    match checked {
-        Checked::Passes(file) => {
-            Ok(uploaded(alloc, project, rows, caller, change, &file, patch)?)
-        }
-        Checked::Fails(refusal) => Ok(refused(alloc, refusal)),
-    }
-}
-
-/// What the checks of a new patch set of a change come to. Damaged only where the change isn't sound.
-fn upload_checked<'r>(
-    alloc: Global,
-    project: &ProjectFile,
-    rows: &Rows,
-    caller: AccountNo,
-    patch: &NewPatch,
-    found: &'r ChangeRows,
-) -> Result<Checked<'r>, NotTaken>
-    ensures checked { IfOk result (IsChecked (first_refusal (upload_list project.now rows.now caller patch.now (seen found.now))) (seen found.now)) }
-    ensures cause { IfErr result (λ e. (e ≡ Memory) ⊎ ((e ≡ Damaged) × (IsSound (seen found.now) → ⊥))) }
-{
-    let file = change_file(alloc, found)?;
-    let refusal = upload_refusal(alloc, project, rows, caller, patch, found)?;
-    Ok(checked_by(file, refusal))
-}
-
 /// A change with a new patch set, and the numbers of votes that were copied to it and that weren't.
 fn with_patch<'r>(
     alloc: Global,
@@ -173,8 +112,9 @@ fn with_patch<'r>(
     file.with_patch_set(alloc, patch, caller, project, &rows.groups, request)
 }
 
-/// The answer to a new patch set that no check refuses, and what it changes.
-fn uploaded(
+/// The answer to a new patch set that no check refuses, and what it changes: it has the votes of the one before it that copy conditions
+/// copy, by the project's file and the groups before the command. The answer has the numbers of votes that were copied and that weren't.
+pub fn uploaded(
     alloc: Global,
     project: &ProjectFile,
     rows: &Rows,

@@ -17,10 +17,10 @@ use Rattle.review_machine_rows.proofs.Common.{Answer, ChangeCommand, Command, Do
 use Rattle.review_machine_rows.proofs.Readings.{IsDoneBy, done_of}
 use Rattle.review_machine_rows.specs.Answer.{IsAnswerBy, IsHistory, checks, IsUploadAnswer, is_value_of}
 use Rattle.review_machine_rows.specs.Changes.{Reading, Reads, change, change_by, change_count, setting_of, submitted, effective_of, file_of, own_of, texts_of}
-use Rattle.review_machine_rows.specs.Lines.{line_of, most_depth, with_above}
+use Rattle.review_machine_rows.specs.{Desks.facts_of, Lines.line_of, Lines.most_depth, Lines.with_above}
 use Rattle.review_machine_rows.specs.declared.rows.StoredFile.{StoredFile}
-use Rattle.review_machine_laws.proofs.Changes.{joining_keeps, all_pass, done_passes}
-use Rattle.review_machine_laws.proofs.{Histories.line_read, Rows.made_holds, SoundProjects.votes_stand}
+use Rattle.review_machine_laws.proofs.Changes.{joining_keeps, all_pass, done_passes, made_holds}
+use Rattle.review_machine_laws.proofs.{Histories.line_read, SoundProjects.votes_stand}
 use Rattle.review_machine_deliveries.proofs.Files.{AreReadRight, spelled_once}
 use Rattle.review_words.specs.declared.command.ChangeCommand.TheVariants as on
 
@@ -158,7 +158,7 @@ voters_done : (reading : Reading) (h : List Entry) (caller n : ℕ) (c : Change)
 voters_done reading h caller n c (CreateChange new) a answer before is =
     made_holds (HasVoters h) (change_count h + 1 == n) (change reading h n) (begun new caller (length h + 1)) c before (λ m l u none. absurd (cc)) is
 voters_done reading h caller n c (OnChange m command) a answer before is =
-    let account = (all_pass ((is_account h caller, UnknownCaller) ∷ checks reading h caller (OnChange m command)) (done_passes reading h caller (OnChange m command) a answer)).0 in
+    let account = (all_pass ((is_account h caller, UnknownCaller) ∷ checks (facts_of reading h) caller (OnChange m command)) (done_passes reading h caller (OnChange m command) a answer)).0 in
     by_choice (HasVoters h) (m == n) (change reading h n) (λ x. after (setting_of reading h x.project) command caller (length h + 1) x) c before
     (λ x has. voters_after h (setting_of reading h x.project) caller (length h + 1) command x account has) is
 voters_done reading h caller n c _ a answer before is = before c is
@@ -327,7 +327,7 @@ file_bound reading h project reads =
 account_made : (reading : Reading) (h : List Entry) (caller : ℕ) (command : Command) (a : Answer) → IsAnswerBy reading h caller command (Done a) → account_count h ≤ 1000000 →
     counted (Some command) (account_count h) ≤ 1000000
 account_made reading h caller (CreateAccount name) a answer before =
-    let all = (all_pass ((is_account h caller, UnknownCaller) ∷ checks reading h caller (CreateAccount name)) (done_passes reading h caller (CreateAccount name) a answer)).1 in
+    let all = (all_pass ((is_account h caller, UnknownCaller) ∷ checks (facts_of reading h) caller (CreateAccount name)) (done_passes reading h caller (CreateAccount name) a answer)).1 in
     let below : account_count h < 1000000 = ltb-true (account_count h) 1000000 all.1.1.0 in
     omega arith
 account_made reading h caller _ a answer before = before

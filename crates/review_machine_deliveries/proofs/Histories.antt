@@ -11,7 +11,7 @@ use Rattle.review_machine_rows.proofs.Asked.{requests_are}
 use Rattle.review_machine_rows.proofs.Common.{Change, ChangeCommand, Command, Delivery, File, IsDoneOrRefused, NewPatch, Nothing, Read, Reading, Reads, Refusal, Reply, RestsOn, Write, bytes_eq-Decides, change}
 use Rattle.review_machine_rows.proofs.Readings.{closed_stays, own_open, reading_of, IsToldDone, sent_or_done}
 use Rattle.review_machine_rows.specs.Answer.{IsHistory, IsAnswer, IsAnswerBy, IsAnswerAt, epoch_checks, IsOf, IsOutcome, IsRequestOutcome, IsUploadAnswer, file_checks, first_refusal, refused_by, refused_or, most_requests}
-use Rattle.review_machine_rows.specs.Known.{Agrees, known, number_of}
+use Rattle.review_machine_rows.specs.{Desks.facts_of, Known.Agrees, Known.known, Known.number_of}
 use Rattle.review_machine_rows.specs.Rows.{AnswerRow, Stored, Answered, Tables, ClosedEpochs, after, count_after, is_below, Key, Count, HasNoEffect, new_least, is_above}
 use Rattle.review_machine_rows.specs.Shelf.{IsCommitted, Answers, Shows, Views, LeavesBy, IsCounted, cause_of}
 use Rattle.review_machine_rows.specs.Steps.{Topic, OfCommand, OfQuery}
@@ -38,10 +38,7 @@ formed_entry caller epoch id command reply h form formed = (form, record { epoch
 taken_formed : (d : Delivery) (r : Reply) (es : List Entry) → IsFormed d → AreFormed es → AreFormed (with_taken d r es)
 taken_formed (Read caller query) r es form formed = formed
 taken_formed (Write caller epoch id command) (NotTaken cause) es form formed = formed
-taken_formed (Write caller epoch id command) (Done a) es form formed = formed_entry caller epoch id command (Done a) es form formed
-taken_formed (Write caller epoch id command) (Refused r) es form formed = formed_entry caller epoch id command (Refused r) es form formed
-taken_formed (Write caller epoch id command) IdentityReused es form formed = formed_entry caller epoch id command IdentityReused es form formed
-taken_formed (Write caller epoch id command) EpochClosed es form formed = formed_entry caller epoch id command EpochClosed es form formed
+taken_formed (Write caller epoch id command) reply es form formed = formed_entry caller epoch id command reply es form formed
 
 all_taken_formed : (ds : List Delivery) (rs : List Reply) → AllFormed ds → AreFormed (taken ds rs)
 all_taken_formed [] rs all = tt
@@ -134,19 +131,13 @@ answer_given_by reading h caller command reply is = at (refused_by reading h cal
 closing_given : (reading : Reading) (h : List Entry) (caller epoch least : ℕ) (reply : Reply) → IsAnswerAt reading h caller epoch (CloseEpoch least) reply → IsDoneOrRefused reply
 closing_given reading h caller epoch least reply is = at (refused_by reading h caller (CloseEpoch least)) is
   where
-    at : (o : Option Refusal) → MatchOption o (reply ≡ refused_or (first_refusal (epoch_checks h epoch least)) Nothing) (λ refusal. reply ≡ Refused refusal) → IsDoneOrRefused reply
-    at None is = subst IsDoneOrRefused (sym is) (file_given (first_refusal (epoch_checks h epoch least)))
+    at : (o : Option Refusal) → MatchOption o (reply ≡ refused_or (first_refusal (epoch_checks (facts_of reading h) epoch least)) Nothing) (λ refusal. reply ≡ Refused refusal) → IsDoneOrRefused reply
+    at None is = subst IsDoneOrRefused (sym is) (file_given (first_refusal (epoch_checks (facts_of reading h) epoch least)))
     at (Some r) is = subst IsDoneOrRefused (sym is) tt
 
 pub answer_given_in : (reading : Reading) (h : List Entry) (caller epoch : ℕ) (command : Command) (reply : Reply) → IsAnswerAt reading h caller epoch command reply → IsDoneOrRefused reply
-answer_given_in reading h caller epoch (CreateAccount name) reply is = answer_given_by reading h caller (CreateAccount name) reply is
-answer_given_in reading h caller epoch (PutGroup group members) reply is = answer_given_by reading h caller (PutGroup group members) reply is
-answer_given_in reading h caller epoch (PutProject project text) reply is = answer_given_by reading h caller (PutProject project text) reply is
-answer_given_in reading h caller epoch (RecordBase project branch commit) reply is = answer_given_by reading h caller (RecordBase project branch commit) reply is
-answer_given_in reading h caller epoch (CreateChange new) reply is = answer_given_by reading h caller (CreateChange new) reply is
-answer_given_in reading h caller epoch (OnChange n command) reply is = answer_given_by reading h caller (OnChange n command) reply is
-answer_given_in reading h caller epoch (Submit n) reply is = answer_given_by reading h caller (Submit n) reply is
 answer_given_in reading h caller epoch (CloseEpoch least) reply is = closing_given reading h caller epoch least reply is
+answer_given_in reading h caller epoch command reply is = answer_given_by reading h caller command reply is
 
 pub answer_given : (h : List Entry) (caller epoch : ℕ) (command : Command) (reply : Reply) → IsHistory h → IsAnswer h caller epoch command reply → IsDoneOrRefused reply
 answer_given h caller epoch command reply history is = let r = reading_of h history in answer_given_in r.0 h caller epoch command reply (is r.0 r.1)
@@ -313,15 +304,9 @@ requests_told h tables caller command file rows history v found asked =
 
 -- a history has all that an answer rests on
 pub rests_on : (h : List Entry) (topic : Topic) → IsHistory h → RestsOn topic h
-rests_on h (OfQuery (asked.OnChange change query)) hist = tt
-rests_on h (OfCommand (CreateAccount name)) hist = tt
-rests_on h (OfCommand (PutGroup group members)) hist = tt
-rests_on h (OfCommand (PutProject project text)) hist = tt
-rests_on h (OfCommand (RecordBase project branch commit)) hist = tt
-rests_on h (OfCommand (CloseEpoch epoch)) hist = tt
-rests_on h (OfCommand (CreateChange new)) hist = tt
-rests_on h (OfCommand (OnChange change command)) hist = tt
-rests_on h _ hist = hist
+rests_on h (OfCommand (Submit change)) hist = hist
+rests_on h (OfQuery (asked.Branch project branch)) hist = hist
+rests_on h _ hist = tt
 
 -- ==== what a delivery does to any tables whatever
 

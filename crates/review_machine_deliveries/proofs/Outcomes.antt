@@ -12,7 +12,7 @@ use Rattle.review_machine_rows.proofs.Common.{ChangeCommand, Command, Done, Expr
 use Rattle.review_machine_rows.proofs.Readings.{reading_of, IsToldDone, sent_or_done}
 use Rattle.review_machine_rows.specs.Answer.{IsAnswerBy, IsAnswerAt, epoch_checks, IsOf, IsOutcome, IsRequestOutcome, IsUploadAnswer, file_checks, file_with, first_refusal, keeps_parent, puts_unknown_label, refused_by, refused_or}
 use Rattle.review_machine_rows.specs.Changes.{Reading, change, depth, file_of, setting_of}
-use Rattle.review_machine_rows.specs.Files.{File, covers, HasDeepPattern}
+use Rattle.review_machine_rows.specs.{Desks.facts_of, Files.File, Files.covers, Files.HasDeepPattern}
 use Rattle.review_machine_deliveries.proofs.{Bounds.one_count, Files.spelled_once}
 use Rattle.review_machine_deliveries.proofs.Submits.{OneStanding, one_submit}
 use Rattle.review_machine_deliveries.specs.Restart.{IsFree, RefusesBadValue, OneAnswer}
@@ -97,18 +97,12 @@ one_answer_by one reading h caller command r s a b = at (refused_by reading h ca
 
 pub one_answer_in : OneStanding → (reading : Reading) (h : List Entry) (caller epoch : ℕ) (command : Command) (r s : Reply) → IsAnswerAt reading h caller epoch command r →
     IsAnswerAt reading h caller epoch command s → (r ≡ s) ⊎ (IsFree command × (RefusesBadValue r ⊎ RefusesBadValue s))
-one_answer_in one reading h caller epoch (CreateAccount name) r s a b = one_answer_by one reading h caller (CreateAccount name) r s a b
-one_answer_in one reading h caller epoch (PutGroup group members) r s a b = one_answer_by one reading h caller (PutGroup group members) r s a b
-one_answer_in one reading h caller epoch (PutProject project text) r s a b = one_answer_by one reading h caller (PutProject project text) r s a b
-one_answer_in one reading h caller epoch (RecordBase project branch commit) r s a b = one_answer_by one reading h caller (RecordBase project branch commit) r s a b
-one_answer_in one reading h caller epoch (CreateChange new) r s a b = one_answer_by one reading h caller (CreateChange new) r s a b
-one_answer_in one reading h caller epoch (OnChange n command) r s a b = one_answer_by one reading h caller (OnChange n command) r s a b
-one_answer_in one reading h caller epoch (Submit n) r s a b = one_answer_by one reading h caller (Submit n) r s a b
-one_answer_in one reading h caller epoch (CloseEpoch least) r s a b = inl (at (refused_by reading h caller (CloseEpoch least)) (refused_or (first_refusal (epoch_checks h epoch least)) Nothing) a b)
+one_answer_in one reading h caller epoch (CloseEpoch least) r s a b = inl (at (refused_by reading h caller (CloseEpoch least)) (refused_or (first_refusal (epoch_checks (facts_of reading h) epoch least)) Nothing) a b)
   where
     at : (o : Option Refusal) (x : Reply) → MatchOption o (r ≡ x) (λ y. r ≡ Refused y) → MatchOption o (s ≡ x) (λ y. s ≡ Refused y) → r ≡ s
     at None x a b = a ∙ sym b
     at (Some y) x a b = a ∙ sym b
+one_answer_in one reading h caller epoch command r s a b = one_answer_by one reading h caller command r s a b
 
 pub one_answer : OneStanding → OneAnswer
 one_answer one h caller epoch command r s history a b =

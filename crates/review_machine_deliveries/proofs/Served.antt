@@ -36,27 +36,15 @@ new_history h caller epoch id command _ s new = absurd s
 
 pub same_history : (h : List Entry) (caller epoch : ℕ) (id : List ℕ) (command : Command) (reply : Reply) (old : Entry) → stored h (record { caller = caller; epoch = epoch; id = id }) ≡ Some old →
     history_after h (Write caller epoch id command ∷ []) (reply ∷ []) ≡ h
-same_history h caller epoch id command (Done a) old some =
-    let e : Entry = entry_of caller epoch id command (Done a) in
-    ap (λ o. hist h (cond (is_some o || false) [] (e ∷ []))) some
-same_history h caller epoch id command (Refused a) old some =
-    let e : Entry = entry_of caller epoch id command (Refused a) in
-    ap (λ o. hist h (cond (is_some o || false) [] (e ∷ []))) some
-same_history h caller epoch id command IdentityReused old some =
-    let e : Entry = entry_of caller epoch id command IdentityReused in
-    ap (λ o. hist h (cond (is_some o || false) [] (e ∷ []))) some
-same_history h caller epoch id command EpochClosed old some =
-    let e : Entry = entry_of caller epoch id command EpochClosed in
-    ap (λ o. hist h (cond (is_some o || false) [] (e ∷ []))) some
 same_history h caller epoch id command (NotTaken c) old some = refl
+same_history h caller epoch id command reply old some =
+    let e : Entry = entry_of caller epoch id command reply in
+    ap (λ o. hist h (cond (is_some o || false) [] (e ∷ []))) some
 
 pub closed_history : (h : List Entry) (caller epoch : ℕ) (id : List ℕ) (command : Command) (reply : Reply) → is_closed h epoch ≡ true →
     history_after h (Write caller epoch id command ∷ []) (reply ∷ []) ≡ h
-closed_history h caller epoch id command (Done a) closed = let e : Entry = entry_of caller epoch id command (Done a) in passed_over h (has_identity h e || false) e [] closed
-closed_history h caller epoch id command (Refused a) closed = let e : Entry = entry_of caller epoch id command (Refused a) in passed_over h (has_identity h e || false) e [] closed
-closed_history h caller epoch id command IdentityReused closed = let e : Entry = entry_of caller epoch id command IdentityReused in passed_over h (has_identity h e || false) e [] closed
-closed_history h caller epoch id command EpochClosed closed = let e : Entry = entry_of caller epoch id command EpochClosed in passed_over h (has_identity h e || false) e [] closed
 closed_history h caller epoch id command (NotTaken c) closed = refl
+closed_history h caller epoch id command reply closed = let e : Entry = entry_of caller epoch id command reply in passed_over h (has_identity h e || false) e [] closed
 
 right_from_told : (h : List Entry) (d : Delivery) (reply : Reply) (before after : ℕ) → IsDoneOrRefused reply ⊎ (reply ≡ IdentityReused) → IsTold h d reply → after ≡ before → IsRight h d reply before after
 right_from_told h d (NotTaken c) before after s told same =

@@ -15,10 +15,11 @@ use Rattle.{review_expr_judging.specs.declared.facts.ChangeFacts.ChangeFacts, re
 use Rattle.review_core_rules.specs.Change.{Change, Setting, current, said}
 use Rattle.review_core_rules.specs.Facts.{AreStanding, IsFirstUnsatisfied, is_unsatisfied, stands, unsatisfied_in}
 use Rattle.review_core_rules.specs.Status.{status_of}
-use Rattle.review_machine_rows.proofs.Common.{AllByRecursion, ChainFault, ChangeCommand, Command, Done, Expr, Given, IsReady, Link, NewPatch, Refusal, Refused, Reply, RequirementView, cases_Bool, chain_ready, link_for, most_depth}
+use Rattle.review_machine_rows.proofs.Common.{AllByRecursion, ChainFault, ChangeCommand, Command, Done, Expr, File, Given, IsReady, Link, NewPatch, Refusal, Refused, Reply, RequirementView, cases_Bool, chain_ready, link_for, most_depth}
 use Rattle.review_machine_rows.proofs.Readings.{reading_of}
 use Rattle.review_machine_rows.specs.Answer.{IsHistory, IsAnswer, IsAnswerBy, IsAnswerWithoutParents, IsOutcome, IsOf, IsRequestOutcome, IsUploadAnswer, checks, comment_numbers, file_checks, first_refusal, given_checks, numbers_after, of_change, puts_parent, refused_by, refused_or, request_checks, review_checks, submit_checks, upload_checks, IsAnswerAt, epoch_checks}
 use Rattle.review_machine_rows.specs.Changes.{Reading, Reads, change, change_count, file_of, setting_of, texts_of}
+use Rattle.review_machine_rows.specs.{Desks.facts_of, Facts.DeskFacts}
 use Rattle.review_machine_rows.specs.Submits.{IsSubmitAnswer, branch_after, checked_reply, judged_after, refusal_of}
 use Rattle.review_machine_laws.proofs.Changes.{change_bound, Passes, all_pass, later_pass}
 use Rattle.review_machine_laws.proofs.Histories.{line_read}
@@ -44,36 +45,36 @@ both_stored : (cs ds : List (Bool × Refusal)) → AllStored cs → AllStored ds
 both_stored [] ds one other = other
 both_stored (c ∷ cs) ds one other = (one.0, both_stored cs ds one.1 other)
 
-given_stored : (s : Setting) (caller : ℕ) (r : ReviewOf) (c : Change) (gs : List Given) → AllStored (given_checks s caller r c gs)
-given_stored s caller r c [] = tt
-given_stored s caller r c (g ∷ gs) = (tt, (tt, (tt, (tt, (tt, tt)))))
+given_stored : (facts : DeskFacts) (file : File) (caller : ℕ) (r : ReviewOf) (c : Change) (gs : List Given) → AllStored (given_checks facts file caller r c gs)
+given_stored facts file caller r c [] = tt
+given_stored facts file caller r c (g ∷ gs) = (tt, (tt, (tt, (tt, (tt, tt)))))
 
 -- the refusals of a request on a change
-request_stored : (reading : Reading) (h : List Entry) (caller : ℕ) (command : ChangeCommand) (c : Change) → AllStored (request_checks reading h caller command c)
-request_stored reading h caller (on.Upload patch) c = (tt, (tt, (tt, (tt, (tt, tt)))))
-request_stored reading h caller (on.Review review) c =
-    (tt, both_stored (given_checks (setting_of reading h c.project) caller review c review.labels) _ (given_stored (setting_of reading h c.project) caller review c review.labels) (tt, (tt, tt)))
-request_stored reading h caller (on.RemoveReviewer account) c = (tt, (tt, (tt, (tt, tt))))
-request_stored reading h caller on.SetWip c = (tt, (tt, (tt, tt)))
-request_stored reading h caller on.SetReady c = (tt, (tt, (tt, tt)))
-request_stored reading h caller on.Restore c = (tt, (tt, (tt, tt)))
-request_stored reading h caller (on.AddAttention account reason) c = (tt, (tt, (tt, (tt, tt))))
-request_stored reading h caller (on.RemoveAttention account reason) c = (tt, (tt, (tt, tt)))
-request_stored reading h caller _ c = (tt, (tt, tt))
+request_stored : (facts : DeskFacts) (caller : ℕ) (command : ChangeCommand) (c : Change) → AllStored (request_checks facts caller command c)
+request_stored facts caller (on.Upload patch) c = (tt, (tt, (tt, (tt, (tt, tt)))))
+request_stored facts caller (on.Review review) c =
+    (tt, both_stored (given_checks facts (facts.file c.project) caller review c review.labels) _ (given_stored facts (facts.file c.project) caller review c review.labels) (tt, (tt, tt)))
+request_stored facts caller (on.RemoveReviewer account) c = (tt, (tt, (tt, (tt, tt))))
+request_stored facts caller on.SetWip c = (tt, (tt, (tt, tt)))
+request_stored facts caller on.SetReady c = (tt, (tt, (tt, tt)))
+request_stored facts caller on.Restore c = (tt, (tt, (tt, tt)))
+request_stored facts caller (on.AddAttention account reason) c = (tt, (tt, (tt, (tt, tt))))
+request_stored facts caller (on.RemoveAttention account reason) c = (tt, (tt, (tt, tt)))
+request_stored facts caller _ c = (tt, (tt, tt))
 
 -- the refusals of what is asked of a change, where there is one
 on_stored : (each : Change → List (Bool × Refusal)) → ((c : Change) → AllStored (each c)) → (o : Option Change) → AllStored (of_change each o)
 on_stored each all None = (tt, tt)
 on_stored each all (Some c) = all c
 
-checks_stored : (reading : Reading) (h : List Entry) (caller : ℕ) (command : Command) → AllStored (checks reading h caller command)
-checks_stored reading h caller (PutProject project text) = (tt, tt)
-checks_stored reading h caller (RecordBase project branch commit) = (tt, (tt, (tt, (tt, tt))))
-checks_stored reading h caller (CloseEpoch epoch) = (tt, tt)
-checks_stored reading h caller (CreateChange new) = (tt, (tt, (tt, (tt, (tt, (tt, tt))))))
-checks_stored reading h caller (Submit n) = on_stored (submit_checks reading h caller) (λ c. (tt, (tt, (tt, tt)))) (change reading h n)
-checks_stored reading h caller (OnChange n command) = on_stored (request_checks reading h caller command) (request_stored reading h caller command) (change reading h n)
-checks_stored reading h caller _ = (tt, (tt, (tt, tt)))
+checks_stored : (facts : DeskFacts) (caller : ℕ) (command : Command) → AllStored (checks facts caller command)
+checks_stored facts caller (PutProject project text) = (tt, tt)
+checks_stored facts caller (RecordBase project branch commit) = (tt, (tt, (tt, (tt, tt))))
+checks_stored facts caller (CloseEpoch epoch) = (tt, tt)
+checks_stored facts caller (CreateChange new) = (tt, (tt, (tt, (tt, (tt, (tt, tt))))))
+checks_stored facts caller (Submit n) = on_stored (submit_checks facts caller) (λ c. (tt, (tt, (tt, tt)))) (facts.change n)
+checks_stored facts caller (OnChange n command) = on_stored (request_checks facts caller command) (request_stored facts caller command) (facts.change n)
+checks_stored facts caller _ = (tt, (tt, (tt, tt)))
 
 refused_or_stored : (o : Option Refusal) → ((r : Refusal) → o ≡ Some r → IsStored (Refused r)) → IsStored (refused_or o Nothing)
 refused_or_stored None stored = tt
@@ -88,17 +89,17 @@ numbers_within : {X : Type 0} (n : ℕ) (xs : List X) → n + length xs ≤ most
 numbers_within n [] below = tt
 numbers_within n (x ∷ xs) below = ((omega arith, omega arith), numbers_within (n + 1) xs (omega arith))
 
-reviewed_stored : (reading : Reading) (h : List Entry) (caller : ℕ) (review : ReviewOf) (o : Option Change) → AllByRecursion Passes (of_change (review_checks reading h caller review) o) →
+reviewed_stored : (reading : Reading) (h : List Entry) (caller : ℕ) (review : ReviewOf) (o : Option Change) → AllByRecursion Passes (of_change (review_checks (facts_of reading h) caller review) o) →
     IsStored (Done (Reviewed (comment_numbers review o)))
 reviewed_stored reading h caller review None pass = let bad : false ≡ true = pass.0 in absurd (cc)
 reviewed_stored reading h caller review (Some c) pass =
-    let rest = later_pass (given_checks (setting_of reading h c.project) caller review c review.labels) _ pass.1 in
+    let rest = later_pass (given_checks (facts_of reading h) (file_of reading h c.project) caller review c review.labels) _ pass.1 in
     let below : length c.comments + length (said review) ≤ most_comments = leb-true (length c.comments + length (said review)) most_comments rest.1.0 in
     let long = numbers_long (length c.comments) (said review) in
     (omega arith, numbers_within (length c.comments) (said review) below)
 
 uploaded_stored : (reading : Reading) (h : List Entry) (caller n : ℕ) (patch : NewPatch) (o : Option Change) (reply : Reply) → IsHistory h → Reads reading h → change reading h n ≡ o →
-    AllByRecursion Passes (of_change (upload_checks reading h caller patch) o) → IsOf (λ c. IsUploadAnswer reading h caller n patch c reply) o → IsStored reply
+    AllByRecursion Passes (of_change (upload_checks (facts_of reading h) caller patch) o) → IsOf (λ c. IsUploadAnswer reading h caller n patch c reply) o → IsStored reply
 uploaded_stored reading h caller n patch None reply history reads there pass is = absurd is
 uploaded_stored reading h caller n patch (Some c) reply history reads there pass is =
     let number = change_bound reading h n c reads history there in
@@ -108,7 +109,7 @@ uploaded_stored reading h caller n patch (Some c) reply history reads there pass
 
 -- what a request on a change is told
 told_stored : (reading : Reading) (h : List Entry) (caller n : ℕ) (command : ChangeCommand) (reply : Reply) → IsHistory h → Reads reading h →
-    AllByRecursion Passes (of_change (request_checks reading h caller command) (change reading h n)) → IsRequestOutcome reading h caller n command reply → IsStored reply
+    AllByRecursion Passes (of_change (request_checks (facts_of reading h) caller command) (change reading h n)) → IsRequestOutcome reading h caller n command reply → IsStored reply
 told_stored reading h caller n (on.Upload patch) reply history reads all is = uploaded_stored reading h caller n patch (change reading h n) reply history reads refl all is
 told_stored reading h caller n (on.Review review) reply history reads all is = subst IsStored (sym is) (reviewed_stored reading h caller review (change reading h n) all)
 told_stored reading h caller n _ reply history reads all is = subst IsStored (sym is) tt
@@ -186,7 +187,7 @@ submit_stored reading h n (Some c) reply history reads there (inr has) =
     let numbers = chain_numbers reading h c n history reads there has.chain (chain_ready (branch_after reading h c.project c.branch) has.chain n has.is_chain) in
     subst IsStored (sym has.reply_is) (checked_stored reading h has.chain has.found history reads has.is_chain.short numbers has.checked)
 
-outcome_stored : (reading : Reading) (h : List Entry) (caller : ℕ) (command : Command) (reply : Reply) → IsHistory h → Reads reading h → AllByRecursion Passes (checks reading h caller command) →
+outcome_stored : (reading : Reading) (h : List Entry) (caller : ℕ) (command : Command) (reply : Reply) → IsHistory h → Reads reading h → AllByRecursion Passes (checks (facts_of reading h) caller command) →
     IsOutcome reading h caller command reply → IsStored reply
 outcome_stored reading h caller (CreateAccount name) reply history reads all is =
     let below = ltb-true (account_count h) 1000000 all.1.1.0 in subst IsStored (sym is) (omega arith, omega arith)
@@ -205,23 +206,17 @@ answer_stored_by : (reading : Reading) (h : List Entry) (caller : ℕ) (command 
 answer_stored_by reading h caller command reply history reads is = at (refused_by reading h caller command) refl is
   where
     at : (o : Option Refusal) → refused_by reading h caller command ≡ o → MatchOption o (IsOutcome reading h caller command reply) (λ refusal. reply ≡ Refused refusal) → IsStored reply
-    at None none is = outcome_stored reading h caller command reply history reads (all_pass ((is_account h caller, UnknownCaller) ∷ checks reading h caller command) none).1 is
-    at (Some r) some is = subst IsStored (sym is) (first_stored ((is_account h caller, UnknownCaller) ∷ checks reading h caller command) r (tt, checks_stored reading h caller command) some)
+    at None none is = outcome_stored reading h caller command reply history reads (all_pass ((is_account h caller, UnknownCaller) ∷ checks (facts_of reading h) caller command) none).1 is
+    at (Some r) some is = subst IsStored (sym is) (first_stored ((is_account h caller, UnknownCaller) ∷ checks (facts_of reading h) caller command) r (tt, checks_stored (facts_of reading h) caller command) some)
 
 answer_stored_in : (reading : Reading) (h : List Entry) (caller epoch : ℕ) (command : Command) (reply : Reply) → IsHistory h → Reads reading h → IsAnswerAt reading h caller epoch command reply → IsStored reply
-answer_stored_in reading h caller epoch (CreateAccount name) reply history reads is = answer_stored_by reading h caller (CreateAccount name) reply history reads is
-answer_stored_in reading h caller epoch (PutGroup group members) reply history reads is = answer_stored_by reading h caller (PutGroup group members) reply history reads is
-answer_stored_in reading h caller epoch (PutProject project text) reply history reads is = answer_stored_by reading h caller (PutProject project text) reply history reads is
-answer_stored_in reading h caller epoch (RecordBase project branch commit) reply history reads is = answer_stored_by reading h caller (RecordBase project branch commit) reply history reads is
-answer_stored_in reading h caller epoch (CreateChange new) reply history reads is = answer_stored_by reading h caller (CreateChange new) reply history reads is
-answer_stored_in reading h caller epoch (OnChange n command) reply history reads is = answer_stored_by reading h caller (OnChange n command) reply history reads is
-answer_stored_in reading h caller epoch (Submit n) reply history reads is = answer_stored_by reading h caller (Submit n) reply history reads is
 answer_stored_in reading h caller epoch (CloseEpoch least) reply history reads is = at (refused_by reading h caller (CloseEpoch least)) refl is
   where
     at : (o : Option Refusal) → refused_by reading h caller (CloseEpoch least) ≡ o →
-        MatchOption o (reply ≡ refused_or (first_refusal (epoch_checks h epoch least)) Nothing) (λ refusal. reply ≡ Refused refusal) → IsStored reply
-    at None none is = subst IsStored (sym is) (refused_or_stored (first_refusal (epoch_checks h epoch least)) (λ r is. first_stored (epoch_checks h epoch least) r (tt, (tt, tt)) is))
-    at (Some r) some is = subst IsStored (sym is) (first_stored ((is_account h caller, UnknownCaller) ∷ checks reading h caller (CloseEpoch least)) r (tt, checks_stored reading h caller (CloseEpoch least)) some)
+        MatchOption o (reply ≡ refused_or (first_refusal (epoch_checks (facts_of reading h) epoch least)) Nothing) (λ refusal. reply ≡ Refused refusal) → IsStored reply
+    at None none is = subst IsStored (sym is) (refused_or_stored (first_refusal (epoch_checks (facts_of reading h) epoch least)) (λ r is. first_stored (epoch_checks (facts_of reading h) epoch least) r (tt, (tt, tt)) is))
+    at (Some r) some is = subst IsStored (sym is) (first_stored ((is_account h caller, UnknownCaller) ∷ checks (facts_of reading h) caller (CloseEpoch least)) r (tt, checks_stored (facts_of reading h) caller (CloseEpoch least)) some)
+answer_stored_in reading h caller epoch command reply history reads is = answer_stored_by reading h caller command reply history reads is
 
 -- each answer after a history is stored
 pub answer_stored : (h : List Entry) (caller epoch : ℕ) (command : Command) (reply : Reply) → IsHistory h → IsAnswer h caller epoch command reply → IsStored reply
@@ -234,7 +229,7 @@ old_stored h caller command reply history is = let r = reading_of h history in a
   where
     at : (reading : Reading) (o : Option Refusal) → refused_by reading h caller command ≡ o → MatchOption o (reply ≡ Refused (BadFile UnknownKey)) (λ refusal. reply ≡ Refused refusal) → IsStored reply
     at reading None none is = subst IsStored (sym is) tt
-    at reading (Some r) some is = subst IsStored (sym is) (first_stored ((is_account h caller, UnknownCaller) ∷ checks reading h caller command) r (tt, checks_stored reading h caller command) some)
+    at reading (Some r) some is = subst IsStored (sym is) (first_stored ((is_account h caller, UnknownCaller) ∷ checks (facts_of reading h) caller command) r (tt, checks_stored (facts_of reading h) caller command) some)
 
 -- and that of an entry, whatever version's rules gave it
 pub entry_stored : (e : Entry) (h : List Entry) → IsHistory (e ∷ h) → IsStored e.reply

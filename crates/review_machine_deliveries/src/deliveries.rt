@@ -19,8 +19,9 @@ use crate::gathering::gathered;
 use crate::rules::Rules;
 use review_file::ProjectFile;
 use review_machine_rows::{Delta, Kept, Matter, Recalled, Rows, Shelf, ShelfFault, Want};
+use review_names::Bad;
 use review_words::{AccountNo, Command, Delivery, Epoch, NotTaken, Query, Reply, RequestId};
-use review_words_texts::{BadReply, content_text, read_reply, reply_text};
+use review_words_texts::{content_text, read_reply, reply_text};
 use std::alloc::{AllocError, Global};
 
 /// The last number of a request.
@@ -146,8 +147,8 @@ fn repeated(alloc: Global, kept: &Kept, content: &str) -> Result<Reply, NotTaken
     }
     match read_reply(alloc, kept.reply.as_str()) {
         Ok(reply) => Ok(reply),
-        Err(BadReply::Memory) => Err(NotTaken::Memory),
-        Err(BadReply::Form) => Err(NotTaken::Damaged),
+        Err(Bad::Memory) => Err(NotTaken::Memory),
+        Err(Bad::Form) => Err(NotTaken::Damaged),
     }
 }
 
@@ -292,7 +293,7 @@ fn kept_for(
 ) -> Result<Kept, AllocError>
     ensures { IfOk result (λ kept. kept_row kept ≡ row_for caller epoch id.now decided.now (string_bytes content)) }
 {
-    let id = id.copy(alloc)?;
+    let id = id.copy()?;
     let reply = reply_text(alloc, &decided.reply)?;
     Ok(Kept {
         caller,

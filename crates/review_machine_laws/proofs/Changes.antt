@@ -11,9 +11,9 @@ use Rattle.review_core_rules.specs.Change.{Change, joined_at, after, begun, Copy
 use Rattle.review_core_rules.specs.Sound.{IsSound, answer_stored, fits}
 use Rattle.review_machine_rows.proofs.Common.{APart, AllByRecursion, Answer, ChangeCommand, Command, Done, Key, NewChange, Refusal, Refused, Reply, Row, TheHeader, fact, nat_tests, option_map_or, or-true, some_mapped, some_or}
 use Rattle.review_machine_rows.proofs.Readings.{IsDoneBy, done_of}
-use Rattle.review_machine_rows.specs.Answer.{IsAnswerBy, IsHistory, IsOutcome, first_refusal, given_checks, of_change, refused_by, request_checks, checks}
+use Rattle.review_machine_rows.specs.Answer.{IsAnswerBy, IsHistory, IsOutcome, checks, first_refusal, given_checks, of_change, refused_by, request_checks, said_checks}
 use Rattle.review_machine_rows.specs.Changes.{joined, joining, joining_at, place_in, Reading, asked_of, change, change_after, change_by, change_count, change_counted, setting_of, submitted, is_for, is_made_for, made, made_by, Reads, some_change}
-use Rattle.review_machine_rows.specs.Known.{IsLast, header_key, part_of}
+use Rattle.review_machine_rows.specs.{Desks.facts_of, Facts.DeskFacts, Known.IsLast, Known.header_key, Known.part_of}
 use Rattle.review_words.specs.declared.command.ChangeCommand.TheVariants as on
 
 -- ==== what becomes of a change where changes join their branch
@@ -197,53 +197,66 @@ checks_pass reading h caller each o c is none = subst (λ x. AllByRecursion Pass
 three : (a b c : Bool) → a ≡ true → b ≡ true → c ≡ true → (a && (b && c)) ≡ true
 three a b c p q r = λ i. p i && (q i && r i)
 
-review_fits : (s : Setting) (caller : ℕ) (r : ReviewOf) (c : Change) → is_within (current c) (reviewed r c) ≡ true →
-    AllByRecursion Passes (given_checks s caller r c r.labels ++ (answer_stored (length c.comments) r.comments, NoComment) ∷ (nat_le (length c.comments + length (said r)) most_comments, Limit) ∷ []) →
-    fits (on.Review r) c ≡ true
-review_fits s caller r c within all =
-    let rest = later_pass (given_checks s caller r c r.labels) ((answer_stored (length c.comments) r.comments, NoComment) ∷ (nat_le (length c.comments + length (said r)) most_comments, Limit) ∷ []) all in
-    three (is_within (current c) (reviewed r c)) (answer_stored (length c.comments) r.comments) (nat_le (length c.comments + length (said r)) most_comments) within rest.0 rest.1.0
+-- a request on a change fits it where its checks pass, by whatever facts
+pub request_fits : (facts : DeskFacts) (caller : ℕ) (command : ChangeCommand) (c : Change) → AllByRecursion Passes (request_checks facts caller command c) → fits command c ≡ true
+request_fits facts caller (on.Upload patch) c pass = pass.1.1.1.1.0
+request_fits facts caller (on.Review review) c pass =
+    let rest = later_pass (given_checks facts (facts.file c.project) caller review c review.labels) (said_checks review c) pass.1 in
+    three (is_within (current c) (reviewed review c)) (answer_stored (length c.comments) review.comments) (nat_le (length c.comments + length (said review)) most_comments) pass.0 rest.0 rest.1.0
+request_fits facts caller (on.AddAttention account reason) c pass = pass.1.1.0
+request_fits facts caller _ c pass = refl
 
--- a request on a change fits it where its checks pass
-pub request_fits : (reading : Reading) (h : List Entry) (caller : ℕ) (command : ChangeCommand) (c : Change) → AllByRecursion Passes (request_checks reading h caller command c) → fits command c ≡ true
-request_fits reading h caller (on.Upload patch) c pass = pass.1.1.1.1.0
-request_fits reading h caller (on.Review review) c pass = review_fits (setting_of reading h c.project) caller review c pass.0 pass.1
-request_fits reading h caller (on.AddAttention account reason) c pass = pass.1.1.0
-request_fits reading h caller _ c pass = refl
+-- ---- what holds of every change of a history
 
--- what becomes of a change that a request names
-named_sound : (b : Bool) (o : Option Change) (f : Change → Change) (c : Change) → ((x : Change) → o ≡ Some x → IsSound x) → (b ≡ true → (x : Change) → o ≡ Some x → IsSound x → IsSound (f x)) →
-    cond b (option_map f o) o ≡ Some c → IsSound c
-named_sound true None f c before then is = absurd (cc)
-named_sound true (Some x) f c before then is = let same : f x ≡ c = cc in subst IsSound same (then refl x refl (before x refl))
-named_sound false o f c before then is = before c is
+-- It holds of a new change, and stays where a change joins its branch, and where a request changes it whose checks pass.
+pub record Stays (P : Change → Type 0) (reading : Reading) : Type 0 where
+  pub begins : (new : NewChange) (caller request : ℕ) → P (begun new caller request)
+  pub joins : (place request : ℕ) (c : Change) → P c → P (joined_at place request c)
+  pub stays : (h : List Entry) (caller : ℕ) (command : ChangeCommand) (c : Change) → AllByRecursion Passes (request_checks (facts_of reading h) caller command c) → P c →
+      P (after (setting_of reading h c.project) command caller (length h + 1) c)
 
-made_sound : (b : Bool) (o : Option Change) (new c : Change) → ((x : Change) → o ≡ Some x → IsSound x) → IsSound new → cond b (Some new) o ≡ Some c → IsSound c
-made_sound true o new c before begins is = let same : new ≡ c = cc in subst IsSound same begins
-made_sound false o new c before begins is = before c is
+pub named_holds : (P : Change → Type 0) (b : Bool) (o : Option Change) (f : Change → Change) (c : Change) → ((x : Change) → o ≡ Some x → P x) → (b ≡ true → (x : Change) → o ≡ Some x → P x → P (f x)) →
+    cond b (option_map f o) o ≡ Some c → P c
+named_holds P true None f c before then is = absurd (cc)
+named_holds P true (Some x) f c before then is = let same : f x ≡ c = cc in subst P same (then refl x refl (before x refl))
+named_holds P false o f c before then is = before c is
 
-done_sound : BeginsSound → StaysSound → (reading : Reading) (h : List Entry) (caller n : ℕ) (c : Change) (command : Command) (a : Answer) → IsAnswerBy reading h caller command (Done a) →
-    ((x : Change) → change reading h n ≡ Some x → IsSound x) → change_by reading h caller (Some command) n (change reading h n) ≡ Some c → IsSound c
-done_sound begins stays reading h caller n c (CreateChange new) a answer before is =
-    made_sound (change_count h + 1 == n) (change reading h n) (begun new caller (length h + 1)) c before (begins new caller (length h + 1)) is
-done_sound begins stays reading h caller n c (OnChange m command) a answer before is =
-    named_sound (m == n) (change reading h n) (λ x. after (setting_of reading h x.project) command caller (length h + 1) x) c before
-    (λ same x there sound.
-    let pass = checks_pass reading h caller (request_checks reading h caller command) (change reading h m) x (ap (change reading h) (eqb-true m n same) ∙ there) (done_passes reading h caller (OnChange m command) a answer) in
-    stays (copying (setting_of reading h x.project) command caller x) command caller (length h + 1) x sound (request_fits reading h caller command x pass))
+pub made_holds : (P : Change → Type 0) (b : Bool) (o : Option Change) (new c : Change) → ((x : Change) → o ≡ Some x → P x) → P new → cond b (Some new) o ≡ Some c → P c
+made_holds P true o new c before begins is = let same : new ≡ c = cc in subst P same begins
+made_holds P false o new c before begins is = before c is
+
+done_holds : (P : Change → Type 0) (reading : Reading) → Stays P reading → (h : List Entry) (caller n : ℕ) (c : Change) (command : Command) (a : Answer) → IsAnswerBy reading h caller command (Done a) →
+    ((x : Change) → change reading h n ≡ Some x → P x) → change_by reading h caller (Some command) n (change reading h n) ≡ Some c → P c
+done_holds P reading s h caller n c (CreateChange new) a answer before is =
+    made_holds P (change_count h + 1 == n) (change reading h n) (begun new caller (length h + 1)) c before (s.begins new caller (length h + 1)) is
+done_holds P reading s h caller n c (OnChange m command) a answer before is =
+    named_holds P (m == n) (change reading h n) (λ x. after (setting_of reading h x.project) command caller (length h + 1) x) c before
+    (λ same x there holds.
+    let pass = checks_pass reading h caller (request_checks (facts_of reading h) caller command) (change reading h m) x (ap (change reading h) (eqb-true m n same) ∙ there) (done_passes reading h caller (OnChange m command) a answer) in
+    s.stays h caller command x pass holds)
     is
-done_sound begins stays reading h caller n c _ a answer before is = before c is
+done_holds P reading s h caller n c _ a answer before is = before c is
 
-step_sound : BeginsSound → StaysSound → (reading : Reading) (h : List Entry) (caller n : ℕ) (c : Change) (command : Command) (reply : Reply) → IsDoneBy reading h caller command reply →
-    ((x : Change) → change reading h n ≡ Some x → IsSound x) → change_by reading h caller (if_done reply command) n (change reading h n) ≡ Some c → IsSound c
-step_sound begins stays reading h caller n c command (Done a) answer before is = done_sound begins stays reading h caller n c command a answer before is
-step_sound begins stays reading h caller n c command _ answer before is = before c is
+step_holds : (P : Change → Type 0) (reading : Reading) → Stays P reading → (h : List Entry) (caller n : ℕ) (c : Change) (command : Command) (reply : Reply) → IsDoneBy reading h caller command reply →
+    ((x : Change) → change reading h n ≡ Some x → P x) → change_by reading h caller (if_done reply command) n (change reading h n) ≡ Some c → P c
+step_holds P reading s h caller n c command (Done a) answer before is = done_holds P reading s h caller n c command a answer before is
+step_holds P reading s h caller n c command _ answer before is = before c is
+
+-- what stays holds of every change of a history
+pub of_each : (P : Change → Type 0) (reading : Reading) → Stays P reading → (h : List Entry) (n : ℕ) (c : Change) → IsHistory h → Reads reading h → change reading h n ≡ Some c → P c
+of_each P reading s [] n c history reads is = absurd (cc)
+of_each P reading s (e ∷ h) n c history reads is =
+    joining_keeps P s.joins h (submitted (accepted e) e.reply) n (change_by reading h e.identity.caller (accepted e) n (change reading h n)) c
+    (λ x there. step_holds P reading s h e.identity.caller n x e.command e.reply (done_of e h history reading reads.1) (λ y was. of_each P reading s h n y history.3 reads.1 was) there) is
 
 pub are_sound : BeginsSound → StaysSound → (reading : Reading) (h : List Entry) (n : ℕ) (c : Change) → IsHistory h → Reads reading h → change reading h n ≡ Some c → IsSound c
-are_sound begins stays reading [] n c history reads is = absurd (cc)
-are_sound begins stays reading (e ∷ h) n c history reads is =
-    joining_keeps IsSound joined_sound h (submitted (accepted e) e.reply) n (change_by reading h e.identity.caller (accepted e) n (change reading h n)) c
-    (λ x there. step_sound begins stays reading h e.identity.caller n x e.command e.reply (done_of e h history reading reads.1) (λ y was. are_sound begins stays reading h n y history.3 reads.1 was) there) is
+are_sound begins stays reading =
+    of_each IsSound reading
+    (record {
+      begins = begins;
+      joins = joined_sound;
+      stays = λ h caller command x pass sound. stays (copying (setting_of reading h x.project) command caller x) command caller (length h + 1) x sound (request_fits (facts_of reading h) caller command x pass);
+    })
 
 -- ==== whether one of the changes of a history passes a test
 
@@ -285,7 +298,7 @@ one_passing reading h test (suc k) e = ⊎_elim
 count_made : (reading : Reading) (h : List Entry) (caller : ℕ) (command : Command) (a : Answer) → IsAnswerBy reading h caller command (Done a) → change_count h ≤ most_changes →
     change_counted (Some command) (change_count h) ≤ most_changes
 count_made reading h caller (CreateChange new) a answer before =
-    let all = (all_pass ((is_account h caller, UnknownCaller) ∷ checks reading h caller (CreateChange new)) (done_passes reading h caller (CreateChange new) a answer)).1 in
+    let all = (all_pass ((is_account h caller, UnknownCaller) ∷ checks (facts_of reading h) caller (CreateChange new)) (done_passes reading h caller (CreateChange new) a answer)).1 in
     let below : change_count h < most_changes = ltb-true (change_count h) most_changes all.1.1.1.1.1.0 in
     omega arith
 count_made reading h caller _ a answer before = before

@@ -13,6 +13,7 @@ use Rattle.review_machine_rows.proofs.Common.{All-from_recursion, Answer, Change
 use Rattle.review_machine_rows.proofs.Readings.{not_refused, IsDoneBy, done_of}
 use Rattle.review_machine_rows.specs.Answer.{IsAnswerBy, IsOutcome, checks, of_change, refused_by, submit_checks, IsHistory, request_checks}
 use Rattle.review_machine_rows.specs.Changes.{Reading, change, Reads, change_by, change_count, is_for, is_made_for, joined, joined_by, joined_in, joining, joining_at, place_in, setting_of, submitted}
+use Rattle.review_machine_rows.specs.Desks.{facts_of}
 use Rattle.review_machine_rows.specs.Submits.{IsOf, IsSubmitAnswer, checked_reply, judged_after, branch_after, is_merged}
 use Rattle.review_machine_laws.proofs.Changes.{made_for, Passes, all_pass, done_passes, checks_pass, change_there, is_up_to}
 use Rattle.review_machine_laws.proofs.Linked.{for_branch, is_for_branch, linked}
@@ -26,7 +27,7 @@ none_found : (chain : List ℕ) (found : Option (ℕ × List ℕ)) (a : Answer) 
 none_found chain None a is = let same : a ≡ Submitted chain = cc in (refl, same)
 none_found chain (Some found) a is = absurd (cc)
 
-accepted_of : (reading : Reading) (h : List Entry) (caller m : ℕ) (o : Option Change) (a : Answer) → change reading h m ≡ o → AllByRecursion Passes (of_change (submit_checks reading h caller) o) →
+accepted_of : (reading : Reading) (h : List Entry) (caller m : ℕ) (o : Option Change) (a : Answer) → change reading h m ≡ o → AllByRecursion Passes (of_change (submit_checks (facts_of reading h) caller) o) →
     IsOf (λ c. IsSubmitAnswer reading h m c (Done a)) o → IsAccepted reading h m a
 accepted_of reading h caller m None a there pass told = absurd told
 accepted_of reading h caller m (Some c) a there pass (inl bad) = let e : Done a ≡ Refused bad.refusal = bad.reply_is in absurd (cc)
@@ -45,7 +46,7 @@ accepted_of reading h caller m (Some c) a there pass (inr good) =
 
 pub submit_accepted : (reading : Reading) (h : List Entry) (caller m : ℕ) (a : Answer) → IsAnswerBy reading h caller (Submit m) (Done a) → IsAccepted reading h m a
 submit_accepted reading h caller m a answer =
-    let pass = (all_pass ((is_account h caller, UnknownCaller) ∷ checks reading h caller (Submit m)) (done_passes reading h caller (Submit m) a answer)).1 in
+    let pass = (all_pass ((is_account h caller, UnknownCaller) ∷ checks (facts_of reading h) caller (Submit m)) (done_passes reading h caller (Submit m) a answer)).1 in
     accepted_of reading h caller m (change reading h m) a refl pass (not_refused {A = IsOutcome reading h caller (Submit m) (Done a)} (refused_by reading h caller (Submit m)) a answer)
 
 -- ==== the place of a change in the list of those that joined its branch is its place
@@ -60,7 +61,7 @@ open_unmerged : (s : State) → is_open s ≡ true → is_merged s ≡ false
 open_unmerged New e = refl
 open_unmerged _ e = absurd (cc)
 
-pub merged_stays : (reading : Reading) (h : List Entry) (caller : ℕ) (command : ChangeCommand) (c : Change) → AllByRecursion Passes (request_checks reading h caller command c) →
+pub merged_stays : (reading : Reading) (h : List Entry) (caller : ℕ) (command : ChangeCommand) (c : Change) → AllByRecursion Passes (request_checks (facts_of reading h) caller command c) →
     is_merged (state_by command c.state) ≡ is_merged c.state
 merged_stays reading h caller on.Abandon c pass = sym (open_unmerged c.state pass.1.0)
 merged_stays reading h caller on.Restore c pass = sym (not-true (is_merged c.state) pass.1.0)
@@ -95,7 +96,7 @@ place_stays reading h caller (CreateChange new) a project branch n answer =
 place_stays reading h caller (OnChange m command) a project branch n answer =
     named_place project branch (m == n) (change reading h n) (λ x. after (setting_of reading h x.project) command caller (length h + 1) x)
     (λ same x there.
-    let pass = checks_pass reading h caller (request_checks reading h caller command) (change reading h m) x (ap (change reading h) (eqb-true m n same) ∙ there) (done_passes reading h caller (OnChange m command) a answer) in
+    let pass = checks_pass reading h caller (request_checks (facts_of reading h) caller command) (change reading h m) x (ap (change reading h) (eqb-true m n same) ∙ there) (done_passes reading h caller (OnChange m command) a answer) in
     ap (λ b. cond (is_for project branch x && b) (Some x.place) None) (merged_stays reading h caller command x pass))
 place_stays reading h caller _ a project branch n answer = refl
 
@@ -369,7 +370,7 @@ not_open New e o = absurd (cc)
 not_open _ e o = absurd (let f : false ≡ true = o in cc)
 
 -- no patch set is sent for a merged change
-none_sent : (reading : Reading) (h : List Entry) (caller : ℕ) (command : ChangeCommand) (c : Change) → AllByRecursion Passes (request_checks reading h caller command c) → c.state ≡ Merged →
+none_sent : (reading : Reading) (h : List Entry) (caller : ℕ) (command : ChangeCommand) (c : Change) → AllByRecursion Passes (request_checks (facts_of reading h) caller command c) → c.state ≡ Merged →
     patches_by command caller c.patches ≡ c.patches
 none_sent reading h caller (on.Upload patch) c pass merged = absurd (not_open c.state merged pass.1.0)
 none_sent reading h caller _ c pass merged = refl
@@ -389,7 +390,7 @@ done_patches reading h caller n c (CreateChange new) a answer there merged =
 done_patches reading h caller n c (OnChange m command) a answer there merged =
     named_patches (m == n) (change reading h n) (λ x. after (setting_of reading h x.project) command caller (length h + 1) x) c there
     (λ same.
-    let pass = checks_pass reading h caller (request_checks reading h caller command) (change reading h m) c (ap (change reading h) (eqb-true m n same) ∙ there) (done_passes reading h caller (OnChange m command) a answer) in
+    let pass = checks_pass reading h caller (request_checks (facts_of reading h) caller command) (change reading h m) c (ap (change reading h) (eqb-true m n same) ∙ there) (done_passes reading h caller (OnChange m command) a answer) in
     none_sent reading h caller command c pass merged)
 done_patches reading h caller n c _ a answer there merged = record { of = c; there = there; patches = refl }
 

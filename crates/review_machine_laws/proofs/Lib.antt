@@ -11,3 +11,5 @@ pub mod Patches
 pub mod Shown
 pub mod Growing
 pub mod Histories
+pub mod Told
+pub mod Checked

@@ -8,6 +8,7 @@ use Rattle.review_machine_rows.proofs.Common.{AllByRecursion, Answer, ChangeComm
 use Rattle.review_machine_rows.proofs.Readings.{IsDoneBy, done_of}
 use Rattle.review_machine_rows.specs.Answer.{IsAnswerBy, IsHistory, checks, request_checks}
 use Rattle.review_machine_rows.specs.Changes.{Reading, Reads, change, change_by, change_count, is_for, is_known, setting_of, submitted, has_commit, is_sent, joined, joining_at, place_in}
+use Rattle.review_machine_rows.specs.Desks.{facts_of}
 use Rattle.review_machine_laws.proofs.Changes.{joining_keeps, one_passing, some_passes, Passes, all_pass, checks_pass, done_passes, change_there, is_up_to}
 use Rattle.review_machine_laws.proofs.Joined.{past}
 use Rattle.review_machine_laws.proofs.Places.{appended, only, kept, last_of, number_within}
@@ -40,7 +41,7 @@ for_branch project branch c e = (bytes_eq-Decides c.branch branch).0 (and_parts 
 
 -- of what was asked of a change
 asked_came : (reading : Reading) (h : List Entry) (caller : ℕ) (project branch : List ℕ) (m n k : ℕ) (p : PatchRow) (x : Change) (command : ChangeCommand) → m ≡ n → change reading h n ≡ Some x →
-    AllByRecursion Passes (request_checks reading h caller command x) → is_for project branch x ≡ true → of_number (patches_by command caller x.patches) k ≡ Some p →
+    AllByRecursion Passes (request_checks (facts_of reading h) caller command x) → is_for project branch x ≡ true → of_number (patches_by command caller x.patches) k ≡ Some p →
     Came reading h (Some (OnChange m command)) project branch n k p
 asked_came reading h caller project branch m n k p x (on.Upload patch) same is pass for sent =
     by (appended x.patches (record { commit = patch.commit; parent = patch.parent; kind = patch.kind; uploader = caller; paths = patch.paths }) p k sent)
@@ -61,15 +62,7 @@ asked_came reading h caller project branch m n k p x (on.Upload patch) same is p
           unknown = (λ i. is_known reading h (sym one i) (sym two i) (sym new i).commit) ∙ not-true (is_known reading h x.project x.branch patch.commit) pass.1.1.0;
           based = (λ i. is_known reading h (sym one i) (sym two i) (sym new i).parent) ∙ pass.1.1.1.0;
         })
-asked_came reading h caller project branch m n k p x (on.Review review) same is pass for sent = inl (record { of = x; is = is; is_for_it = for; sent = sent })
-asked_came reading h caller project branch m n k p x (on.AddReviewer account role) same is pass for sent = inl (record { of = x; is = is; is_for_it = for; sent = sent })
-asked_came reading h caller project branch m n k p x (on.RemoveReviewer account) same is pass for sent = inl (record { of = x; is = is; is_for_it = for; sent = sent })
-asked_came reading h caller project branch m n k p x on.SetWip same is pass for sent = inl (record { of = x; is = is; is_for_it = for; sent = sent })
-asked_came reading h caller project branch m n k p x on.SetReady same is pass for sent = inl (record { of = x; is = is; is_for_it = for; sent = sent })
-asked_came reading h caller project branch m n k p x on.Abandon same is pass for sent = inl (record { of = x; is = is; is_for_it = for; sent = sent })
-asked_came reading h caller project branch m n k p x on.Restore same is pass for sent = inl (record { of = x; is = is; is_for_it = for; sent = sent })
-asked_came reading h caller project branch m n k p x (on.AddAttention account reason) same is pass for sent = inl (record { of = x; is = is; is_for_it = for; sent = sent })
-asked_came reading h caller project branch m n k p x (on.RemoveAttention account reason) same is pass for sent = inl (record { of = x; is = is; is_for_it = for; sent = sent })
+asked_came reading h caller project branch m n k p x _ same is pass for sent = inl (record { of = x; is = is; is_for_it = for; sent = sent })
 
 -- of a command that was done
 done_came : (reading : Reading) (h : List Entry) (caller : ℕ) (project branch : List ℕ) (n k : ℕ) (p : PatchRow) (c : Change) (command : Command) (a : Answer) → IsAnswerBy reading h caller command (Done a) →
@@ -80,7 +73,7 @@ done_came reading h caller project branch n k p c (CreateChange new) a answer is
     by false other is = inl (record { of = c; is = is; is_for_it = for; sent = sent })
     by true next is =
         let same : begun new caller (length h + 1) ≡ c = cc in
-        let pass = all_pass ((is_account h caller, UnknownCaller) ∷ checks reading h caller (CreateChange new)) (done_passes reading h caller (CreateChange new) a answer) in
+        let pass = all_pass ((is_account h caller, UnknownCaller) ∷ checks (facts_of reading h) caller (CreateChange new)) (done_passes reading h caller (CreateChange new) a answer) in
         let here = eqb-true (change_count h + 1) n next in
         let one : new.project ≡ project = ap (λ (x : Change). x.project) same ∙ for_project project branch c for in
         let two : new.branch ≡ branch = ap (λ (x : Change). x.branch) same ∙ for_branch project branch c for in
@@ -101,7 +94,7 @@ done_came reading h caller project branch n k p c (OnChange m command) a answer 
         let left : after (setting_of reading h x.project) command caller (length h + 1) x ≡ c = cc in
         let here = eqb-true m n same in
         asked_came reading h caller project branch m n k p x command here there
-        (checks_pass reading h caller (request_checks reading h caller command) (change reading h m) x (ap (change reading h) here ∙ there) (done_passes reading h caller (OnChange m command) a answer))
+        (checks_pass reading h caller (request_checks (facts_of reading h) caller command) (change reading h m) x (ap (change reading h) here ∙ there) (done_passes reading h caller (OnChange m command) a answer))
         (ap (λ (y : Change). is_for project branch y) left ∙ for) (ap (λ (y : Change). of_number y.patches k) left ∙ sent)
 done_came reading h caller project branch n k p c _ a answer is for sent = inl (record { of = c; is = is; is_for_it = for; sent = sent })
 
@@ -318,7 +311,7 @@ base_done reading h caller project branch x (RecordBase named in_branch commit) 
         let one : named ≡ project = (bytes_eq-Decides named project).0 places.0 in
         let two : in_branch ≡ branch = (bytes_eq-Decides in_branch branch).0 places.1 in
         let three : commit ≡ x = (bytes_eq-Decides commit x).0 parts.1 in
-        let pass = all_pass ((is_account h caller, UnknownCaller) ∷ checks reading h caller (RecordBase named in_branch commit)) (done_passes reading h caller (RecordBase named in_branch commit) a answer) in
+        let pass = all_pass ((is_account h caller, UnknownCaller) ∷ checks (facts_of reading h) caller (RecordBase named in_branch commit)) (done_passes reading h caller (RecordBase named in_branch commit) a answer) in
         inr (refl, (λ i. is_known reading h (sym one i) (sym two i) (sym three i)) ∙ not-true (is_known reading h named in_branch commit) pass.1.1.1.0)
 base_done reading h caller project branch x _ a answer is = inl is
 

@@ -12,10 +12,10 @@ use Rattle.review_machine_rows.proofs.Common.{Answer, ChangeCommand, Command, Do
 use Rattle.review_machine_rows.proofs.Readings.{IsDoneBy, done_of, reading_of}
 use Rattle.review_machine_rows.specs.Answer.{IsAnswerBy, IsHistory, checks, is_value_of, given_checks, request_checks}
 use Rattle.review_machine_rows.specs.Changes.{Reading, Reads, change, change_by, change_count, setting_of, submitted, file_of, own_of}
-use Rattle.review_machine_laws.proofs.Changes.{joining_keeps, all_pass, done_passes, Passes, checks_pass}
+use Rattle.review_machine_rows.specs.{Desks.facts_of, Facts.DeskFacts}
+use Rattle.review_machine_laws.proofs.Changes.{joining_keeps, all_pass, done_passes, Passes, checks_pass, made_holds, named_holds}
 use Rattle.review_machine_laws.proofs.Growing.{eff_ordered}
 use Rattle.review_machine_laws.proofs.Histories.{files_grow, lines_end, sound_files, labels_known}
-use Rattle.review_machine_laws.proofs.Rows.{made_holds, named_holds}
 use Rattle.review_machine_laws.specs.SoundProjects.{AreOfLabels, AreSoundProjects}
 use Rattle.review_words.specs.declared.command.ChangeCommand.TheVariants as on
 
@@ -39,7 +39,7 @@ made P false o new c before here is = before c is
 project_by : (reading : Reading) (h : List Entry) (caller n : ℕ) (c : Change) (command : Command) (a : Answer) → IsAnswerBy reading h caller command (Done a) →
     ((x : Change) → change reading h n ≡ Some x → is_project h x.project ≡ true) → change_by reading h caller (Some command) n (change reading h n) ≡ Some c → is_project h c.project ≡ true
 project_by reading h caller n c (CreateChange new) a answer before is =
-    let pass = all_pass ((is_account h caller, UnknownCaller) ∷ checks reading h caller (CreateChange new)) (done_passes reading h caller (CreateChange new) a answer) in
+    let pass = all_pass ((is_account h caller, UnknownCaller) ∷ checks (facts_of reading h) caller (CreateChange new)) (done_passes reading h caller (CreateChange new) a answer) in
     made (λ p. is_project h p ≡ true) (change_count h + 1 == n) (change reading h n) (begun new caller (length h + 1)) c before pass.1.0 is
 project_by reading h caller n c (OnChange m command) a answer before is =
     named_keeps (λ p. is_project h p ≡ true) (m == n) (change reading h n) (λ x. after (setting_of reading h x.project) command caller (length h + 1) x) c before (λ x. refl) is
@@ -126,12 +126,12 @@ given_is file (g ∷ gs) l before all was = given_is file gs l (cond (bytes_eq g
     by false other there = was there
 
 -- the values of a review are values of their labels, where its checks pass
-values_pass : (s : Setting) (caller : ℕ) (r : ReviewOf) (c : Change) (given : List Given) (rest : List (Bool × Refusal)) → AllByRecursion Passes (given_checks s caller r c given ++ rest) → AreValues s.file given
-values_pass s caller r c [] rest all = tt
-values_pass s caller r c (g ∷ gs) rest all = all_true (is_value_of s.file) (g ∷ gs) all.1.1.1.0
+values_pass : (facts : DeskFacts) (file : File) (caller : ℕ) (r : ReviewOf) (c : Change) (given : List Given) (rest : List (Bool × Refusal)) → AllByRecursion Passes (given_checks facts file caller r c given ++ rest) → AreValues file given
+values_pass facts file caller r c [] rest all = tt
+values_pass facts file caller r c (g ∷ gs) rest all = all_true (is_value_of file) (g ∷ gs) all.1.1.1.0
 
 -- what a request on a change leaves of its votes
-votes_after : (reading : Reading) (h : List Entry) (caller request : ℕ) (command : ChangeCommand) (c : Change) → AllByRecursion Passes (request_checks reading h caller command c) →
+votes_after : (reading : Reading) (h : List Entry) (caller request : ℕ) (command : ChangeCommand) (c : Change) → AllByRecursion Passes (request_checks (facts_of reading h) caller command c) →
     AreOfLabels (file_of reading h c.project) c → (n : ℕ) (l : List ℕ) (a : ℕ) → IsOf (file_of reading h c.project) l (vote_by (copying (setting_of reading h c.project) command caller c) command caller c n l a)
 votes_after reading h caller request (on.Upload p) c pass was n l a =
     let file = file_of reading h c.project in
@@ -142,7 +142,7 @@ votes_after reading h caller request (on.Upload p) c pass was n l a =
 votes_after reading h caller request (on.Review r) c pass was n l a =
     let file = file_of reading h c.project in
     either file l ((reviewed r c == n) && (caller == a)) (given_or r.labels l (c.vote n l a)) (c.vote n l a)
-    (given_is file r.labels l (c.vote n l a) (values_pass (setting_of reading h c.project) caller r c r.labels _ pass.1) (was n l a))
+    (given_is file r.labels l (c.vote n l a) (values_pass (facts_of reading h) file caller r c r.labels _ pass.1) (was n l a))
     (was n l a)
 votes_after reading h caller request (on.RemoveReviewer u) c pass was n l a =
     either (file_of reading h c.project) l ((current c == n) && (u == a)) (pos 0) (c.vote n l a) (no_vote (file_of reading h c.project) l) (was n l a)
@@ -160,7 +160,7 @@ done_stands reading h caller n c (CreateChange new) a answer before is =
 done_stands reading h caller n c (OnChange m command) a answer before is =
     named_holds (Stands reading h) (m == n) (change reading h n) (λ x. after (setting_of reading h x.project) command caller (length h + 1) x) c before
     (λ same x there stands.
-    let pass = checks_pass reading h caller (request_checks reading h caller command) (change reading h m) x (ap (change reading h) (eqb-true m n same) ∙ there) (done_passes reading h caller (OnChange m command) a answer) in
+    let pass = checks_pass reading h caller (request_checks (facts_of reading h) caller command) (change reading h m) x (ap (change reading h) (eqb-true m n same) ∙ there) (done_passes reading h caller (OnChange m command) a answer) in
     votes_after reading h caller (length h + 1) command x pass stands)
     is
 done_stands reading h caller n c _ a answer before is = before c is

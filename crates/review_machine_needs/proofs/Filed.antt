@@ -17,9 +17,11 @@ use Rattle.review_machine_rows.specs.Files.{File, IsRead, IsFileFault, covers}
 use Rattle.review_machine_rows.specs.Lines.{line_of, most_depth, with_above}
 use Rattle.review_machine_rows.specs.Steps.{HasFile, OfCommand, line_steps, own_in, parent_of, parent_or, texts_in, unknown}
 use Rattle.review_machine_rows.specs.declared.rows.{Delta.Delta, Rows.Rows, StoredFile.StoredFile}
+use Rattle.review_machine_laws.proofs.Checked.{asked_beside}
 use Rattle.review_machine_laws.proofs.Histories.{same_name, parent_named, OneEffective, effective_is, line_read, same_file}
-use Rattle.review_machine_accounts.proofs.Decided.{asked_beside, empty_changes, outcome_answer, project_refused, refused_decided, file_decided}
-use Rattle.review_machine_accounts.{proofs.Told.room_told, specs.Decisions.IsEmpty}
+use Rattle.review_machine_laws.proofs.Told.{room_told}
+use Rattle.review_machine_accounts.proofs.Decided.{empty_changes, file_decided, outcome_answer, project_refused, refused_decided}
+use Rattle.review_machine_accounts.specs.Decisions.{IsEmpty}
 use Rattle.review_machine_needs.specs.inner.Files.{IsFilePut, IsPut, IsPutBelow, IsReadCause, file_refused, has_unknown, heir, heir_refused, keeps_parent, parent_refused, room_in}
 use Rattle.review_file_rules.specs.declared.fault.ReadFault.TheVariants as read
 use Rattle.review_machine_rows.specs.declared.rows.Counted.TheVariants as counted
@@ -204,7 +206,7 @@ module _ (one : OneEffective) (reading : Reading) (h : List Entry) (caller : ℕ
     module _ (known : is_account h caller ≡ true) (admin : is_admin h caller ≡ true) where
       answered : (o : Option Refusal) → first_refusal (file_checks reading h project own) ≡ o → IsAnswerBy reading h caller (PutProject project text) (refused_or o Nothing)
       answered o is =
-          outcome_answer reading h caller (PutProject project text) (refused_or o Nothing) (project_refused reading h caller project text true true known admin) (inr (own, right, ap (λ x. refused_or x Nothing) (sym is)))
+          outcome_answer reading h caller (PutProject project text) (refused_or o Nothing) (project_refused reading h caller project text true known admin) (inr (own, right, ap (λ x. refused_or x Nothing) (sym is)))
 
       filed : (delta : Delta) (reply : Reply) (o : Option Refusal) → first_refusal (file_checks reading h project own) ≡ o → IsFilePut o project (record { text = text; parent = own.parent }) delta reply →
           IsDecided reading h caller (PutProject project text) delta reply
@@ -245,7 +247,7 @@ fault_decided : (reading : Reading) (h : List Entry) (caller : ℕ) (project tex
 fault_decided reading h caller project text r fault known admin empty faulty is =
     subst (λ reply. IsDecided reading h caller (PutProject project text) r.0 reply) (sym is)
     (refused_decided h caller (PutProject project text) r.0 (BadFile fault) empty
-    (outcome_answer reading h caller (PutProject project text) (Refused (BadFile fault)) (project_refused reading h caller project text true true known admin) (inl (fault, faulty, refl))))
+    (outcome_answer reading h caller (PutProject project text) (Refused (BadFile fault)) (project_refused reading h caller project text true known admin) (inl (fault, faulty, refl))))
 
 -- a file below the line of its parent, as that was read
 pub below_by : (rows : Rows) (effective : Option File) (project : List ℕ) (file : StoredFile) (own : File) (result : Result (Delta × Reply) Cause) (named : Bool) (deep : ℕ) (above : Option LineView) (line : File) →

@@ -64,13 +64,12 @@ fn wants_of_ready(
         project: &header.project,
         branch: &header.branch,
     };
-    let found = look_on(alloc, &links, change, walked)?;
+    let found = look_on(&links, change, walked)?;
     look_ups(alloc, header, found)
 }
 
 // What is wanted for the chain of a change. The look for it goes on from a walk to it, if there is one, and leaves one.
 fn look_on<L: Links>(
-    alloc: Global,
     links: &L,
     change: ChangeNo,
     walked: &mut Option<Walked>,
@@ -79,7 +78,7 @@ fn look_on<L: Links>(
     ensures walked { IfSome walked.old (IsWalkIn (L.known links.now) change) → IfSome walked.new (IsWalkIn (L.known links.now) change) }
 {
     let mut on = begun(walked, change);
-    let found = wanted_on(alloc, links, &mut on)?;
+    let found = wanted_on(links, &mut on)?;
     *walked = Some(on);
     Ok(found)
 }
@@ -100,19 +99,18 @@ fn look_ups(alloc: Global, header: &Header, wanted: Option<LookUp>) -> Result<Ve
 {
     let mut wants = Vec::new(alloc);
     if let Some(wanted) = wanted {
-        wants.push(look_up(alloc, header, &wanted)?)?;
+        wants.push(look_up(header, &wanted)?)?;
     }
     Ok(wants)
 }
 
 // What is looked up for what a chain wants.
-fn look_up(alloc: Global, header: &Header, wanted: &LookUp) -> Result<Want, AllocError>
+fn look_up(header: &Header, wanted: &LookUp) -> Result<Want, AllocError>
     ensures { IfOk result (λ w. w ≡ look_up header.now.project header.now.branch (want_of wanted.now)) }
 {
     match wanted {
         LookUp::Change(change) => Ok(Want::Change(*change)),
         LookUp::Commit(commit) => Ok(Want::Standing(base_of(
-            alloc,
             &header.project,
             &header.branch,
             commit,

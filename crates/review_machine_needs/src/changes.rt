@@ -69,7 +69,7 @@ fn submit_wants(alloc: Global, rows: &Rows, change: ChangeNo) -> Result<Vec<Want
     };
     let header = &found.header;
     let mut wants = file_want(alloc, &header.project)?;
-    wants.push(Want::LastJoined(branch_of(alloc, &header.project, &header.branch)?))?;
+    wants.push(Want::LastJoined(branch_of(&header.project, &header.branch)?))?;
     Ok(wants)
 }
 
@@ -105,7 +105,7 @@ pub fn file_want(alloc: Global, project: &ProjectName) -> Result<Vec<Want>, Allo
     ensures { IfOk result (λ wants. wants.items ≡ want.File project.now ∷ []) }
 {
     let mut wants = Vec::new(alloc);
-    wants.push(Want::File(project.copy(alloc)?))?;
+    wants.push(Want::File(project.copy()?))?;
     Ok(wants)
 }
 
@@ -114,7 +114,6 @@ fn sent_wants(alloc: Global, header: &Header, patch: &NewPatch) -> Result<Vec<Wa
 {
     let mut wants = Vec::new(alloc);
     push_patch(
-        alloc,
         &mut wants,
         &header.project,
         &header.branch,
@@ -139,7 +138,6 @@ fn given_wants(
 
 /// Adds what a new patch set asks of the project and the branch that its change is for.
 pub fn push_patch(
-    alloc: Global,
     wants: &mut Vec<Want>,
     project: &ProjectName,
     branch: &BranchName,
@@ -148,15 +146,14 @@ pub fn push_patch(
 ) -> Result<(), AllocError>
     ensures { OnOk result (wants.new.items ≡ wants.old.items ++ patch_wants project.now branch.now commit.now parent.now) }
 {
-    wants.push(Want::File(project.copy(alloc)?))?;
-    push_commit(alloc, wants, project, branch, commit)?;
-    push_commit(alloc, wants, project, branch, parent)?;
+    wants.push(Want::File(project.copy()?))?;
+    push_commit(wants, project, branch, commit)?;
+    push_commit(wants, project, branch, parent)?;
     Ok(())
 }
 
 /// Adds what is asked of a commit: whether it is known in a branch.
 pub fn push_commit(
-    alloc: Global,
     wants: &mut Vec<Want>,
     project: &ProjectName,
     branch: &BranchName,
@@ -164,7 +161,7 @@ pub fn push_commit(
 ) -> Result<(), AllocError>
     ensures { OnOk result (wants.new.items ≡ wants.old.items ++ commit_wants project.now branch.now commit.now) }
 {
-    wants.push(Want::Base(base_of(alloc, project, branch, commit)?))?;
-    wants.push(Want::ChangeOf(base_of(alloc, project, branch, commit)?))?;
+    wants.push(Want::Base(base_of(project, branch, commit)?))?;
+    wants.push(Want::ChangeOf(base_of(project, branch, commit)?))?;
     Ok(())
 }

@@ -28,13 +28,13 @@ pub fn file_wants(
     };
     match matter {
         Matter::Command(Command::CreateChange(_)) => {
-            push_caller(alloc, &mut wants, caller, file.groups(Right::Create))?;
+            push_caller(&mut wants, caller, file.groups(Right::Create))?;
         }
         Matter::Command(Command::OnChange { change: _, command }) => {
             push_request(alloc, &mut wants, caller, file, command)?;
         }
         Matter::Command(Command::Submit { change: _ }) => {
-            push_caller(alloc, &mut wants, caller, file.groups(Right::Submit))?;
+            push_caller(&mut wants, caller, file.groups(Right::Submit))?;
             push_required(alloc, &mut wants, file.requirements())?;
         }
         Matter::Query(Query::OnChange { change: _, query }) => {
@@ -57,17 +57,17 @@ fn push_request(
 {
     match command {
         ChangeCommand::Upload(_) => {
-            push_caller(alloc, wants, caller, file.groups(Right::Upload))?;
+            push_caller(wants, caller, file.groups(Right::Upload))?;
             push_copying(alloc, wants, file.labels())?;
         }
         ChangeCommand::Review(review) => {
-            push_granted(alloc, wants, caller, file, review.labels.as_slice())?;
+            push_granted(wants, caller, file, review.labels.as_slice())?;
         }
         ChangeCommand::Abandon => {
-            push_caller(alloc, wants, caller, file.groups(Right::Abandon))?;
+            push_caller(wants, caller, file.groups(Right::Abandon))?;
         }
         ChangeCommand::Restore => {
-            push_caller(alloc, wants, caller, file.groups(Right::Abandon))?;
+            push_caller(wants, caller, file.groups(Right::Abandon))?;
         }
         _ => {}
     }
@@ -114,7 +114,7 @@ fn push_requirement(
     push_if_there(&mut groups, requirement.applicable_if())?;
     push_if_there(&mut groups, requirement.override_if())?;
     push_groups(&mut groups, requirement.submittable_if())?;
-    push_group_names(alloc, wants, &groups)
+    push_group_names(wants, &groups)
 }
 
 fn push_if_there<'e>(
@@ -131,7 +131,6 @@ fn push_if_there<'e>(
 
 /// Adds whether the caller is in these groups.
 fn push_caller(
-    alloc: Global,
     wants: &mut Vec<Want>,
     caller: AccountNo,
     groups: &[GroupName],
@@ -139,13 +138,12 @@ fn push_caller(
     ensures { OnOk result (wants.new.items ≡ wants.old.items ++ caller_in caller groups.now) }
 {
     for group in groups {
-        push_member(alloc, wants, caller, group)?;
+        push_member(wants, caller, group)?;
     }
     Ok(())
 }
 
 fn push_member(
-    alloc: Global,
     wants: &mut Vec<Want>,
     caller: AccountNo,
     group: &GroupName,
@@ -153,7 +151,7 @@ fn push_member(
     ensures { OnOk result (wants.new.items ≡ wants.old.items ++ caller_in caller (group.now ∷ [])) }
 {
     wants.push(Want::Member(MemberKey {
-        group: group.copy(alloc)?,
+        group: group.copy()?,
         account: caller,
     }))?;
     Ok(())
@@ -161,7 +159,6 @@ fn push_member(
 
 /// Adds whether the caller is in the groups that have a range of one of the labels.
 fn push_granted(
-    alloc: Global,
     wants: &mut Vec<Want>,
     caller: AccountNo,
     file: &ProjectFile,
@@ -170,21 +167,16 @@ fn push_granted(
     ensures { OnOk result (wants.new.items ≡ wants.old.items ++ caller_in caller (granted_groups file.now given.now)) }
 {
     for one in given {
-        push_grants(alloc, wants, caller, grants_of(file, &one.label))?;
+        push_grants(wants, caller, grants_of(file, &one.label))?;
     }
     Ok(())
 }
 
-fn push_grants(
-    alloc: Global,
-    wants: &mut Vec<Want>,
-    caller: AccountNo,
-    grants: &[Grant],
-) -> Result<(), AllocError>
+fn push_grants(wants: &mut Vec<Want>, caller: AccountNo, grants: &[Grant]) -> Result<(), AllocError>
     ensures { OnOk result (wants.new.items ≡ wants.old.items ++ caller_in caller (map (λ g. g.group) grants.now)) }
 {
     for grant in grants {
-        push_member(alloc, wants, caller, &grant.group)?;
+        push_member(wants, caller, &grant.group)?;
     }
     Ok(())
 }
@@ -197,21 +189,17 @@ fn push_copying(alloc: Global, wants: &mut Vec<Want>, labels: &[Label]) -> Resul
         if let Some(condition) = label.copy_condition() {
             let mut groups = Vec::new(alloc);
             push_groups(&mut groups, condition)?;
-            push_group_names(alloc, wants, &groups)?;
+            push_group_names(wants, &groups)?;
         }
     }
     Ok(())
 }
 
-fn push_group_names(
-    alloc: Global,
-    wants: &mut Vec<Want>,
-    groups: &[&GroupName],
-) -> Result<(), AllocError>
+fn push_group_names(wants: &mut Vec<Want>, groups: &[&GroupName]) -> Result<(), AllocError>
     ensures { OnOk result (wants.new.items ≡ wants.old.items ++ map want.Group (map (λ g. g.now) groups.now)) }
 {
     for group in groups {
-        wants.push(Want::Group(group.copy(alloc)?))?;
+        wants.push(Want::Group(group.copy()?))?;
     }
     Ok(())
 }

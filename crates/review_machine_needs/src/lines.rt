@@ -24,7 +24,7 @@ pub fn wants_above(
         return wants_above_put(alloc, memo, rows, project, file);
     }
     match project_of(rows, matter) {
-        Some(project) => line_wants(alloc, rows, parent_in(own_file(alloc, rows, project)?)),
+        Some(project) => line_wants(alloc, rows, parent_in(own_file(rows, project)?)),
         None => line_wants(alloc, rows, None),
     }
 }
@@ -39,7 +39,7 @@ fn wants_above_put(
 ) -> Result<Vec<Want>, AllocError>
     ensures { IfOk result (λ wants. wants.items ≡ next_of rows.now (line_steps rows.now most_depth (parent_or (named_parent file.now) (own_in rows.now project.now)))) }
 {
-    match own_file(alloc, rows, project)? {
+    match own_file(rows, project)? {
         Some(stored) => line_wants(alloc, rows, stored.parent.as_ref()),
         None => line_wants(alloc, rows, memo.named_parent(alloc, file)?.as_ref()),
     }
@@ -47,13 +47,12 @@ fn wants_above_put(
 
 /// The file that a project is known to have of its own.
 pub fn own_file<'r>(
-    alloc: Global,
     rows: &'r Rows,
     project: &ProjectName,
 ) -> Result<Option<&'r StoredFile>, AllocError>
     ensures { IfOk result (λ file. option_copied file ≡ own_in rows.now project.now) }
 {
-    let want = Want::File(project.copy(alloc)?);
+    let want = Want::File(project.copy()?);
     Ok(rows.file(&want))
 }
 
@@ -82,7 +81,7 @@ fn line_wants<'r>(
         let Some(name) = project else {
             return Ok(Vec::new(alloc));
         };
-        let want = Want::File(name.copy(alloc)?);
+        let want = Want::File(name.copy()?);
         if !rows.knows(&want) {
             return file_want(alloc, name);
         }

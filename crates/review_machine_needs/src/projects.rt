@@ -84,8 +84,8 @@ fn put_file(
     ensures epoch { IfOk result (λ r. r.0.least_epoch ≡ None) }
     ensures once { IfOk result (λ r. NamesEachOnce r.0) }
 {
-    let put = row_put(alloc, project, &new)?;
-    let keeps = keeps_parent(alloc, rows, &put)?;
+    let put = row_put(project, &new)?;
+    let keeps = keeps_parent(rows, &put)?;
     if !keeps {
         return Ok(refused(alloc, Refusal::ParentFixed));
     }
@@ -94,28 +94,23 @@ fn put_file(
 
 // The row of a project that gets this file.
 fn row_put(
-    alloc: Global,
     project: &ProjectName,
     new: &ReadText,
 ) -> Result<Put<ProjectName, StoredFile>, AllocError>
     ensures { IfOk result (λ put. put ≡ record { key = project.now; row = record { text = new.now.text; parent = new.now.file.parent } }) }
 {
-    let key = project.copy(alloc)?;
-    let text = new.text().copy(alloc)?;
-    let parent = new.file().copied_parent(alloc)?;
+    let key = project.copy()?;
+    let text = new.text().copy()?;
+    let parent = new.file().copied_parent()?;
     let row = StoredFile { text, parent };
     Ok(Put { key, row })
 }
 
 // Whether a project keeps its parent, if it is there.
-fn keeps_parent(
-    alloc: Global,
-    rows: &Rows,
-    put: &Put<ProjectName, StoredFile>,
-) -> Result<bool, AllocError>
+fn keeps_parent(rows: &Rows, put: &Put<ProjectName, StoredFile>) -> Result<bool, AllocError>
     ensures { IfOk result (λ keeps. keeps ≡ keeps_parent (own_in rows.now put.now.key) put.now.row.parent) }
 {
-    match own_file(alloc, rows, &put.key)? {
+    match own_file(rows, &put.key)? {
         Some(was) => Ok(is_same_parent(was.parent.as_ref(), put.row.parent.as_ref())),
         None => Ok(true),
     }
@@ -219,7 +214,7 @@ fn put_line(
     if let Some(refusal) = refusal_by(covered, has_room) {
         return Ok(refused(alloc, refusal));
     }
-    let _ = memo.keep(alloc, &put.key, line);
+    let _ = memo.keep(&put.key, line);
     Ok(put_row(alloc, put))
 }
 

@@ -84,7 +84,7 @@ fn line_of<'r>(
         let Some(project) = next else {
             return Ok(parts);
         };
-        let Some(file) = own_file(alloc, rows, project)? else {
+        let Some(file) = own_file(rows, project)? else {
             return Ok(parts);
         };
         let text = &file.text;

@@ -9,7 +9,7 @@ use Rattle.review_chain.specs.{Steps.wanted, Steps.left as left_in_chain, declar
 use Rattle.review_machine_rows.proofs.Common.{All-head, All-tail, AllByRecursion, Branch, Change, ChangeCommand, Command, File, Given, Link, Rows, Standing, Want, cases_Bool, is_open, most_depth, named_parent, option_or}
 use Rattle.review_machine_rows.specs.Known.{Found, Stands, IsFound, known, number_of, change_in, standing_of, file_in, Agrees, IsKnown, AreAdded}
 use Rattle.review_machine_rows.specs.{Links.link_for, Links.links_in, Rows.ClosedEpochs, Rows.Tables}
-use Rattle.review_machine_rows.specs.Steps.{Topic, OfCommand, OfQuery, first_wants, change_wants, file_wants, given_wants, has_some, question_wants, request_wants, submit_wants, wants_by, own_in, known_parent, parent_or, needs_file, project_for, asks_file, parent_of, line_wants, line_steps, wanted_for, chain_wants, chain_left, last_of, last_wants, look_up, steps, unknown, or_next, next, next_of, left, left_before, left_if, left_of, left_where, AskingLowers, ComesTo, HasComeTo, IsWalkTo, MayGoOnFor}
+use Rattle.review_machine_rows.specs.Steps.{Topic, OfCommand, OfQuery, admin_wants, asks_admin, command_wants, first_wants, change_wants, file_wants, given_wants, has_some, question_wants, request_wants, submit_wants, wants_by, own_in, known_parent, parent_or, needs_file, project_for, asks_file, parent_of, line_wants, line_steps, wanted_for, chain_wants, chain_left, last_of, last_wants, look_up, steps, unknown, or_next, next, next_of, left, left_before, left_if, left_of, left_where, AskingLowers, ComesTo, HasComeTo, IsWalkTo, MayGoOnFor}
 use Rattle.review_machine_rows.specs.declared.step.Step.{Step}
 use Rattle.review_words.specs.declared.command.Query.TheVariants as asked
 use Rattle.review_machine_rows.specs.declared.rows.Want.TheVariants as want
@@ -65,6 +65,15 @@ pub none_in : (a b : List Want) → or_next a b ≡ [] → (a ≡ []) × (b ≡ 
 none_in [] b none = (refl, none)
 none_in (w ∷ ws) b none = absurd (cc)
 
+-- what is asked behind whether the caller is an administrator was asked
+behind_admin : (rows : Rows) (caller : ℕ) (asks : Bool) (wants : List Want) → AllByRecursion (IsKnown rows) (admin_wants caller asks ++ wants) → AllByRecursion (IsKnown rows) wants
+behind_admin rows caller true wants all = all.1
+behind_admin rows caller false wants all = all
+
+-- all that a command asks beside its caller was asked
+pub beside_caller : (rows : Rows) (caller : ℕ) (command : Command) → AllByRecursion (IsKnown rows) (first_wants caller (OfCommand command)) → AllByRecursion (IsKnown rows) (command_wants command)
+beside_caller rows caller command all = behind_admin rows caller (asks_admin command) (command_wants command) all.1.1
+
 -- where nothing is left to ask, nothing is left of the steps, and nothing that is asked last
 pub all_made : (file : Option File) (rows : Rows) (caller : ℕ) (topic : Topic) → next file rows caller topic ≡ [] → (next_of rows (steps file rows caller topic) ≡ []) × (last_wants rows topic ≡ [])
 all_made file rows caller topic none = none_in (next_of rows (steps file rows caller topic)) (last_wants rows topic) none
@@ -113,7 +122,7 @@ known_stays rows more both w added there = added w ∙ or_stays (known rows w) (
 
 -- a submit asks first for its change
 submit_known : (rows : Rows) (caller n : ℕ) → unknown rows (first_wants caller (OfCommand (Submit n))) ≡ [] → IsKnown rows (want.Change n)
-submit_known rows caller n none = (each_known rows (first_wants caller (OfCommand (Submit n))) none).1.1.1.0
+submit_known rows caller n none = (each_known rows (first_wants caller (OfCommand (Submit n))) none).1.1.0
 
 -- once the change is known, what it asks or_stays
 same_wants : (rows more both : Rows) (caller : ℕ) (topic : Topic) → AreAdded rows more both → unknown rows (first_wants caller topic) ≡ [] → change_wants both topic ≡ change_wants rows topic
@@ -122,7 +131,7 @@ same_wants rows more both caller (OfQuery (asked.OnChange change query)) added n
 same_wants rows more both caller (OfCommand (Submit change)) added none =
     ap (λ k. wants_by submit_wants (change_in k)) (known_stays rows more both (want.Change change) added (submit_known rows caller change none))
 same_wants rows more both caller (OfCommand (OnChange change command)) added none =
-    ap (λ k. wants_by (request_wants command) (change_in k)) (known_stays rows more both (want.Change change) added (each_known rows (first_wants caller (OfCommand (OnChange change command))) none).1.1.1.0)
+    ap (λ k. wants_by (request_wants command) (change_in k)) (known_stays rows more both (want.Change change) added (beside_caller rows caller (OnChange change command) (each_known rows (first_wants caller (OfCommand (OnChange change command))) none)).0)
 same_wants rows more both caller _ added none = refl
 
 -- steps of which each is the same in both where those before it were made
@@ -301,15 +310,8 @@ last_bounded rows topic = at (last_wants rows topic) (last_of rows topic) (by_to
     by_change n (Some c) = most_left (links_in rows c.project c.branch) n
 
     by_topic : (t : Topic) → last_of rows t ≤ 200
-    by_topic (OfQuery query) = omega arith
-    by_topic (OfCommand (CreateAccount name)) = omega arith
-    by_topic (OfCommand (PutGroup group members)) = omega arith
-    by_topic (OfCommand (PutProject project text)) = omega arith
-    by_topic (OfCommand (RecordBase project branch commit)) = omega arith
-    by_topic (OfCommand (CloseEpoch epoch)) = omega arith
-    by_topic (OfCommand (CreateChange new)) = omega arith
-    by_topic (OfCommand (OnChange change command)) = omega arith
     by_topic (OfCommand (Submit n)) = by_change n (change_in (known rows (want.Change n)))
+    by_topic _ = omega arith
 
 before_less : (a b last later : ℕ) → a < b → last ≤ 201 → left_before a last < left_before b later
 before_less a zero last later less below = absurd (omega arith)
@@ -355,15 +357,12 @@ given_asked rows [] project all some = absurd (let none : false ≡ true = some 
 given_asked rows (g ∷ gs) project all some = all.0
 
 -- a request that is judged by the project's file asks for it
-judged_asked : (rows : Rows) (command : ChangeCommand) (c : Change) → AllByRecursion (IsKnown rows) (request_wants command c) → needs_file command ≡ true → IsKnown rows (want.File c.project)
+pub judged_asked : (rows : Rows) (command : ChangeCommand) (c : Change) → AllByRecursion (IsKnown rows) (request_wants command c) → needs_file command ≡ true → IsKnown rows (want.File c.project)
 judged_asked rows (on.Review review) c all is = given_asked rows review.labels c.project all is
-judged_asked rows (on.AddReviewer account role) c all is = absurd (let none : false ≡ true = is in cc)
-judged_asked rows (on.RemoveReviewer account) c all is = absurd (let none : false ≡ true = is in cc)
-judged_asked rows on.SetWip c all is = absurd (let none : false ≡ true = is in cc)
-judged_asked rows on.SetReady c all is = absurd (let none : false ≡ true = is in cc)
-judged_asked rows (on.AddAttention account reason) c all is = absurd (let none : false ≡ true = is in cc)
-judged_asked rows (on.RemoveAttention account reason) c all is = absurd (let none : false ≡ true = is in cc)
-judged_asked rows _ c all is = all.0
+judged_asked rows (on.Upload patch) c all is = all.0
+judged_asked rows on.Abandon c all is = all.0
+judged_asked rows on.Restore c all is = all.0
+judged_asked rows _ c all is = absurd (let none : false ≡ true = is in cc)
 
 answered_asked : (rows : Rows) (query : ChangeQuery) (c : Change) → AllByRecursion (IsKnown rows) (question_wants query c) → asks_file query ≡ true → IsKnown rows (want.File c.project)
 answered_asked rows shown.Requirements c all is = all.0
@@ -384,10 +383,10 @@ parents_stay rows more both caller (OfQuery (asked.OnChange n query)) added firs
 parents_stay rows more both caller (OfCommand (PutProject project text)) added first then =
     ap (parent_or (named_parent text)) (own_stays rows more both project added (each_known rows (first_wants caller (OfCommand (PutProject project text))) first).1.1.1.0)
 parents_stay rows more both caller (OfCommand (CreateChange new)) added first then =
-    parent_stays rows more both new.project added (each_known rows (first_wants caller (OfCommand (CreateChange new))) first).1.1.1.1.1.0
+    parent_stays rows more both new.project added (each_known rows (first_wants caller (OfCommand (CreateChange new))) first).1.1.1.1.0
 parents_stay rows more both caller (OfCommand (OnChange n command)) added first then =
     let found = change_in (known rows (want.Change n)) in
-    ap (λ k. option_and_then (known_parent both) (project_for (needs_file command) (change_in k))) (known_stays rows more both (want.Change n) added (each_known rows (first_wants caller (OfCommand (OnChange n command))) first).1.1.1.0)
+    ap (λ k. option_and_then (known_parent both) (project_for (needs_file command) (change_in k))) (known_stays rows more both (want.Change n) added (beside_caller rows caller (OnChange n command) (each_known rows (first_wants caller (OfCommand (OnChange n command))) first)).0)
     ∙ judged_stays rows more both (needs_file command) found added
     (λ c is judged. judged_asked rows command c (by_found rows (request_wants command) found c is (each_known rows (change_wants rows (OfCommand (OnChange n command))) then)) judged)
 parents_stay rows more both caller (OfCommand (Submit n)) added first then =

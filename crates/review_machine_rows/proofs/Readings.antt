@@ -7,6 +7,7 @@ use Rattle.review_file_rules.specs.Inherited.{no_file}
 use Rattle.review_machine_rows.proofs.Common.{Answer, BadFile, ChangeCommand, CloseEpoch, Command, Done, EpochAhead, File, IsRead, NewPatch, Nothing, PutProject, Refusal, Refused, Reply, SameState, bytes_eq-Decides, cases_Bool, nat_tests}
 use Rattle.review_machine_rows.specs.Answer.{most_requests, IsAnswerBy, IsAnswerAt, epoch_checks, first_refusal, refused_by, refused_or, IsRequestOutcome, done_on, IsAnswer, IsAnswerIn, IsAnswerWithoutParents, IsHistory, IsFaultAnswer, IsFileAnswer, puts_parent}
 use Rattle.review_machine_rows.specs.Changes.{Reading, change, Reads, IsReadRight}
+use Rattle.review_machine_rows.specs.Desks.{facts_of}
 
 -- ==== epochs of histories, and what is known of an accepted command whatever its epoch
 
@@ -21,7 +22,7 @@ closing_done None (Some r) a is = absurd (cc)
 closing_done (Some r) p a is = is
 
 pub done_by : (reading : Reading) (h : List Entry) (caller epoch : ℕ) (command : Command) (reply : Reply) → IsAnswerAt reading h caller epoch command reply → IsDoneBy reading h caller command reply
-done_by reading h caller epoch (CloseEpoch least) (Done a) is = closing_done (refused_by reading h caller (CloseEpoch least)) (first_refusal (epoch_checks h epoch least)) a is
+done_by reading h caller epoch (CloseEpoch least) (Done a) is = closing_done (refused_by reading h caller (CloseEpoch least)) (first_refusal (epoch_checks (facts_of reading h) epoch least)) a is
 done_by reading h caller epoch _ (Done a) is = is
 done_by reading h caller epoch command _ is = tt
 

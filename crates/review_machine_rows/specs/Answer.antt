@@ -1,10 +1,10 @@
 -- The answer to a command, and which lists of entries are histories.
 use Rattle.std.specs.{Bool.MatchBool, List.list_all, List.list_any, Option.option_map_or, Ordering.int_eq}
-use Rattle.std.specs.Prelude.{ℕ, ◌+◌, ◌<◌, ◌≡◌, ◌⊎◌, ◌==◌, List, [], ◌∷◌, ◌++◌, Option, Some, None, Bool, true, false, not, is_some, nat_le, nat_lt, int_le, ◌&&◌, ◌||◌, length, if◌then◌else◌, MatchOption}
+use Rattle.std.specs.Prelude.{filter, ℕ, ◌+◌, ◌<◌, ◌≡◌, ◌⊎◌, ◌==◌, List, [], ◌∷◌, ◌++◌, Option, Some, None, Bool, true, false, not, is_some, nat_le, nat_lt, int_le, ◌&&◌, ◌||◌, length, if◌then◌else◌, MatchOption}
 use Rattle.std.specs.Str.{bytes_eq}
 use Rattle.review_names.specs.Forms.{is_within, most_changes, most_patches, most_comments}
 use Rattle.review_names.specs.Names.{registered_users}
-use Rattle.review_words.specs.History.{Asking, Entry, IsFirst, asking_of, may_follow, least_open, account_count, name_taken, is_account, is_admin, is_project, project_count, base_count, is_branch}
+use Rattle.review_words.specs.History.{Asking, Entry, IsFirst, asking_of, may_follow, account_count, is_account, is_project, project_count}
 use Rattle.review_words.specs.declared.changes.{Given.Given, NewPatch.NewPatch, Review.Review as ReviewOf, Role.Role}
 use Rattle.review_words.specs.declared.changes.Role.TheVariants.{Reviewer, Cc}
 use Rattle.review_words.specs.declared.command.ChangeCommand.{ChangeCommand}
@@ -18,52 +18,58 @@ use Rattle.review_words.specs.declared.reply.Refusal.{Refusal}
 use Rattle.review_words.specs.declared.reply.Refusal.TheVariants.{UnknownCaller, NotAdmin, NoProject, NoBranch, NoChange, NoPatchSet, NoAccount, NoComment, NotAllowed, Closed, SameState, WorkInProgress, StalePatchSet, NoLabel, ValueOut, VoteRestricted, CommitKnown, UnknownParent, NotEligible, NameTaken, BadFile, LabelNarrowed, Limit, NoParent, ParentFixed, ParentDepth, EpochAhead}
 use Rattle.review_words.specs.declared.reply.Reply.{Reply, TheVariants.Done, TheVariants.Refused}
 use Rattle.review_file_rules.specs.{Inherited.inherit, Inherited.inherits_unknown_label, Reading.has_parent_key}
-use Rattle.review_file_rules.specs.Rights.{may, granted, least_of, greatest_of}
-use Rattle.review_file_rules.specs.declared.parts.Right.{Right}
-use Rattle.review_core_rules.specs.Change.{Change, Setting, carried, copying, current, eligible, is_lost, is_open, is_reviewer, label_in, reviewed, said}
+use Rattle.review_file_rules.specs.Rights.{grants_of, greatest_of, groups_of, least_of}
+use Rattle.review_file_rules.specs.declared.parts.{Grant.Grant, Right.Right}
+use Rattle.review_core_rules.specs.Change.{Change, carried, copying, current, eligible, is_lost, is_open, is_reviewer, label_in, reviewed, said}
 use Rattle.review_core_rules.specs.{Counts.AreMany, Shown.is_cc, Sound.answer_stored, Votes.voted}
-use Rattle.review_machine_rows.specs.Changes.{Reading, Reads, change, change_count, depth, file_of, groups_of, is_known, own_of, setting_of}
+use Rattle.review_machine_rows.specs.Changes.{Reading, Reads, change, change_count, depth, file_of, own_of, setting_of}
+use Rattle.review_machine_rows.specs.{Desks.facts_of, Facts.DeskFacts}
 use Rattle.review_machine_rows.specs.Files.{File, IsRead, IsFileFault, covers}
 use Rattle.review_machine_rows.specs.{Lines.most_depth, Submits.IsSubmitAnswer}
 use Rattle.review_file_rules.specs.declared.parts.Right.TheVariants as right
 pub use Rattle.review_machine_rows.specs.Limits.{most_requests, most_accounts, most_projects, most_bases}
 pub use Rattle.review_machine_rows.specs.Submits.{IsOf, is_merged}
 
--- whether an account has a right in a project, by the project's file
-abbrev pub has_right : Reading → List Entry → List ℕ → Right → ℕ → Bool
-has_right reading h project right account = may (file_of reading h project) right account (groups_of h)
+-- whether an account has a right, by a file: it is in one of the groups of the right
+abbrev pub has_right : DeskFacts → File → Right → ℕ → Bool
+has_right facts file right account = list_any (facts.is_in account) (groups_of right file.access)
 
 -- the checks of a new patch set in a branch: its commit is new there, and what it stands on is known
-abbrev pub commit_checks : Reading → List Entry → List ℕ → List ℕ → List ℕ → List ℕ → List (Bool × Refusal)
-commit_checks reading h project branch commit parent = (not (is_known reading h project branch commit), CommitKnown) ∷ (is_known reading h project branch parent, UnknownParent) ∷ []
+abbrev pub commit_checks : DeskFacts → List ℕ → List ℕ → List ℕ → List ℕ → List (Bool × Refusal)
+commit_checks facts project branch commit parent = (not (facts.is_known project branch commit), CommitKnown) ∷ (facts.is_known project branch parent, UnknownParent) ∷ []
 
 -- the checks of a new patch set of a change
-abbrev pub upload_checks : Reading → List Entry → ℕ → NewPatch → Change → List (Bool × Refusal)
-upload_checks reading h caller p c =
-    ((caller == c.owner) || has_right reading h c.project right.Upload caller, NotAllowed) ∷ (is_open c.state, Closed)
-    ∷ (commit_checks reading h c.project c.branch p.commit p.parent ++ (nat_lt (current c) most_patches, Limit) ∷ [])
+abbrev pub upload_checks : DeskFacts → ℕ → NewPatch → Change → List (Bool × Refusal)
+upload_checks facts caller p c =
+    ((caller == c.owner) || has_right facts (facts.file c.project) right.Upload caller, NotAllowed) ∷ (is_open c.state, Closed)
+    ∷ (commit_checks facts c.project c.branch p.commit p.parent ++ (nat_lt (current c) most_patches, Limit) ∷ [])
 
 -- whether a value is one of a label
 abbrev pub is_value_of : File → Given → Bool
 is_value_of file g = option_map_or (λ label. list_any (λ v. int_eq v.0 g.value) label.values) (label_in file g.label) false
 
--- whether a value lies in the range of an account on a label: from the least of 0 and what its groups are granted to the greatest
-abbrev pub is_in_range : Setting → ℕ → Given → Bool
-is_in_range s account g = int_le (least_of (granted s.file g.label account s.groups)) g.value && int_le g.value (greatest_of (granted s.file g.label account s.groups))
+-- what a file grants the groups of an account on a label
+abbrev pub granted : DeskFacts → File → List ℕ → ℕ → List Grant
+granted facts file label account = filter (λ grant. facts.is_in account grant.group) (grants_of file label)
 
--- the checks of values on labels of a change, each over all of them; none where no values are given
-abbrev pub given_checks : Setting → ℕ → ReviewOf → Change → List Given → List (Bool × Refusal)
-given_checks s caller r c [] = []
-given_checks s caller r c (g ∷ gs) =
-    (is_open c.state, Closed) ∷ (reviewed r c == current c, StalePatchSet) ∷ (list_all (λ x. is_some (label_in s.file x.label)) (g ∷ gs), NoLabel)
-    ∷ (list_all (is_value_of s.file) (g ∷ gs), ValueOut) ∷ (list_all (is_in_range s caller) (g ∷ gs), VoteRestricted) ∷ []
+-- whether a value lies in the range of an account on a label, by a file: from the least of 0 and what its groups are granted to the greatest
+abbrev pub is_in_range : DeskFacts → File → ℕ → Given → Bool
+is_in_range facts file account g = int_le (least_of (granted facts file g.label account)) g.value && int_le g.value (greatest_of (granted facts file g.label account))
+
+-- the checks of values on labels of a change, each over all of them, by the file of its project; none where no values are given
+abbrev pub given_checks : DeskFacts → File → ℕ → ReviewOf → Change → List Given → List (Bool × Refusal)
+given_checks facts file caller r c [] = []
+given_checks facts file caller r c (g ∷ gs) =
+    (is_open c.state, Closed) ∷ (reviewed r c == current c, StalePatchSet) ∷ (list_all (λ x. is_some (label_in file x.label)) (g ∷ gs), NoLabel)
+    ∷ (list_all (is_value_of file) (g ∷ gs), ValueOut) ∷ (list_all (is_in_range facts file caller) (g ∷ gs), VoteRestricted) ∷ []
+
+-- the checks of the comments of a review: each answer is to a comment that is stored, and there is room for all
+abbrev pub said_checks : ReviewOf → Change → List (Bool × Refusal)
+said_checks r c = (answer_stored (length c.comments) r.comments, NoComment) ∷ (nat_le (length c.comments + length (said r)) most_comments, Limit) ∷ []
 
 -- the checks of a review of a change
-abbrev pub review_checks : Reading → List Entry → ℕ → ReviewOf → Change → List (Bool × Refusal)
-review_checks reading h caller r c =
-    (is_within (current c) (reviewed r c), NoPatchSet)
-    ∷ (given_checks (setting_of reading h c.project) caller r c r.labels ++ (answer_stored (length c.comments) r.comments, NoComment)
-    ∷ (nat_le (length c.comments + length (said r)) most_comments, Limit) ∷ [])
+abbrev pub review_checks : DeskFacts → ℕ → ReviewOf → Change → List (Bool × Refusal)
+review_checks facts caller r c = (is_within (current c) (reviewed r c), NoPatchSet) ∷ (given_checks facts (facts.file c.project) caller r c r.labels ++ said_checks r c)
 
 -- whether an account has just this role
 abbrev pub has_role : Role → Option Role → Bool
@@ -71,31 +77,58 @@ has_role Reviewer was = is_reviewer was
 has_role Cc was = is_cc was
 
 -- whether an account runs a change: its owner, or who runs the desk
-abbrev pub runs : List Entry → ℕ → Change → Bool
-runs h caller c = (caller == c.owner) || is_admin h caller
+abbrev pub runs : DeskFacts → ℕ → Change → Bool
+runs facts caller c = (caller == c.owner) || facts.is_admin caller
 
 -- whether an account may abandon a change and restore it: who runs it, or has the right to
-abbrev pub may_abandon : Reading → List Entry → ℕ → Change → Bool
-may_abandon reading h caller c = runs h caller c || has_right reading h c.project right.Abandon caller
+abbrev pub may_abandon : DeskFacts → ℕ → Change → Bool
+may_abandon facts caller c = runs facts caller c || has_right facts (facts.file c.project) right.Abandon caller
+
+-- the checks of AddReviewer
+abbrev pub role_checks : DeskFacts → ℕ → Role → Change → List (Bool × Refusal)
+role_checks facts account role c = (facts.is_account account, NoAccount) ∷ (not (has_role role (c.role account)), SameState) ∷ []
+
+-- the checks of RemoveReviewer
+abbrev pub removal_checks : DeskFacts → ℕ → ℕ → Change → List (Bool × Refusal)
+removal_checks facts caller account c =
+    (facts.is_account account, NoAccount) ∷ ((caller == account) || runs facts caller c, NotAllowed) ∷ (is_open c.state, Closed) ∷ (is_some (c.role account), SameState) ∷ []
+
+-- the checks of SetWip and of SetReady, where the flag of work in progress has to be this one
+abbrev pub flag_checks : DeskFacts → ℕ → Bool → Change → List (Bool × Refusal)
+flag_checks facts caller was c = (runs facts caller c, NotAllowed) ∷ (is_open c.state, Closed) ∷ (if was then c.wip else not c.wip, SameState) ∷ []
+
+-- the checks of Abandon
+abbrev pub abandon_checks : DeskFacts → ℕ → Change → List (Bool × Refusal)
+abandon_checks facts caller c = (may_abandon facts caller c, NotAllowed) ∷ (is_open c.state, Closed) ∷ []
+
+-- the checks of Restore
+abbrev pub restore_checks : DeskFacts → ℕ → Change → List (Bool × Refusal)
+restore_checks facts caller c = (may_abandon facts caller c, NotAllowed) ∷ (not (is_merged c.state), Closed) ∷ (not (is_open c.state), SameState) ∷ []
+
+-- the checks of AddAttention
+abbrev pub call_checks : DeskFacts → ℕ → Change → List (Bool × Refusal)
+call_checks facts account c = (facts.is_account account, NoAccount) ∷ (is_open c.state, Closed) ∷ (eligible c account, NotEligible) ∷ (not (is_some (c.attention account)), SameState) ∷ []
+
+-- the checks of RemoveAttention
+abbrev pub leave_checks : DeskFacts → ℕ → Change → List (Bool × Refusal)
+leave_checks facts account c = (facts.is_account account, NoAccount) ∷ (is_open c.state, Closed) ∷ (is_some (c.attention account), SameState) ∷ []
 
 -- the checks of a request on a change
-abbrev pub request_checks : Reading → List Entry → ℕ → ChangeCommand → Change → List (Bool × Refusal)
-request_checks reading h caller (Upload patch) c = upload_checks reading h caller patch c
-request_checks reading h caller (Review review) c = review_checks reading h caller review c
-request_checks reading h caller (AddReviewer account role) c = (is_account h account, NoAccount) ∷ (not (has_role role (c.role account)), SameState) ∷ []
-request_checks reading h caller (RemoveReviewer account) c =
-    (is_account h account, NoAccount) ∷ ((caller == account) || runs h caller c, NotAllowed) ∷ (is_open c.state, Closed) ∷ (is_some (c.role account), SameState) ∷ []
-request_checks reading h caller SetWip c = (runs h caller c, NotAllowed) ∷ (is_open c.state, Closed) ∷ (not c.wip, SameState) ∷ []
-request_checks reading h caller SetReady c = (runs h caller c, NotAllowed) ∷ (is_open c.state, Closed) ∷ (c.wip, SameState) ∷ []
-request_checks reading h caller Abandon c = (may_abandon reading h caller c, NotAllowed) ∷ (is_open c.state, Closed) ∷ []
-request_checks reading h caller Restore c = (may_abandon reading h caller c, NotAllowed) ∷ (not (is_merged c.state), Closed) ∷ (not (is_open c.state), SameState) ∷ []
-request_checks reading h caller (AddAttention account reason) c =
-    (is_account h account, NoAccount) ∷ (is_open c.state, Closed) ∷ (eligible c account, NotEligible) ∷ (not (is_some (c.attention account)), SameState) ∷ []
-request_checks reading h caller (RemoveAttention account reason) c = (is_account h account, NoAccount) ∷ (is_open c.state, Closed) ∷ (is_some (c.attention account), SameState) ∷ []
+abbrev pub request_checks : DeskFacts → ℕ → ChangeCommand → Change → List (Bool × Refusal)
+request_checks facts caller (Upload patch) c = upload_checks facts caller patch c
+request_checks facts caller (Review review) c = review_checks facts caller review c
+request_checks facts caller (AddReviewer account role) c = role_checks facts account role c
+request_checks facts caller (RemoveReviewer account) c = removal_checks facts caller account c
+request_checks facts caller SetWip c = flag_checks facts caller false c
+request_checks facts caller SetReady c = flag_checks facts caller true c
+request_checks facts caller Abandon c = abandon_checks facts caller c
+request_checks facts caller Restore c = restore_checks facts caller c
+request_checks facts caller (AddAttention account reason) c = call_checks facts account c
+request_checks facts caller (RemoveAttention account reason) c = leave_checks facts account c
 
 -- the checks of a submit of a change
-abbrev pub submit_checks : Reading → List Entry → ℕ → Change → List (Bool × Refusal)
-submit_checks reading h caller c = (has_right reading h c.project right.Submit caller, NotAllowed) ∷ (is_open c.state, Closed) ∷ (not c.wip, WorkInProgress) ∷ []
+abbrev pub submit_checks : DeskFacts → ℕ → Change → List (Bool × Refusal)
+submit_checks facts caller c = (has_right facts (facts.file c.project) right.Submit caller, NotAllowed) ∷ (is_open c.state, Closed) ∷ (not c.wip, WorkInProgress) ∷ []
 
 -- checks of a change, where there is one
 abbrev pub of_change : (Change → List (Bool × Refusal)) → Option Change → List (Bool × Refusal)
@@ -103,22 +136,19 @@ of_change each None = (false, NoChange) ∷ []
 of_change each (Some c) = each c
 
 -- The checks of a command in their order, by the rules of the latest version, each with the refusal where it fails. What is asked of the file that a PutProject puts, and of the epochs of a CloseEpoch, comes after them.
-abbrev pub checks : Reading → List Entry → ℕ → Command → List (Bool × Refusal)
-checks reading h caller (CreateAccount name) =
-    (is_admin h caller, NotAdmin) ∷ (not (name_taken h name), NameTaken) ∷ (nat_lt (account_count h) most_accounts, Limit) ∷ []
-checks reading h caller (PutGroup group members) =
-    (is_admin h caller, NotAdmin) ∷ (not (bytes_eq group registered_users), NameTaken) ∷ (list_all (is_account h) members, NoAccount) ∷ []
-checks reading h caller (PutProject project file) =
-    (is_admin h caller, NotAdmin) ∷ []
-checks reading h caller (RecordBase project branch commit) =
-    (is_admin h caller, NotAdmin) ∷ (is_project h project, NoProject) ∷ (not (is_known reading h project branch commit), CommitKnown)
-    ∷ (nat_lt (base_count h project) most_bases, Limit) ∷ []
-checks reading h caller (CreateChange new) =
-    (is_project h new.project, NoProject) ∷ (is_branch h new.project new.branch, NoBranch) ∷ (has_right reading h new.project right.Create caller, NotAllowed)
-    ∷ (commit_checks reading h new.project new.branch new.commit new.parent ++ (nat_lt (change_count h) most_changes, Limit) ∷ [])
-checks reading h caller (OnChange n command) = of_change (request_checks reading h caller command) (change reading h n)
-checks reading h caller (Submit n) = of_change (submit_checks reading h caller) (change reading h n)
-checks reading h caller (CloseEpoch least) = (is_admin h caller, NotAdmin) ∷ []
+abbrev pub checks : DeskFacts → ℕ → Command → List (Bool × Refusal)
+checks facts caller (CreateAccount name) = (facts.is_admin caller, NotAdmin) ∷ (not (facts.is_taken name), NameTaken) ∷ (nat_lt facts.accounts most_accounts, Limit) ∷ []
+checks facts caller (PutGroup group members) =
+    (facts.is_admin caller, NotAdmin) ∷ (not (bytes_eq group registered_users), NameTaken) ∷ (list_all facts.is_account members, NoAccount) ∷ []
+checks facts caller (PutProject project file) = (facts.is_admin caller, NotAdmin) ∷ []
+checks facts caller (RecordBase project branch commit) =
+    (facts.is_admin caller, NotAdmin) ∷ (facts.is_project project, NoProject) ∷ (not (facts.is_known project branch commit), CommitKnown) ∷ (facts.has_room project, Limit) ∷ []
+checks facts caller (CreateChange new) =
+    (facts.is_project new.project, NoProject) ∷ (facts.is_branch new.project new.branch, NoBranch) ∷ (has_right facts (facts.file new.project) right.Create caller, NotAllowed)
+    ∷ (commit_checks facts new.project new.branch new.commit new.parent ++ (nat_lt facts.changes most_changes, Limit) ∷ [])
+checks facts caller (OnChange n command) = of_change (request_checks facts caller command) (facts.change n)
+checks facts caller (Submit n) = of_change (submit_checks facts caller) (facts.change n)
+checks facts caller (CloseEpoch least) = (facts.is_admin caller, NotAdmin) ∷ []
 
 -- the refusal of the first check that fails
 abbrev pub first_refusal : List (Bool × Refusal) → Option Refusal
@@ -127,7 +157,7 @@ first_refusal (c ∷ cs) = if c.0 then first_refusal cs else Some c.1
 
 -- what refuses a command: that the caller is no account, before all others, or the first of its checks that fails
 abbrev pub refused_by : Reading → List Entry → ℕ → Command → Option Refusal
-refused_by reading h caller command = first_refusal ((is_account h caller, UnknownCaller) ∷ checks reading h caller command)
+refused_by reading h caller command = first_refusal ((is_account h caller, UnknownCaller) ∷ checks (facts_of reading h) caller command)
 
 -- the numbers of new comments, after so many
 abbrev pub numbers_after : {X : Type 0} → ℕ → List X → List ℕ
@@ -217,13 +247,13 @@ IsAnswerBy reading h caller command reply = MatchOption (refused_by reading h ca
 
 -- The checks of a CloseEpoch in a request of this epoch, after those that the caller is an account and an administrator: the epoch that is to be the least open one is not beyond the
 -- request's own, and it is above the present one.
-abbrev pub epoch_checks : List Entry → ℕ → ℕ → List (Bool × Refusal)
-epoch_checks h epoch least = (nat_le least epoch, EpochAhead) ∷ (nat_lt (least_open h) least, SameState) ∷ []
+abbrev pub epoch_checks : DeskFacts → ℕ → ℕ → List (Bool × Refusal)
+epoch_checks facts epoch least = (nat_le least epoch, EpochAhead) ∷ (nat_lt facts.least_open least, SameState) ∷ []
 
 -- What a command is told in a request of this epoch. The answer to each but CloseEpoch doesn't depend on the epoch.
 abbrev pub IsAnswerAt : Reading → List Entry → ℕ → ℕ → Command → Reply → Type 0
 IsAnswerAt reading h caller epoch (CloseEpoch least) reply =
-    MatchOption (refused_by reading h caller (CloseEpoch least)) (reply ≡ refused_or (first_refusal (epoch_checks h epoch least)) Nothing) (λ refusal. reply ≡ Refused refusal)
+    MatchOption (refused_by reading h caller (CloseEpoch least)) (reply ≡ refused_or (first_refusal (epoch_checks (facts_of reading h) epoch least)) Nothing) (λ refusal. reply ≡ Refused refusal)
 IsAnswerAt reading h caller epoch command reply = IsAnswerBy reading h caller command reply
 
 -- The reply is an answer to the command of a request of this epoch, where each text that was put is read right.

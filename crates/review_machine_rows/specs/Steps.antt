@@ -34,9 +34,30 @@ abbrev pub topic_of : Matter → Topic
 topic_of (matter.Command command) = OfCommand command.now
 topic_of (matter.Query query) = OfQuery query.now
 
--- every command asks how many requests there are, whether the caller is an account, and whether an administrator
-abbrev pub caller_wants : ℕ → List Want
-caller_wants caller = want.Requests ∷ want.Account caller ∷ want.Member (record { group = administrators; account = caller }) ∷ []
+-- whether a request on a change is judged by who runs the change
+abbrev pub is_for_who_runs : ChangeCommand → Bool
+is_for_who_runs (Upload patch) = false
+is_for_who_runs (Review review) = false
+is_for_who_runs (AddReviewer account role) = false
+is_for_who_runs (AddAttention account reason) = false
+is_for_who_runs (RemoveAttention account reason) = false
+is_for_who_runs _ = true
+
+-- whether a command is judged by whether the caller is an administrator
+abbrev pub asks_admin : Command → Bool
+asks_admin (CreateChange new) = false
+asks_admin (OnChange change command) = is_for_who_runs command
+asks_admin (Submit change) = false
+asks_admin _ = true
+
+-- whether the caller is an administrator, where that is asked
+abbrev pub admin_wants : ℕ → Bool → List Want
+admin_wants caller true = want.Member (record { group = administrators; account = caller }) ∷ []
+admin_wants caller false = []
+
+-- every command asks how many requests there are, whether the caller is an account, and, where it is judged by that, whether an administrator
+abbrev pub caller_wants : ℕ → Command → List Want
+caller_wants caller command = want.Requests ∷ want.Account caller ∷ admin_wants caller (asks_admin command)
 
 -- whether a commit is known in a branch: as a base, or as that of a patch set
 abbrev pub commit_wants : List ℕ → List ℕ → List ℕ → List Want
@@ -77,7 +98,7 @@ query_wants caller (asked.OnChange change query) = want.Account caller ∷ want.
 
 -- what a command or a question asks first
 abbrev pub first_wants : ℕ → Topic → List Want
-first_wants caller (OfCommand command) = caller_wants caller ++ command_wants command
+first_wants caller (OfCommand command) = caller_wants caller command ++ command_wants command
 first_wants caller (OfQuery query) = query_wants caller query
 
 -- whether values on labels are given

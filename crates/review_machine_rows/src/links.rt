@@ -4,7 +4,7 @@ ghost use Rattle.std.specs.Prelude.{◌≡◌, IfOk};
 use crate::rows::{Base, Rows, Want};
 use review_chain::{Link, Links, Standing};
 use review_words::{BranchName, ChangeNo, CommitName, ProjectName};
-use std::alloc::{AllocError, Global};
+use std::alloc::AllocError;
 
 /// A branch, and what rows know of it: the changes for it, and what commits are to it.
 #[derive(Clone, Copy)]
@@ -19,7 +19,7 @@ impl Links for RowLinks<'_> {
 
     ghost known = { λ l. links_in l.rows.now l.project.now l.branch.now };
 
-    fn link(&self, alloc: Global, change: ChangeNo) -> Result<Option<Link>, AllocError> {
+    fn link(&self, change: ChangeNo) -> Result<Option<Link>, AllocError> {
         let Some(rows) = self.rows.change(change) else {
             return Ok(None);
         };
@@ -32,30 +32,29 @@ impl Links for RowLinks<'_> {
         };
         Ok(Some(Link {
             patch: rows.patches.len(),
-            parent: patch.parent.copy(alloc)?,
+            parent: patch.parent.copy()?,
             state: header.state,
             wip: header.wip,
         }))
     }
 
-    fn standing(&self, alloc: Global, commit: &CommitName) -> Result<Option<Standing>, AllocError> {
-        let base = base_of(alloc, self.project, self.branch, commit)?;
+    fn standing(&self, commit: &CommitName) -> Result<Option<Standing>, AllocError> {
+        let base = base_of(self.project, self.branch, commit)?;
         Ok(self.rows.standing(&Want::Standing(base)))
     }
 }
 
 // A commit in a branch, by copies of the names.
 fn base_of(
-    alloc: Global,
     project: &ProjectName,
     branch: &BranchName,
     commit: &CommitName,
 ) -> Result<Base, AllocError>
     ensures { IfOk result (λ base. base ≡ record { project = project.now; branch = branch.now; commit = commit.now }) }
 {
-    let project = project.copy(alloc)?;
-    let branch = branch.copy(alloc)?;
-    let commit = commit.copy(alloc)?;
+    let project = project.copy()?;
+    let branch = branch.copy()?;
+    let commit = commit.copy()?;
     Ok(Base {
         project,
         branch,

@@ -18,8 +18,8 @@ pub struct MemberKey {
 }
 
 impl Key for MemberKey {
-    fn copy(&self, alloc: Global) -> Result<MemberKey, AllocError> {
-        let group = self.group.copy(alloc)?;
+    fn copy(&self) -> Result<MemberKey, AllocError> {
+        let group = self.group.copy()?;
         Ok(MemberKey {
             group,
             account: self.account,
@@ -35,9 +35,9 @@ pub struct BranchKey {
 }
 
 impl Key for BranchKey {
-    fn copy(&self, alloc: Global) -> Result<BranchKey, AllocError> {
-        let project = self.project.copy(alloc)?;
-        let branch = self.branch.copy(alloc)?;
+    fn copy(&self) -> Result<BranchKey, AllocError> {
+        let project = self.project.copy()?;
+        let branch = self.branch.copy()?;
         Ok(BranchKey { project, branch })
     }
 }
@@ -51,10 +51,10 @@ pub struct Base {
 }
 
 impl Key for Base {
-    fn copy(&self, alloc: Global) -> Result<Base, AllocError> {
-        let project = self.project.copy(alloc)?;
-        let branch = self.branch.copy(alloc)?;
-        let commit = self.commit.copy(alloc)?;
+    fn copy(&self) -> Result<Base, AllocError> {
+        let project = self.project.copy()?;
+        let branch = self.branch.copy()?;
+        let commit = self.commit.copy()?;
         Ok(Base {
             project,
             branch,
@@ -72,12 +72,12 @@ pub struct StoredFile {
 
 impl StoredFile {
     /// The same file once more, with a text of its own. An error where there was no memory for it.
-    pub fn copy(&self, alloc: Global) -> Result<StoredFile, AllocError>
+    pub fn copy(&self) -> Result<StoredFile, AllocError>
         ensures { IfOk result (λ f. f ≡ self.now) }
     {
-        let text = self.text.copy(alloc)?;
+        let text = self.text.copy()?;
         let parent = match &self.parent {
-            Some(name) => Some(name.copy(alloc)?),
+            Some(name) => Some(name.copy()?),
             None => None,
         };
         Ok(StoredFile { text, parent })
@@ -93,9 +93,9 @@ pub struct PlaceKey {
 }
 
 impl Key for PlaceKey {
-    fn copy(&self, alloc: Global) -> Result<PlaceKey, AllocError> {
-        let project = self.project.copy(alloc)?;
-        let branch = self.branch.copy(alloc)?;
+    fn copy(&self) -> Result<PlaceKey, AllocError> {
+        let project = self.project.copy()?;
+        let branch = self.branch.copy()?;
         Ok(PlaceKey {
             project,
             branch,
@@ -178,37 +178,37 @@ pub enum Want {
 
 impl Counted {
     /// The same count once more, which shares the project's name. An error where there was no memory for it.
-    fn copied(&self, alloc: Global) -> Result<Counted, AllocError>
+    fn copied(&self) -> Result<Counted, AllocError>
         ensures { IfOk result (λ c. c ≡ self.now) }
     {
         match self {
             Counted::Projects => Ok(Counted::Projects),
-            Counted::BasesOf(project) => Ok(Counted::BasesOf(project.copy(alloc)?)),
+            Counted::BasesOf(project) => Ok(Counted::BasesOf(project.copy()?)),
         }
     }
 }
 
 impl Key for Want {
-    fn copy(&self, alloc: Global) -> Result<Want, AllocError> {
+    fn copy(&self) -> Result<Want, AllocError> {
         match self {
             Want::Requests => Ok(Want::Requests),
             Want::Account(number) => Ok(Want::Account(*number)),
-            Want::AccountNamed(name) => Ok(Want::AccountNamed(name.copy(alloc)?)),
+            Want::AccountNamed(name) => Ok(Want::AccountNamed(name.copy()?)),
             Want::LastAccount => Ok(Want::LastAccount),
-            Want::Member(member) => Ok(Want::Member(member.copy(alloc)?)),
-            Want::Group(group) => Ok(Want::Group(group.copy(alloc)?)),
-            Want::File(project) => Ok(Want::File(project.copy(alloc)?)),
-            Want::Project(project) => Ok(Want::Project(project.copy(alloc)?)),
-            Want::Room(counted) => Ok(Want::Room(counted.copied(alloc)?)),
-            Want::Base(base) => Ok(Want::Base(base.copy(alloc)?)),
-            Want::LastPlace(branch) => Ok(Want::LastPlace(branch.copy(alloc)?)),
-            Want::Bases(branch) => Ok(Want::Bases(branch.copy(alloc)?)),
+            Want::Member(member) => Ok(Want::Member(member.copy()?)),
+            Want::Group(group) => Ok(Want::Group(group.copy()?)),
+            Want::File(project) => Ok(Want::File(project.copy()?)),
+            Want::Project(project) => Ok(Want::Project(project.copy()?)),
+            Want::Room(counted) => Ok(Want::Room(counted.copied()?)),
+            Want::Base(base) => Ok(Want::Base(base.copy()?)),
+            Want::LastPlace(branch) => Ok(Want::LastPlace(branch.copy()?)),
+            Want::Bases(branch) => Ok(Want::Bases(branch.copy()?)),
             Want::Change(number) => Ok(Want::Change(*number)),
-            Want::ChangeOf(base) => Ok(Want::ChangeOf(base.copy(alloc)?)),
+            Want::ChangeOf(base) => Ok(Want::ChangeOf(base.copy()?)),
             Want::LastChange => Ok(Want::LastChange),
-            Want::LastJoined(branch) => Ok(Want::LastJoined(branch.copy(alloc)?)),
-            Want::Standing(base) => Ok(Want::Standing(base.copy(alloc)?)),
-            Want::Joined(branch) => Ok(Want::Joined(branch.copy(alloc)?)),
+            Want::LastJoined(branch) => Ok(Want::LastJoined(branch.copy()?)),
+            Want::Standing(base) => Ok(Want::Standing(base.copy()?)),
+            Want::Joined(branch) => Ok(Want::Joined(branch.copy()?)),
             Want::LeastEpoch => Ok(Want::LeastEpoch),
         }
     }

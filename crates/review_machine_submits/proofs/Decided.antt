@@ -21,6 +21,7 @@ use Rattle.review_machine_rows.proofs.{Lined.texts_told, Puts.no_base, Puts.no_b
 use Rattle.review_machine_rows.specs.Answer.{IsAnswerBy, IsHistory, first_refusal, of_change, refused_by, submit_checks, most_requests}
 use Rattle.review_machine_rows.specs.Changes.{Reading, change, joined, joining, joining_at, place_in, Reads, file_of, setting_of, texts_of, change_count}
 use Rattle.review_machine_rows.specs.Decisions.{NamesChangesOnce, NamesEachOnce, NamesRowsOnce, IsUndecided}
+use Rattle.review_machine_rows.specs.Desks.{facts_by}
 use Rattle.review_machine_rows.specs.Known.{part_of, Agrees, Found, IsKnown, known, change_in, IsLastJoined, number_of}
 use Rattle.review_machine_rows.specs.Links.{is_for, link_for, link_of, links_in}
 use Rattle.review_machine_rows.specs.Rows.{member_cmp, Key, AccountKey, MemberKey, FileKey, BaseKey, PartKey, OddKey, APart, Count, Projects, BasesOf, ClosedEpochs, account_change, member_change, edited, after, count_after, part_change}
@@ -28,15 +29,15 @@ use Rattle.review_machine_rows.specs.Steps.{HasFile, OfCommand, caller_in, chain
 use Rattle.review_machine_rows.specs.Submits.{HasBadLink, refusal_of, branch_after, judged_after, IsOf, IsSubmitAnswer, checked_reply}
 use Rattle.review_machine_rows.specs.View.{IsDecided, counted, fact, AreEnough, view}
 use Rattle.review_machine_rows.specs.declared.rows.{ChangeEdit.ChangeEdit, Delta.Delta, Rows.Rows}
-use Rattle.review_core_standing.proofs.InThreads.{other_way}
-use Rattle.review_machine_laws.proofs.{Changes.changes_bound, Histories.OneEffective, SoundProjects.has_project}
+use Rattle.{review_core_standing.proofs.InThreads.other_way, review_machine_laws.proofs.Changes.changes_bound}
+use Rattle.review_machine_laws.proofs.Checked.{lacks_project, same_trees, split_all, submit_asked, submit_file, submit_refused_told}
+use Rattle.review_machine_laws.proofs.{Histories.OneEffective, SoundProjects.has_project, Told.change_told}
 use Rattle.review_machine_accounts.proofs.Decided.{outcome_answer, refused_decided}
-use Rattle.review_machine_accounts.specs.Decisions.{IsEmpty}
-use Rattle.review_machine_changes.proofs.{Made.request_is, Requested.same_trees, Requested.split_all}
-use Rattle.review_machine_changes.proofs.Told.{lacks_project, change_told, right_told, ChangesAreSound}
+use Rattle.review_machine_accounts.specs.Decisions.{EditsChanges, IsEmpty}
+use Rattle.review_machine_changes.proofs.{Made.request_is, Told.ChangesAreSound}
 use Rattle.review_machine_changes.specs.Facts.{setting_in, next_request}
 use Rattle.review_machine_submits.proofs.Loaded.{GroupsSuffice, standing_told}
-use Rattle.review_machine_submits.specs.Submits.{IsThere, change_at, AreJoinEdits, EditsChanges, IsJoinEdit, HasUnsound, judged_in, submit_list, JoinsChain, Makes, last_in}
+use Rattle.review_machine_submits.specs.Submits.{IsThere, change_at, AreJoinEdits, IsJoinEdit, HasUnsound, judged_in, JoinsChain, Makes, last_in}
 use Rattle.review_machine_submits.specs.inner.Words.{IsUnchained, IsUnlinked, IsSubmitted}
 use Rattle.review_file_rules.specs.declared.parts.Right.TheVariants as right
 use Rattle.review_machine_rows.specs.declared.rows.Want.TheVariants as want
@@ -262,46 +263,30 @@ change_known reading h rows n c agree found = sym (change_told reading h rows n 
         none_known None e f = let g : None ≡ Some c = f in cc
         none_known (Some x) e f = let g : true ≡ false = e in cc
 
--- a submit of a change that isn't there
-pub none_there : (reading : Reading) (h : List Entry) (caller n : ℕ) → is_account h caller ≡ true → change reading h n ≡ None → refused_by reading h caller (Submit n) ≡ Some NoChange
-none_there reading h caller n account none = λ i. first_refusal ((account i, UnknownCaller) ∷ of_change (submit_checks reading h caller) (none i))
-
--- all that a submit asked by its change
-asked_by : (reading : Reading) (h : List Entry) (caller n : ℕ) (effective : Option File) (rows : Rows) (c : Change) → change_at rows n ≡ Some c → AreEnough reading h caller (OfCommand (Submit n)) effective rows → AllByRecursion (IsKnown rows) (submit_wants c)
-asked_by reading h caller n effective rows c found l = subst (AllByRecursion (IsKnown rows)) (ap (wants_by submit_wants) found) (change_asked effective rows caller (OfCommand (Submit n)) l.nothing_left)
-
--- the last place of its branch among them
+-- the last place of its branch among what a submit asked by its change
 pub last_asked : (reading : Reading) (h : List Entry) (caller n : ℕ) (effective : Option File) (rows : Rows) (c : Change) → change_at rows n ≡ Some c → AreEnough reading h caller (OfCommand (Submit n)) effective rows →
     IsKnown rows (want.LastJoined (record { project = c.project; branch = c.branch }))
-last_asked reading h caller n effective rows c found l = (asked_by reading h caller n effective rows c found l).1.0
-
--- the file that was read is that of the change's project
-has_file : (reading : Reading) (h : List Entry) (caller n : ℕ) (effective : Option File) (rows : Rows) (c : Change) → change_at rows n ≡ Some c → AreEnough reading h caller (OfCommand (Submit n)) effective rows → HasFile (texts_of h c.project) effective
-has_file reading h caller n effective rows c found l =
-    let start : project_for true (change_in (known rows (want.Change n))) ≡ Some c.project = ap (project_for true) found in
-    let line = line_asked effective rows caller (OfCommand (Submit n)) l.nothing_left in
-    subst (λ t. HasFile t effective)
-    (ap (texts_in rows) start
-    ∙ texts_told reading h rows l.agree c.project (asked_by reading h caller n effective rows c found l).0
-    (subst (λ o. AllByRecursion (λ s. unknown rows s ≡ []) (line_steps rows most_depth (option_and_then (known_parent rows) o))) start line)) l.file_is
+last_asked reading h caller n effective rows c found l = (submit_asked reading h caller effective rows n c found l).1.0
 
 -- no change of a history is of a project without a file
 pub lacking_undecided : (caller n : ℕ) (rows : Rows) (c : Change) → change_at rows n ≡ Some c → IsUndecided caller (Submit n) None rows Damaged
 lacking_undecided caller n rows c found reading h history l =
-    let none = lacks_project h c.project (has_file reading h caller n None rows c found l) in
+    let none = lacks_project h c.project (submit_file reading h caller None rows n c found l) in
     let some = has_project reading h n c history l.reads (change_known reading h rows n c l.agree found) in
     let bad : false ≡ true = sym none ∙ some in
     absurd (cc)
 
--- what refuses a submit is what rows tell
+-- what refuses a submit is what rows tell, of a change that isn't there
+pub absent_told : OneEffective → (reading : Reading) (h : List Entry) (caller n : ℕ) (effective : Option File) (rows : Rows) → is_account h caller ≡ true → change_at rows n ≡ None →
+    AreEnough reading h caller (OfCommand (Submit n)) effective rows → refused_by reading h caller (Submit n) ≡ Some NoChange
+absent_told one reading h caller n effective rows account none l =
+    submit_refused_told reading h caller effective rows one n account l ∙ ap (λ o. first_refusal (of_change (submit_checks (facts_by rows effective) caller) o)) none
+
+-- and of one that is
 pub refused_told : OneEffective → (reading : Reading) (h : List Entry) (caller n : ℕ) (file : File) (rows : Rows) (c : Change) → is_account h caller ≡ true → change_at rows n ≡ Some c →
-    AreEnough reading h caller (OfCommand (Submit n)) (Some file) rows → refused_by reading h caller (Submit n) ≡ first_refusal (submit_list file rows caller c)
+    AreEnough reading h caller (OfCommand (Submit n)) (Some file) rows → refused_by reading h caller (Submit n) ≡ first_refusal (submit_checks (facts_by rows (Some file)) caller c)
 refused_told one reading h caller n file rows c account found l =
-    let told = change_known reading h rows n c l.agree found in
-    let groups = split_all (IsKnown rows) (caller_in caller file.access.submit) (map want.Group _) (file_asked (Some file) rows caller (OfCommand (Submit n)) l.nothing_left) in
-    let may = sym (right_told one reading h rows c.project file right.Submit caller l.reads l.agree (has_file reading h caller n (Some file) rows c found l) groups.0) in
-    (λ i. first_refusal ((account i, UnknownCaller) ∷ of_change (submit_checks reading h caller) (told i)))
-    ∙ (λ i. first_refusal ((may i, NotAllowed) ∷ (is_open c.state, Closed) ∷ (not c.wip, WorkInProgress) ∷ []))
+    submit_refused_told reading h caller (Some file) rows one n account l ∙ ap (λ o. first_refusal (of_change (submit_checks (facts_by rows (Some file)) caller) o)) found
 
 -- ---- the chain
 
@@ -328,7 +313,7 @@ standing_of_one : OneEffective → GroupsSuffice → (reading : Reading) (h : Li
     AreEnough reading h caller (OfCommand (Submit n)) (Some file) rows → x.project ≡ c.project → AreStanding (setting_in file rows) x shown → AreStanding (setting_of reading h x.project) x shown
 standing_of_one one law reading h caller n file rows c x shown found l same is =
     let groups = split_all (IsKnown rows) (caller_in caller file.access.submit) (map want.Group _) (file_asked (Some file) rows caller (OfCommand (Submit n)) l.nothing_left) in
-    let trees = same_trees one reading h c.project file l.reads (has_file reading h caller n (Some file) rows c found l) in
+    let trees = same_trees one reading h c.project (Some file) l.reads (submit_file reading h caller (Some file) rows n c found l) in
     standing_told law reading h rows file x shown l.agree (trees ∙ ap (λ p. file_trees (file_of reading h p)) (sym same)) groups.1 is
 
 -- how requirements stand for the changes of a chain, by what rows tell, is how they stand after the history

@@ -35,11 +35,10 @@ use Rattle.review_machine_rows.specs.Steps.{HasFile, OfQuery, line_steps, known_
 use Rattle.review_machine_rows.specs.View.{AreEnough, view}
 use Rattle.review_machine_rows.specs.declared.rows.{Rows.Rows, StoredFile.StoredFile}
 use Rattle.review_core_standing.proofs.Made.{value_kept, some_where, order_kept, row_kept}
-use Rattle.review_machine_laws.proofs.{Histories.OneEffective, Rows.rows_tell, Rows.joined_rows}
-use Rattle.review_machine_laws.proofs.SoundProjects.{has_project}
-use Rattle.review_machine_accounts.proofs.Told.{project_told, bases_told, Agree, refused_question, told_question}
-use Rattle.review_machine_changes.proofs.Requested.{same_trees, same_in_all, split_all}
-use Rattle.review_machine_changes.proofs.Told.{ChangesAreSound, no_text}
+use Rattle.review_machine_laws.proofs.{Checked.no_text, Checked.same_trees, Checked.split_all, Histories.OneEffective}
+use Rattle.review_machine_laws.proofs.{Rows.rows_tell, Rows.joined_rows, SoundProjects.has_project}
+use Rattle.review_machine_laws.proofs.Told.{project_told, bases_told, Agree, refused_question, told_question}
+use Rattle.review_machine_changes.proofs.{Requested.same_in_all, Told.ChangesAreSound}
 use Rattle.review_machine_submits.specs.inner.Told.{LacksFile, setting_by, is_on, IsToldBy}
 use Rattle.review_words.specs.declared.command.Query.TheVariants as asked
 use Rattle.review_machine_rows.specs.declared.rows.Want.TheVariants as want
@@ -338,7 +337,7 @@ told_of : OneEffective → GroupsSuffice → (reading : Reading) (h : List Entry
     AreEnough reading h caller (OfQuery (OnChange n query)) effective rows → IsToldBy effective rows.groups n query c told → IsToldOf (setting_of reading h c.project) n query c told
 told_of one law reading h caller n query None rows c told found l is = is (setting_of reading h c.project)
 told_of one law reading h caller n Requirements (Some f) rows c told found l is =
-    let trees = same_trees one reading h c.project f l.reads (has_file reading h caller n (Some f) rows c found l) in
+    let trees = same_trees one reading h c.project (Some f) l.reads (has_file reading h caller n (Some f) rows c found l) in
     (is.0, standing_told law reading h rows f c is.0 l.agree trees (file_asked (Some f) rows caller (OfQuery (OnChange n Requirements)) l.nothing_left) is.1, is.2)
 told_of one law reading h caller n _ (Some f) rows c told found l is = is
 

@@ -1,22 +1,15 @@
 -- What rows tell of a submit.
-use Rattle.std.specs.Prelude.{[], ℕ, not, List, ◌∷◌, Bool, Option, IsSome, option_map, ◌≡◌, Some, None, ◌+◌, ◌<◌, ◌^◌, map, length}
-use Rattle.{review_table.specs.Rows.after_row_edit, review_words.specs.declared.reply.Refusal.Refusal}
-use Rattle.review_words.specs.declared.reply.Refusal.TheVariants.{NotAllowed, Closed, WorkInProgress}
-use Rattle.review_words.specs.declared.reply.Reply.{Reply}
+use Rattle.std.specs.Prelude.{[], ℕ, List, ◌∷◌, Option, IsSome, option_map, ◌≡◌, Some, None, ◌+◌, ◌<◌, ◌^◌, map, length}
+use Rattle.{review_table.specs.Rows.after_row_edit, review_words.specs.declared.reply.Reply.Reply}
 use Rattle.review_chain.specs.{Places.places_from, Walks.IsChain}
-use Rattle.review_core_rules.specs.Change.{Change, is_open, Setting, joined_at}
+use Rattle.review_core_rules.specs.Change.{Change, Setting, joined_at}
 use Rattle.review_core_rules.specs.{Facts.IsFirstUnsatisfied, Parts.Part, Parts.part_row, Sound.IsSound}
 use Rattle.review_machine_rows.specs.{Files.File, Known.known, Known.change_in, Known.number_of, Links.links_in}
 use Rattle.review_machine_rows.specs.{Rows.part_change, Submits.checked_reply}
 use Rattle.review_machine_rows.specs.declared.rows.{ChangeEdit.ChangeEdit, Delta.Delta, Rows.Rows}
-use Rattle.review_machine_accounts.specs.Decisions.{IsEmpty}
-use Rattle.review_machine_changes.specs.Facts.{right_in, setting_in, next_request}
-use Rattle.review_file_rules.specs.declared.parts.Right.TheVariants as right
+use Rattle.review_machine_accounts.specs.Decisions.{EditsChanges, IsEmpty}
+use Rattle.review_machine_changes.specs.Facts.{setting_in, next_request}
 use Rattle.review_machine_rows.specs.declared.rows.Want.TheVariants as want
-
--- the checks of a submit, by what rows tell and the file that the change's project has
-abbrev pub submit_list : File → Rows → ℕ → Change → List (Bool × Refusal)
-submit_list file rows caller c = (right_in rows file right.Submit caller, NotAllowed) ∷ (is_open c.state, Closed) ∷ (not c.wip, WorkInProgress) ∷ []
 
 -- the change of a number, as rows know it
 abbrev pub change_at : Rows → ℕ → Option Change
@@ -42,15 +35,6 @@ abbrev pub AreJoinEdits : Rows → ℕ → List (ℕ × ℕ) → List ChangeEdit
 AreJoinEdits rows request [] [] = Unit {0}
 AreJoinEdits rows request (j ∷ js) (e ∷ es) = IsJoinEdit rows request j.0 j.1 e × AreJoinEdits rows request js es
 AreJoinEdits rows request js es = ⊥
-
--- a delta with edits of changes, and nothing else
-pub record EditsChanges (edits : List ChangeEdit) (delta : Delta) : Type 0 where
-  pub accounts : delta.accounts.items ≡ []
-  pub members : delta.members.items ≡ []
-  pub file : delta.file ≡ None
-  pub base : delta.base ≡ None
-  pub changes : delta.changes.items ≡ edits
-  pub epoch : delta.least_epoch ≡ None
 
 -- the last place that a change joined the branch of a change at, as rows know it
 abbrev pub last_in : Rows → Change → ℕ

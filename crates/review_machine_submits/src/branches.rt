@@ -32,15 +32,15 @@ pub fn show_branch(
     if !known {
         return Ok(Reply::Refused(Refusal::UnknownCaller));
     }
-    let there = is_project(alloc, rows, project)?;
+    let there = is_project(rows, project)?;
     if !there {
         return Ok(Reply::Refused(Refusal::NoProject));
     }
-    let bases = known_bases(alloc, rows, branch_of(alloc, project, branch)?)?;
+    let bases = known_bases(alloc, rows, branch_of(project, branch)?)?;
     if bases.is_empty() {
         return Ok(Reply::Refused(Refusal::NoBranch));
     }
-    let joined = known_joined(alloc, rows, branch_of(alloc, project, branch)?)?;
+    let joined = known_joined(alloc, rows, branch_of(project, branch)?)?;
     Ok(Reply::Done(Answer::Branch { bases, joined }))
 }
 
@@ -54,22 +54,18 @@ fn known_joined(
 {
     let mut joined = Vec::new(alloc);
     if let Some(known) = rows.joined(&Want::Joined(branch)) {
-        push_joined(alloc, &mut joined, known.as_slice())?;
+        push_joined(&mut joined, known.as_slice())?;
     }
     Ok(Listed::from_vec(joined))
 }
 
-fn push_joined(
-    alloc: Global,
-    joined: &mut Vec<JoinedChange>,
-    more: &[JoinedChange],
-) -> Result<(), AllocError>
+fn push_joined(joined: &mut Vec<JoinedChange>, more: &[JoinedChange]) -> Result<(), AllocError>
     ensures { OnOk result (joined.new.items ≡ joined.old.items ++ more.now) }
 {
     for one in more {
         joined.push(JoinedChange {
             change: one.change,
-            commit: one.commit.copy(alloc)?,
+            commit: one.commit.copy()?,
         })?;
     }
     Ok(())

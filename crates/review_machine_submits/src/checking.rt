@@ -1,8 +1,9 @@
 //! What may refuse a submit.
-ghost use Rattle.std.specs.{List.AllByRecursion, Prelude.◌≡◌, Prelude.IfOk, Prelude.option_map};
+ghost use Rattle.std.specs.{List.AllByRecursion, Prelude.◌≡◌, Prelude.IfOk, Prelude.Some, Prelude.option_map};
 ghost use Rattle.review_core_rules.specs.Facts.{IsFirstUnsatisfied, is_unsatisfied, unsatisfied_in};
-ghost use Rattle.{review_core_rules.specs.Seen.seen, review_machine_rows.specs.Answer.first_refusal};
-ghost use Rattle.review_machine_submits.specs.Submits.{IsThere, judged_in, submit_list};
+ghost use Rattle.review_core_rules.specs.Seen.{seen};
+ghost use Rattle.review_machine_rows.specs.{Answer.first_refusal, Answer.submit_checks, Desks.facts_by};
+ghost use Rattle.review_machine_submits.specs.Submits.{IsThere, judged_in};
 
 use review_core_rules::ChangeRows;
 use review_core_standing::statuses;
@@ -14,15 +15,14 @@ use std::alloc::{AllocError, Global};
 
 /// The first check of a submit that fails: the right, then the state, then work in progress.
 pub fn submit_refusal(
-    alloc: Global,
     file: &ProjectFile,
     rows: &Rows,
     caller: AccountNo,
     change: &ChangeRows,
 ) -> Result<Option<Refusal>, AllocError>
-    ensures { IfOk result (λ r. r ≡ first_refusal (submit_list file.now rows.now caller (seen change.now))) }
+    ensures { IfOk result (λ r. r ≡ first_refusal (submit_checks (facts_by rows.now (Some file.now)) caller (seen change.now))) }
 {
-    if !has_right(alloc, rows, file, Right::Submit, caller)? {
+    if !has_right(rows, file, Right::Submit, caller)? {
         return Ok(Some(Refusal::NotAllowed));
     }
     if !is_open(change.header.state) {
@@ -49,7 +49,7 @@ pub fn first_unsatisfied(
             unreachable!()
         };
         let shown = statuses(alloc, found, file, &rows.groups)?;
-        if let Some(requirement) = unsatisfied(alloc, shown.as_slice())? {
+        if let Some(requirement) = unsatisfied(shown.as_slice())? {
             return Ok(Some((*change, requirement)));
         }
     }
@@ -57,12 +57,12 @@ pub fn first_unsatisfied(
 }
 
 /// The first requirement that is unsatisfied.
-fn unsatisfied(alloc: Global, shown: &[ShownRequirement]) -> Result<Option<LabelName>, AllocError>
+fn unsatisfied(shown: &[ShownRequirement]) -> Result<Option<LabelName>, AllocError>
     ensures { IfOk result (λ name. name ≡ unsatisfied_in shown.now) }
 {
     for requirement in shown {
         if is_unsatisfied(requirement.status) {
-            return Ok(Some(requirement.name.copy(alloc)?));
+            return Ok(Some(requirement.name.copy()?));
         }
     }
     Ok(None)

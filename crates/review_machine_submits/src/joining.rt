@@ -74,10 +74,10 @@ fn join_edits(
 }
 
 /// The last place that is taken in the branch of a change; 2^32 - 1 for a greater one, which no branch has.
-fn last_joined(alloc: Global, rows: &Rows, found: &ChangeRows) -> Result<u32, AllocError>
+fn last_joined(rows: &Rows, found: &ChangeRows) -> Result<u32, AllocError>
     ensures { IfOk result (λ last. last ≡ min (last_in rows.now (seen found.now)) (2 ^ 32 - 1)) }
 {
-    let branch = branch_of(alloc, &found.header.project, &found.header.branch)?;
+    let branch = branch_of(&found.header.project, &found.header.branch)?;
     let last = rows.number(&Want::LastJoined(branch));
     Ok(u32::try_from(last).unwrap_or(u32::MAX))
 }
@@ -95,7 +95,7 @@ pub fn join_chain(
     ensures once { IfOk result NamesEachOnce }
     ensures cause { IfErr result (λ e. (e ≡ Memory) ⊎ ((e ≡ Damaged) × HasUnsound rows.now)) }
 {
-    let last = last_joined(alloc, rows, found)?;
+    let last = last_joined(rows, found)?;
     let joined = joins(alloc, chain, last)?;
     let request = rows.number(&Want::Requests).saturating_add(1);
     let edits = join_edits(alloc, rows, &joined, request)?;

@@ -55,7 +55,6 @@ fn accounts_having(
 }
 
 fn push_vote(
-    alloc: Global,
     shown: &mut Vec<ShownVote>,
     patch: PatchNo,
     key: &VoteKey,
@@ -67,7 +66,7 @@ fn push_vote(
     if key.patch != patch {
         return Ok(());
     }
-    let label = key.label.copy(alloc)?;
+    let label = key.label.copy()?;
     shown.push(ShownVote {
         label,
         account: key.account,
@@ -85,7 +84,7 @@ fn votes_on(
 {
     let mut shown = Vec::new(alloc);
     for (key, vote) in rows {
-        push_vote(alloc, &mut shown, patch, key, **vote)?;
+        push_vote(&mut shown, patch, key, **vote)?;
     }
     Ok(shown)
 }
@@ -112,7 +111,7 @@ fn calls(
 {
     let mut shown = Vec::new(alloc);
     for (account, called) in rows {
-        let reason = called.reason.copy(alloc)?;
+        let reason = called.reason.copy()?;
         shown.push(ShownAttentionEntry {
             account: **account,
             reason,
@@ -160,10 +159,10 @@ pub fn shown_change(
     let reviewers = accounts_having(alloc, &rows.roles, Role::Reviewer)?;
     let ccs = accounts_having(alloc, &rows.roles, Role::Cc)?;
     let votes = current_votes(alloc, rows, patch)?;
-    let project = header.project.copy(alloc)?;
-    let branch = header.branch.copy(alloc)?;
-    let subject = header.subject.copy(alloc)?;
-    let commit = last.commit.copy(alloc)?;
+    let project = header.project.copy()?;
+    let branch = header.branch.copy()?;
+    let subject = header.subject.copy()?;
+    let commit = last.commit.copy()?;
     Ok(ShownChange {
         change,
         project,

@@ -57,7 +57,7 @@ pub fn submit(
     let Some(file) = effective else {
         return Err(NotTaken::Damaged);
     };
-    let refusal = submit_refusal(alloc, file, rows, caller, found)?;
+    let refusal = submit_refusal(file, rows, caller, found)?;
     if let Some(refusal) = refusal {
         return Ok(refused(alloc, refusal));
     }

@@ -47,22 +47,19 @@ fn copied_members(
 {
     let mut copies = Vec::new(alloc);
     for change in changes {
-        copies.push(copied_member(alloc, change)?)?;
+        copies.push(copied_member(change)?)?;
     }
     Ok(copies)
 }
 
-fn copied_member(
-    alloc: Global,
-    change: &RowEdit<MemberKey, ()>,
-) -> Result<RowEdit<MemberKey, ()>, AllocError>
+fn copied_member(change: &RowEdit<MemberKey, ()>) -> Result<RowEdit<MemberKey, ()>, AllocError>
     ensures copied { IfOk result (λ copy. copy ≡ change.now) }
     ensures numbered { IsNumber change.now.key.account }
 {
     // A range over a group finds the member, since it is an account by its number.
     let _ = change.key.account.get();
     Ok(RowEdit {
-        key: change.key.copy(alloc)?,
+        key: change.key.copy()?,
         row: change.row,
     })
 }
@@ -76,8 +73,8 @@ fn copied_file(
     match file {
         Some(put) => Ok(vec![in alloc;
             RowEdit {
-                key: put.key.copy(alloc)?,
-                row: Some(put.row.copy(alloc)?),
+                key: put.key.copy()?,
+                row: Some(put.row.copy()?),
             },
         ]?),
         None => Ok(Vec::new(alloc)),
@@ -85,13 +82,13 @@ fn copied_file(
 }
 
 /// The answer of a stored request, under its identity.
-pub fn stored(alloc: Global, kept: &Kept) -> Result<Put<AnswerKey, StoredAnswer>, AllocError>
+pub fn stored(kept: &Kept) -> Result<Put<AnswerKey, StoredAnswer>, AllocError>
     ensures { IfOk result (PutsAnswer kept.now) }
 {
     let key = AnswerKey {
         epoch: kept.epoch,
         caller: kept.caller,
-        id: kept.id.copy(alloc)?,
+        id: kept.id.copy()?,
     };
     let row = StoredAnswer {
         request: kept.request,
@@ -113,7 +110,7 @@ pub fn names_held(
     for change in changes {
         if let Some(name) = accounts.get(&change.key) {
             names.push(NameKey {
-                name: name.copy(alloc)?,
+                name: name.copy()?,
                 account: change.key,
             })?;
         }
@@ -135,7 +132,7 @@ pub fn names_given(
         let _ = change.key.get();
         if let Some(name) = &change.row {
             names.push(NameKey {
-                name: name.copy(alloc)?,
+                name: name.copy()?,
                 account: change.key,
             })?;
         }

@@ -48,11 +48,11 @@ impl MemoryTables {
         match want.group() {
             Some(group) => {
                 let members = self.members_of(alloc, group)?;
-                rows.learn_group(group.copy(alloc)?, members)?;
+                rows.learn_group(group.copy()?, members)?;
             }
             None => {
                 let found = self.look_up(alloc, want)?;
-                rows.learn(want.copy(alloc)?, found)?;
+                rows.learn(want.copy()?, found)?;
             }
         }
         Ok(())
@@ -68,7 +68,7 @@ impl MemoryTables {
         match want {
             Want::Requests => Ok(Found::Number(self.requests)),
             Want::Account(number) => match self.accounts.get(number) {
-                Some(name) => Ok(Found::Name(Some(name.copy(alloc)?))),
+                Some(name) => Ok(Found::Name(Some(name.copy()?))),
                 None => Ok(Found::Name(None)),
             },
             Want::AccountNamed(name) => Ok(Found::Holder(self.named(alloc, name)?)),
@@ -76,7 +76,7 @@ impl MemoryTables {
             Want::Member(member) => Ok(Found::IsSo(self.members.get(member).is_some())),
             Want::Group(_) => unreachable!(),
             Want::File(project) => match self.files.get(project) {
-                Some(file) => Ok(Found::Text(Some(file.copy(alloc)?))),
+                Some(file) => Ok(Found::Text(Some(file.copy()?))),
                 None => Ok(Found::Text(None)),
             },
             Want::Project(project) => Ok(Found::IsSo(self.files.get(project).is_some())),
@@ -126,11 +126,11 @@ impl MemoryTables {
         ensures { IfOk result (λ members. HasMembers (row_of (desk_of self.now)) group.now (rows_of members)) }
     {
         let from = MemberKey {
-            group: group.copy(alloc)?,
+            group: group.copy()?,
             account: AccountNo::first(),
         };
         let to = MemberKey {
-            group: group.copy(alloc)?,
+            group: group.copy()?,
             account: AccountNo::last(),
         };
         let mut members = Table::new(alloc);
@@ -146,11 +146,11 @@ impl MemoryTables {
         ensures { IfOk result (λ found. MatchOption found ((n : ℕ) → row_in nat_cmp (rows_of self.now.accounts) n ≡ Some name.now → ⊥) (λ n. row_in nat_cmp (rows_of self.now.accounts) n ≡ Some name.now)) }
     {
         let from = NameKey {
-            name: name.copy(alloc)?,
+            name: name.copy()?,
             account: AccountNo::first(),
         };
         let to = NameKey {
-            name: name.copy(alloc)?,
+            name: name.copy()?,
             account: AccountNo::last(),
         };
         for (key, _) in self.names.select(alloc, from, to)? {

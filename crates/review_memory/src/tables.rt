@@ -78,7 +78,7 @@ impl MemoryTables {
         let key = AnswerKey {
             epoch,
             caller,
-            id: id.copy(alloc)?,
+            id: id.copy()?,
         };
         let Some(stored) = self.answers.get(&key) else {
             return Ok(Recalled::Fresh);
@@ -131,7 +131,7 @@ impl MemoryTables {
         let held = names_held(alloc, &self.accounts, &delta.accounts)?;
         let given = names_given(alloc, &delta.accounts)?;
         let changes = Changes::new(alloc, delta, &self.changes)?;
-        let answer = stored(alloc, kept)?;
+        let answer = stored(kept)?;
         let projects = self.projects_with(&delta.file);
         self.make(alloc, &given, changes, projects, &delta.base, answer)?;
         self.release_removed(delta);
@@ -254,7 +254,7 @@ impl MemoryTables {
         ensures same { OnErr result (desk_of self.new ≡ desk_of self.old) }
     {
         let Put { key, row } = answer;
-        self.answers.reserve(key.copy(alloc)?)?;
+        self.answers.reserve(key.copy()?)?;
         match self.branches.put(alloc, base) {
             Ok(()) => {
                 self.answers.restore(key, row);
@@ -281,15 +281,15 @@ impl MemoryTables {
         ensures room { OnOk result (HasRoom self.new changes.now) }
         ensures spare { HasNoSpareRoom self.old → HasRoomOnlyFor changes.now self.new }
     {
-        self.list_names(alloc, names)?;
-        self.accounts.reserve_all(alloc, &changes.accounts)?;
-        self.members.reserve_all(alloc, &changes.members)?;
-        self.files.reserve_all(alloc, &changes.files)?;
+        self.list_names(names)?;
+        self.accounts.reserve_all(&changes.accounts)?;
+        self.members.reserve_all(&changes.members)?;
+        self.files.reserve_all(&changes.files)?;
         self.changes.reserve(alloc, &changes.edits)?;
         Ok(())
     }
 
-    fn list_names(&mut self, alloc: Global, names: &[NameKey]) -> Result<(), AllocError>
+    fn list_names(&mut self, names: &[NameKey]) -> Result<(), AllocError>
         ensures same { desk_of self.new ≡ desk_of self.old }
         ensures kept { KeepsNames (rows_of self.old.names) (rows_of self.new.names) }
         ensures only { AddsNames (rows_of self.old.names) names.now (rows_of self.new.names) }
@@ -297,7 +297,7 @@ impl MemoryTables {
         ensures filled { HasNoSpareRoom self.old → HasNoSpareRoom self.new }
     {
         for key in names {
-            self.names.put(key.copy(alloc)?, ())?;
+            self.names.put(key.copy()?, ())?;
         }
         Ok(())
     }

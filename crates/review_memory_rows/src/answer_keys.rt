@@ -3,7 +3,7 @@ ghost use Rattle.std.specs.Prelude.{◌≡◌, IfOk};
 
 use review_table::Key;
 use review_words::{AccountNo, Epoch, RequestId};
-use std::alloc::{AllocError, Global};
+use std::alloc::AllocError;
 
 /// The identity of a stored request, by its epoch first.
 #[derive(PartialEq, Eq, PartialOrd, Ord, Drop)]
@@ -14,8 +14,8 @@ pub struct AnswerKey {
 }
 
 impl Key for AnswerKey {
-    fn copy(&self, alloc: Global) -> Result<AnswerKey, AllocError> {
-        let id = self.id.copy(alloc)?;
+    fn copy(&self) -> Result<AnswerKey, AllocError> {
+        let id = self.id.copy()?;
         Ok(AnswerKey {
             epoch: self.epoch,
             caller: self.caller,

@@ -64,8 +64,8 @@ impl Branches {
         ensures gap { IfErr result (IsUnlisted self.now.bases branch.now) }
     {
         let mut key = PlaceKey {
-            project: branch.project.copy(alloc)?,
-            branch: branch.branch.copy(alloc)?,
+            project: branch.project.copy()?,
+            branch: branch.branch.copy()?,
             place: 0,
         };
         if self.bases.get(&key).is_some() {
@@ -77,7 +77,7 @@ impl Branches {
             let Some(commit) = self.bases.get(&key) else {
                 return Err(ChangeFault::Gap);
             };
-            bases.push(commit.copy(alloc)?)?;
+            bases.push(commit.copy()?)?;
         }
         Ok(bases)
     }
@@ -86,10 +86,10 @@ impl Branches {
     pub fn has(&self, alloc: Global, base: &Base) -> Result<bool, AllocError>
         ensures { IfOk result (IsCommitThere self.now.bases base.now) }
     {
-        let from = commit_key(alloc, base, 0)?;
-        let to = commit_key(alloc, base, u64::MAX)?;
+        let from = commit_key(base, 0)?;
+        let to = commit_key(base, u64::MAX)?;
         for (key, _) in self.commits.select(alloc, from, to)? {
-            if self.stands_at(alloc, base, key.place)? {
+            if self.stands_at(base, key.place)? {
                 return Ok(true);
             }
         }
@@ -97,12 +97,12 @@ impl Branches {
     }
 
     // Whether a commit stands at a place of its branch.
-    fn stands_at(&self, alloc: Global, base: &Base, place: u64) -> Result<bool, AllocError>
+    fn stands_at(&self, base: &Base, place: u64) -> Result<bool, AllocError>
         ensures { IfOk result (λ is. IsTrue is ↔ (base_at self.now.bases base.now.project base.now.branch place ≡ Some base.now.commit)) }
     {
         let key = PlaceKey {
-            project: base.project.copy(alloc)?,
-            branch: base.branch.copy(alloc)?,
+            project: base.project.copy()?,
+            branch: base.branch.copy()?,
             place,
         };
         Ok(is_there(&self.bases, &key, &base.commit))
@@ -124,17 +124,16 @@ impl Branches {
         ensures put { OnOk result (IsPut base.now self.old self.new) }
         ensures same { OnErr result (self.new ≡ self.old) }
     {
-        let branch = branch_of(alloc, base)?;
+        let branch = branch_of(base)?;
         let ended = self.last_place(&branch);
-        let before = self.listed_at(alloc, base, ended)?;
+        let before = self.listed_at(base, ended)?;
         let known = before.is_some();
         let last = ended.max(base.key.place);
         let total = self.total(&base.key.project) + u64::from(!known);
-        let placed = placed_base(alloc, base)?;
+        let placed = placed_base(base)?;
         let is_listed = has_commit(&before, &base.row);
         let changes = changes_of(alloc, base, is_listed, branch, last, total)?;
         let begun = begin(
-            alloc,
             &mut self.bases,
             &mut self.commits,
             &mut self.lasts,
@@ -159,7 +158,6 @@ impl Branches {
     // The key in the index of the base that stands at the place of one, where there is one: none behind the last place of its branch.
     fn listed_at(
         &self,
-        alloc: Global,
         base: &Put<PlaceKey, CommitName>,
         last: u64,
     ) -> Result<Option<CommitKey>, AllocError>
@@ -169,9 +167,9 @@ impl Branches {
         if base.key.place > last {
             return Ok(None);
         }
-        let key = base.key.copy(alloc)?;
+        let key = base.key.copy()?;
         let commit = match self.bases.get(&key) {
-            Some(commit) => commit.copy(alloc)?,
+            Some(commit) => commit.copy()?,
             None => return Ok(None),
         };
         Ok(Some(CommitKey {
@@ -240,7 +238,7 @@ fn changes_of(
     ensures { IfOk result (PutsBase base.now is_listed branch last total) }
 {
     let ended = ended_change(alloc, branch, last)?;
-    let listed = listed_of(alloc, base)?;
+    let listed = listed_of(base)?;
     let counted = counted_change(alloc, &base.key.project, total)?;
     Ok(BaseChanges {
         listed,
@@ -251,15 +249,12 @@ fn changes_of(
 }
 
 // A base once more, to be put.
-fn placed_base(
-    alloc: Global,
-    base: &Put<PlaceKey, CommitName>,
-) -> Result<Put<PlaceKey, CommitName>, AllocError>
+fn placed_base(base: &Put<PlaceKey, CommitName>) -> Result<Put<PlaceKey, CommitName>, AllocError>
     ensures { IfOk result (λ copy. copy ≡ base.now) }
 {
     Ok(Put {
-        key: base.key.copy(alloc)?,
-        row: base.row.copy(alloc)?,
+        key: base.key.copy()?,
+        row: base.row.copy()?,
     })
 }
 
@@ -287,7 +282,7 @@ fn counted_change(
 ) -> Result<Vec<RowEdit<ProjectName, u64>>, AllocError>
     ensures { IfOk result (λ changes. changes.items ≡ record { key = project.now; row = Some total } ∷ []) }
 {
-    let key = project.copy(alloc)?;
+    let key = project.copy()?;
     Ok(vec![in alloc;
         RowEdit {
             key,
@@ -298,7 +293,6 @@ fn counted_change(
 
 // Makes room for changes, and puts a base at its place and into the index. Where there is no memory for it no row changes.
 fn begin(
-    alloc: Global,
     bases: &mut Table<PlaceKey, CommitName>,
     commits: &mut Table<CommitKey, ()>,
     lasts: &mut Table<BranchKey, u64>,
@@ -317,13 +311,12 @@ fn begin(
     ensures counted { OnOk result (HavePlaces (slice_cmp nat_cmp) totals.new changes.now.counted.items) }
     ensures spare { HasNoSpare bases.old commits.old lasts.old totals.old → HasSpareOnly changes.now bases.new commits.new lasts.new totals.new }
 {
-    reserve(alloc, lasts, totals, changes)?;
-    place(alloc, bases, commits, changes, base)
+    reserve(lasts, totals, changes)?;
+    place(bases, commits, changes, base)
 }
 
 // Puts a base at its place and into the index, by one walk over each. Where there is no memory for it no row changes.
 fn place(
-    alloc: Global,
     bases: &mut Table<PlaceKey, CommitName>,
     commits: &mut Table<CommitKey, ()>,
     changes: &BaseChanges,
@@ -337,7 +330,7 @@ fn place(
     ensures bases_full { HasNoEmptyPlace place_cmp bases.old → HasNoEmptyPlace place_cmp bases.new }
     ensures commits_full { HasNoEmptyPlace commit_cmp commits.old → HasNoEmptyPlace commit_cmp commits.new }
 {
-    commits.put(changes.listed.copy(alloc)?, ())?;
+    commits.put(changes.listed.copy()?, ())?;
     let Put { key, row } = base;
     match bases.put(key, row) {
         Ok(()) => Ok(()),
@@ -360,7 +353,6 @@ fn unlist(commits: &mut Table<CommitKey, ()>, changes: &BaseChanges)
 
 // Makes room for changes of the other tables, which changes no row.
 fn reserve(
-    alloc: Global,
     lasts: &mut Table<BranchKey, u64>,
     totals: &mut Table<ProjectName, u64>,
     changes: &BaseChanges,
@@ -371,8 +363,8 @@ fn reserve(
     ensures counted { OnOk result (HavePlaces (slice_cmp nat_cmp) totals.new changes.now.counted.items) }
     ensures spare { (bases : List (PlaceKey × Option (List ℕ))) (commits : List (CommitKey × Option (Unit {0}))) → HasNoSpare bases commits lasts.old totals.old → HasSpareOnly changes.now bases commits lasts.new totals.new }
 {
-    lasts.reserve_all(alloc, &changes.ended)?;
-    totals.reserve_all(alloc, &changes.counted)?;
+    lasts.reserve_all(&changes.ended)?;
+    totals.reserve_all(&changes.counted)?;
     Ok(())
 }
 
@@ -390,33 +382,33 @@ fn release(
     totals.release(&changes.counted);
 }
 
-fn branch_of(alloc: Global, base: &Put<PlaceKey, CommitName>) -> Result<BranchKey, AllocError>
+fn branch_of(base: &Put<PlaceKey, CommitName>) -> Result<BranchKey, AllocError>
     ensures { IfOk result (λ k. k ≡ record { project = base.now.key.project; branch = base.now.key.branch }) }
 {
     Ok(BranchKey {
-        project: base.key.project.copy(alloc)?,
-        branch: base.key.branch.copy(alloc)?,
+        project: base.key.project.copy()?,
+        branch: base.key.branch.copy()?,
     })
 }
 
-fn listed_of(alloc: Global, base: &Put<PlaceKey, CommitName>) -> Result<CommitKey, AllocError>
+fn listed_of(base: &Put<PlaceKey, CommitName>) -> Result<CommitKey, AllocError>
     ensures { IfOk result (λ k. k ≡ commit_at base.now.key base.now.row) }
 {
     Ok(CommitKey {
-        project: base.key.project.copy(alloc)?,
-        branch: base.key.branch.copy(alloc)?,
-        commit: base.row.copy(alloc)?,
+        project: base.key.project.copy()?,
+        branch: base.key.branch.copy()?,
+        commit: base.row.copy()?,
         place: base.key.place,
     })
 }
 
-fn commit_key(alloc: Global, base: &Base, place: u64) -> Result<CommitKey, AllocError>
+fn commit_key(base: &Base, place: u64) -> Result<CommitKey, AllocError>
     ensures { IfOk result (λ k. k ≡ record { project = base.now.project; branch = base.now.branch; commit = base.now.commit; place = place }) }
 {
     Ok(CommitKey {
-        project: base.project.copy(alloc)?,
-        branch: base.branch.copy(alloc)?,
-        commit: base.commit.copy(alloc)?,
+        project: base.project.copy()?,
+        branch: base.branch.copy()?,
+        commit: base.commit.copy()?,
         place,
     })
 }

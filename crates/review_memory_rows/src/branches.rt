@@ -19,8 +19,8 @@ impl KeptChanges {
     pub fn last_joined(&self, alloc: Global, branch: &BranchKey) -> Result<u32, AllocError>
         ensures { IfOk result (IsLastJoined (row_of (rows_of self.now.kept)) branch.now) }
     {
-        let from = least_place(alloc, branch)?;
-        let to = greatest_place(alloc, branch)?;
+        let from = least_place(branch)?;
+        let to = greatest_place(branch)?;
         let Some(key) = self.placed.last_between(from, to) else {
             return Ok(0);
         };
@@ -35,8 +35,8 @@ impl KeptChanges {
     fn last_of_all(&self, alloc: Global, branch: &BranchKey) -> Result<u32, AllocError>
         ensures { IfOk result (IsLastJoined (row_of (rows_of self.now.kept)) branch.now) }
     {
-        let from = least_place(alloc, branch)?;
-        let to = greatest_place(alloc, branch)?;
+        let from = least_place(branch)?;
+        let to = greatest_place(branch)?;
         let mut last = 0;
         for (key, _) in self.placed.select(alloc, from, to)? {
             last = self.later_place(branch, key, last);
@@ -72,12 +72,12 @@ impl KeptChanges {
     ) -> Result<Listed<JoinedChange>, AllocError>
         ensures { IfOk result (HaveJoined (row_of (rows_of self.now.kept)) branch.now) }
     {
-        let from = least_place(alloc, branch)?;
-        let to = greatest_place(alloc, branch)?;
+        let from = least_place(branch)?;
+        let to = greatest_place(branch)?;
         let mut joined = Vec::new(alloc);
         self.placed.once();
         for (key, _) in self.placed.select(alloc, from, to)? {
-            self.add_joined(alloc, branch, key, &mut joined)?;
+            self.add_joined(branch, key, &mut joined)?;
         }
         Ok(Listed::from_vec(joined))
     }
@@ -85,14 +85,13 @@ impl KeptChanges {
     // Adds the change of a key, where it is for the branch, at the key's place in it.
     fn add_joined(
         &self,
-        alloc: Global,
         branch: &BranchKey,
         key: &PlaceKey,
         joined: &mut Vec<JoinedChange>,
     ) -> Result<(), AllocError>
         ensures { OnOk result (AddsJoined (row_of (rows_of self.now.kept)) branch.now key.now joined.old.items joined.new.items) }
     {
-        let found = self.joined_at(alloc, branch, key)?;
+        let found = self.joined_at(branch, key)?;
         match found {
             Some(change) => {
                 joined.push(change)?;
@@ -105,7 +104,6 @@ impl KeptChanges {
     // The change of a key with its current commit, where it is for the branch, at the key's place in it.
     fn joined_at(
         &self,
-        alloc: Global,
         branch: &BranchKey,
         key: &PlaceKey,
     ) -> Result<Option<JoinedChange>, AllocError>
@@ -122,7 +120,7 @@ impl KeptChanges {
         };
         Ok(Some(JoinedChange {
             change: key.change,
-            commit: patch.commit.copy(alloc)?,
+            commit: patch.commit.copy()?,
         }))
     }
 }

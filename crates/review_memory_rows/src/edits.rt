@@ -20,7 +20,7 @@ pub fn edited(
     ensures { IfOk result (AreEdited (part_in old.now) edit.now) }
 {
     let marks = edited_marks(alloc, old, edit)?;
-    let header = copied_header(alloc, &edit.header)?;
+    let header = copied_header(&edit.header)?;
     let patches = changed_table(alloc, &old.patches, &edit.patches)?;
     let comments = changed_table(alloc, &old.comments, &edit.comments)?;
     Ok(ChangeTables {
@@ -66,7 +66,7 @@ fn bare_tables(alloc: Global, edit: &ChangeEdit) -> Result<ChangeTables, AllocEr
     ensures comments { IfOk result (λ t. rows_of t.comments ≡ []) }
     ensures attention { IfOk result (λ t. rows_of t.attention ≡ []) }
 {
-    let header = copied_header(alloc, &edit.header)?;
+    let header = copied_header(&edit.header)?;
     Ok(ChangeTables {
         header,
         patches: Table::new(alloc),
@@ -146,7 +146,7 @@ fn copied_one<K: Key, V: Copied>(
         None => None,
     };
     Ok(RowEdit {
-        key: change.key.copy(alloc)?,
+        key: change.key.copy()?,
         row,
     })
 }

@@ -26,9 +26,9 @@ pub struct SentKey {
 }
 
 impl Key for SentKey {
-    fn copy(&self, alloc: Global) -> Result<SentKey, AllocError> {
+    fn copy(&self) -> Result<SentKey, AllocError> {
         Ok(SentKey {
-            commit: self.commit.copy(alloc)?,
+            commit: self.commit.copy()?,
             change: self.change,
             patch: self.patch,
         })
@@ -138,8 +138,8 @@ impl KeptChanges {
     ) -> Result<Option<(ChangeNo, PatchNo)>, AllocError>
         ensures { IfOk result (IsFoundSent merged (rows_of self.now.kept) base.now) }
     {
-        let from = least_key(alloc, base)?;
-        let to = greatest_key(alloc, base)?;
+        let from = least_key(base)?;
+        let to = greatest_key(base)?;
         for (key, _) in self.sent.select(alloc, from, to)? {
             if self.has_sent(base, merged, key) {
                 return Ok(Some((key.change, key.patch)));
@@ -176,13 +176,7 @@ impl KeptChanges {
         ensures spare { OnOk result (IsFull self.old → IsFullBut prepared.now self.new) }
         ensures full { OnErr result (IsFull self.old → IsFull self.new) }
     {
-        let reserved = reserve(
-            alloc,
-            &mut self.kept,
-            &mut self.sent,
-            &mut self.placed,
-            prepared,
-        );
+        let reserved = reserve(&mut self.kept, &mut self.sent, &mut self.placed, prepared);
         match reserved {
             Ok(()) => Ok(()),
             Err(error) => {
@@ -226,7 +220,6 @@ fn copied_rows(alloc: Global, tables: &ChangeTables) -> Result<Box<ChangeRows>, 
 
 // Makes room for changes, which changes no row.
 fn reserve(
-    alloc: Global,
     kept: &mut Table<ChangeNo, ChangeTables>,
     sent: &mut Table<SentKey, ()>,
     placed: &mut Table<PlaceKey, ()>,
@@ -238,9 +231,9 @@ fn reserve(
     ensures room { OnOk result (HasRoomFor prepared.now (record { kept = kept.new; sent = sent.new; placed = placed.new })) }
     ensures spare { IsFull (record { kept = kept.old; sent = sent.old; placed = placed.old }) → IsFullBut prepared.now (record { kept = kept.new; sent = sent.new; placed = placed.new }) }
 {
-    kept.reserve_all(alloc, &prepared.tables)?;
-    sent.reserve_all(alloc, &prepared.keys)?;
-    placed.reserve_all(alloc, &prepared.places)?;
+    kept.reserve_all(&prepared.tables)?;
+    sent.reserve_all(&prepared.keys)?;
+    placed.reserve_all(&prepared.places)?;
     Ok(())
 }
 
@@ -283,27 +276,22 @@ fn sent_by(alloc: Global, edits: &[ChangeEdit]) -> Result<Vec<RowEdit<SentKey, (
 {
     let mut sent = Vec::new(alloc);
     for edit in edits {
-        add_sent(alloc, &mut sent, edit)?;
+        add_sent(&mut sent, edit)?;
     }
     Ok(sent)
 }
 
-fn add_sent(
-    alloc: Global,
-    sent: &mut Vec<RowEdit<SentKey, ()>>,
-    edit: &ChangeEdit,
-) -> Result<(), AllocError>
+fn add_sent(sent: &mut Vec<RowEdit<SentKey, ()>>, edit: &ChangeEdit) -> Result<(), AllocError>
     ensures items { OnOk result (sent.new.items ≡ sent.old.items ++ sent_in edit.now.change edit.now.patches.items) }
     ensures numbered { OnOk result (AreNumbered sent.old.items → AreNumbered sent.new.items) }
 {
     for patch in &edit.patches {
-        add_key(alloc, sent, edit.change, patch)?;
+        add_key(sent, edit.change, patch)?;
     }
     Ok(())
 }
 
 fn add_key(
-    alloc: Global,
     sent: &mut Vec<RowEdit<SentKey, ()>>,
     change: ChangeNo,
     patch: &RowEdit<PatchNo, PatchRow>,
@@ -318,7 +306,7 @@ fn add_key(
         return Ok(());
     };
     let key = SentKey {
-        commit: row.commit.copy(alloc)?,
+        commit: row.commit.copy()?,
         change,
         patch: patch.key,
     };
@@ -369,7 +357,7 @@ fn is_last(tables: &ChangeTables, patch: PatchNo) -> bool
 }
 
 #[tactic(auto, unfolding(review_names::specs::Forms::is_within))]
-fn least_key(alloc: Global, base: &Base) -> Result<SentKey, AllocError>
+fn least_key(base: &Base) -> Result<SentKey, AllocError>
     ensures { IfOk result (λ k. k ≡ record { commit = base.now.commit; change = 1; patch = 1 }) }
 {
     let Some(change) = ChangeNo::from_number(1) else {
@@ -379,14 +367,14 @@ fn least_key(alloc: Global, base: &Base) -> Result<SentKey, AllocError>
         unreachable!()
     };
     Ok(SentKey {
-        commit: base.commit.copy(alloc)?,
+        commit: base.commit.copy()?,
         change,
         patch,
     })
 }
 
 #[tactic(auto, unfolding(review_names::specs::Forms::is_within))]
-fn greatest_key(alloc: Global, base: &Base) -> Result<SentKey, AllocError>
+fn greatest_key(base: &Base) -> Result<SentKey, AllocError>
     ensures { IfOk result (λ k. k ≡ record { commit = base.now.commit; change = 1000000000; patch = 1000 }) }
 {
     let Some(change) = ChangeNo::from_number(1_000_000_000) else {
@@ -396,7 +384,7 @@ fn greatest_key(alloc: Global, base: &Base) -> Result<SentKey, AllocError>
         unreachable!()
     };
     Ok(SentKey {
-        commit: base.commit.copy(alloc)?,
+        commit: base.commit.copy()?,
         change,
         patch,
     })

@@ -3,7 +3,7 @@ ghost use Rattle.std.specs.Prelude.{◌≡◌, IfOk};
 
 use review_table::Key;
 use review_words::{BranchName, CommitName, ProjectName};
-use std::alloc::{AllocError, Global};
+use std::alloc::AllocError;
 
 /// That a commit may stand at a place of a branch. Keys are compared by what tells them apart soonest.
 #[derive(PartialEq, Eq, PartialOrd, Ord, Drop)]
@@ -15,10 +15,10 @@ pub struct CommitKey {
 }
 
 impl Key for CommitKey {
-    fn copy(&self, alloc: Global) -> Result<CommitKey, AllocError> {
-        let commit = self.commit.copy(alloc)?;
-        let project = self.project.copy(alloc)?;
-        let branch = self.branch.copy(alloc)?;
+    fn copy(&self) -> Result<CommitKey, AllocError> {
+        let commit = self.commit.copy()?;
+        let project = self.project.copy()?;
+        let branch = self.branch.copy()?;
         Ok(CommitKey {
             commit,
             project,

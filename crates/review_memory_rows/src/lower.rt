@@ -25,42 +25,36 @@ pub fn lower_keys(
     let mut keys = Vec::new(alloc);
     if let Some(least) = epoch {
         let rows = answers.rows(alloc)?;
-        push_lower(alloc, &mut keys, &rows, least.get())?;
-        let own = key_of(alloc, kept)?;
-        add_lower(alloc, &mut keys, &own, least.get())?;
+        push_lower(&mut keys, &rows, least.get())?;
+        let own = key_of(kept)?;
+        add_lower(&mut keys, &own, least.get())?;
     }
     Ok(keys)
 }
 
 /// The key of a request that is to be stored. An error where there was no memory for it.
-pub fn key_of(alloc: Global, kept: &Kept) -> Result<AnswerKey, AllocError>
+pub fn key_of(kept: &Kept) -> Result<AnswerKey, AllocError>
     ensures { IfOk result (λ key. key ≡ key_of (kept_row kept.now).identity) }
 {
     Ok(AnswerKey {
         epoch: kept.epoch,
         caller: kept.caller,
-        id: kept.id.copy(alloc)?,
+        id: kept.id.copy()?,
     })
 }
 
 // Adds a key, where its epoch is below the least.
-fn add_lower(
-    alloc: Global,
-    keys: &mut Vec<AnswerKey>,
-    key: &AnswerKey,
-    least: u32,
-) -> Result<(), AllocError>
+fn add_lower(keys: &mut Vec<AnswerKey>, key: &AnswerKey, least: u32) -> Result<(), AllocError>
     ensures { OnOk result (keys.new.items ≡ keys.old.items ++ if_lower least key.now) }
 {
     if key.epoch.get() < least {
-        keys.push(key.copy(alloc)?)?;
+        keys.push(key.copy()?)?;
     }
     Ok(())
 }
 
 // Adds the keys of rows whose epochs are below the least.
 fn push_lower(
-    alloc: Global,
     keys: &mut Vec<AnswerKey>,
     rows: &[(&AnswerKey, &StoredAnswer)],
     least: u32,
@@ -68,7 +62,7 @@ fn push_lower(
     ensures { OnOk result (keys.new.items ≡ keys.old.items ++ lower least (map deref_pair rows.now)) }
 {
     for row in rows {
-        add_lower(alloc, keys, row.0, least)?;
+        add_lower(keys, row.0, least)?;
     }
     Ok(())
 }

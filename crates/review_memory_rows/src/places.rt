@@ -18,8 +18,8 @@ pub struct PlaceKey {
 }
 
 impl Key for PlaceKey {
-    fn copy(&self, alloc: Global) -> Result<PlaceKey, AllocError> {
-        let branch = self.branch.copy(alloc)?;
+    fn copy(&self) -> Result<PlaceKey, AllocError> {
+        let branch = self.branch.copy()?;
         Ok(PlaceKey {
             branch,
             place: self.place,
@@ -38,16 +38,12 @@ pub fn placed_by(
 {
     let mut placed = Vec::new(alloc);
     for edit in edits {
-        add_place(alloc, &mut placed, edit)?;
+        add_place(&mut placed, edit)?;
     }
     Ok(placed)
 }
 
-fn add_place(
-    alloc: Global,
-    placed: &mut Vec<RowEdit<PlaceKey, ()>>,
-    edit: &ChangeEdit,
-) -> Result<(), AllocError>
+fn add_place(placed: &mut Vec<RowEdit<PlaceKey, ()>>, edit: &ChangeEdit) -> Result<(), AllocError>
     ensures items { OnOk result (placed.new.items ≡ placed.old.items ++ placed_in edit.now) }
     ensures fit { OnOk result (ArePlaceKeys placed.old.items → ArePlaceKeys placed.new.items) }
 {
@@ -58,8 +54,8 @@ fn add_place(
         return Ok(());
     }
     let branch = BranchKey {
-        project: edit.header.project.copy(alloc)?,
-        branch: edit.header.branch.copy(alloc)?,
+        project: edit.header.project.copy()?,
+        branch: edit.header.branch.copy()?,
     };
     let key = PlaceKey {
         branch,
@@ -81,14 +77,14 @@ pub fn is_placed(tables: &ChangeTables, branch: &BranchKey, place: u32) -> bool
 
 /// The key before which none of a branch stands. An error is want of memory.
 #[tactic(auto, unfolding(review_names::specs::Forms::is_within))]
-pub fn least_place(alloc: Global, branch: &BranchKey) -> Result<PlaceKey, AllocError>
+pub fn least_place(branch: &BranchKey) -> Result<PlaceKey, AllocError>
     ensures { IfOk result (λ k. k ≡ record { branch = branch.now; place = 1; change = 1 }) }
 {
     let Some(change) = ChangeNo::from_number(1) else {
         unreachable!()
     };
     Ok(PlaceKey {
-        branch: branch.copy(alloc)?,
+        branch: branch.copy()?,
         place: 1,
         change,
     })
@@ -96,14 +92,14 @@ pub fn least_place(alloc: Global, branch: &BranchKey) -> Result<PlaceKey, AllocE
 
 /// The key behind which none of a branch stands. An error is want of memory.
 #[tactic(auto, unfolding(review_names::specs::Forms::is_within))]
-pub fn greatest_place(alloc: Global, branch: &BranchKey) -> Result<PlaceKey, AllocError>
+pub fn greatest_place(branch: &BranchKey) -> Result<PlaceKey, AllocError>
     ensures { IfOk result (λ k. k ≡ record { branch = branch.now; place = 4294967295; change = 1000000000 }) }
 {
     let Some(change) = ChangeNo::from_number(1_000_000_000) else {
         unreachable!()
     };
     Ok(PlaceKey {
-        branch: branch.copy(alloc)?,
+        branch: branch.copy()?,
         place: u32::MAX,
         change,
     })

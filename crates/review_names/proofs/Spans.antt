@@ -4,7 +4,7 @@ use Rattle.std.proofs.lemmas.Bool.Decides.{nat_tests}
 use Rattle.std.specs.Prelude.{ok_or, nat_le, nat_lt, ◌&&◌}
 use Rattle.review_names.proofs.Numerals.{number_back, number_shown}
 use Rattle.review_names.specs.{Forms.is_within, Numerals.number_of, Numerals.numeral}
-use Rattle.review_names.specs.declared.names.BadName.{BadName, TheVariants.Form}
+use Rattle.review_names.specs.declared.names.Bad.{Bad, TheVariants.Form}
 
 pub most_fits : (most : ℕ) → IsTrue (nat_le 1 most && nat_lt most 4294967296) → (1 ≤ most) × (most < 4294967296)
 most_fits most h = (grind (arith, nat_tests, h), grind (arith, nat_tests, h))
@@ -45,9 +45,9 @@ module _ (most : ℕ) (test : ℕ → Bool) (spans : (n : ℕ) → test n ≡ is
     other n passed some = let same : n ≡ k = cc in let wrong : true ≡ false = sym passed ∙ ap test same ∙ is in absurd (cc)
 
   -- what a text tells whose number is k
-  pub told : (k : ℕ) (text : List ℕ) (r : Result ℕ BadName) → number_of text ≡ Some k → r ≡ ok_or (cond (test k) (Some k) None) Form → IfOk r (λ n. (numeral n ≡ text) × (test n ≡ true))
+  pub told : (k : ℕ) (text : List ℕ) (r : Result ℕ Bad) → number_of text ≡ Some k → r ≡ ok_or (cond (test k) (Some k) None) Form → IfOk r (λ n. (numeral n ≡ text) × (test n ≡ true))
   told k text r read e = subst (λ x. IfOk x (λ n. (numeral n ≡ text) × (test n ≡ true))) (sym e) (told_by k text read (test k) refl)
 
-  pub refused : most < 4294967296 → (k : ℕ) (text : List ℕ) (r : Result ℕ BadName) → number_of text ≡ Some k → r ≡ ok_or (cond (test k) (Some k) None) Form
+  pub refused : most < 4294967296 → (k : ℕ) (text : List ℕ) (r : Result ℕ Bad) → number_of text ≡ Some k → r ≡ ok_or (cond (test k) (Some k) None) Form
       → IfErr r (λ e. (e ≡ Form) × ((n : ℕ) → test n ≡ true → numeral n ≡ text → ⊥))
   refused small k text r read e = subst (λ x. IfErr x (λ e. (e ≡ Form) × ((n : ℕ) → test n ≡ true → numeral n ≡ text → ⊥))) (sym e) (refused_by small k text read (test k) refl)

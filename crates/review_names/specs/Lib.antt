@@ -4,3 +4,4 @@ pub mod Groups
 pub mod Numerals
 pub mod Kinds
 pub mod Laws
+pub mod Bad

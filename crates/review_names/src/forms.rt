@@ -6,7 +6,7 @@ ghost use Rattle.std.specs.Rc.{rc_str_bytes};
 ghost use Rattle.std.specs.Cmp as Cmp;
 
 use crate::Key;
-use crate::names::BadName;
+use crate::names::Bad;
 use std::alloc::{AllocError, Global};
 use std::cmp::Ordering;
 use std::marker::{Model, PhantomData};
@@ -41,12 +41,12 @@ impl<F: Form> Model for Name<F> {
 impl<F: Form> Name<F> {
     /// The name whose bytes a text has. Form exactly where the text isn't of the form; Memory
     /// where there was no memory for the copy that the name keeps.
-    pub fn read(alloc: Global, text: &str) -> Result<Name<F>, BadName>
+    pub fn read(alloc: Global, text: &str) -> Result<Name<F>, Bad>
         ensures ok { IfOk result (λ n. (n ≡ text.now) × (F.is_form text.now ≡ true)) }
-        ensures form { result ≡ Err BadName.Form → F.is_form text.now ≡ false }
+        ensures form { result ≡ Err Bad.Form → F.is_form text.now ≡ false }
     {
         if !F::is_met(text) {
-            return Err(BadName::Form);
+            return Err(Bad::Form);
         }
         Ok(Name::of_form(alloc, text)?)
     }
@@ -73,7 +73,7 @@ impl<F: Form> Name<F> {
 
     /// A copy of the name, which shares its text and takes no memory. An error where there are
     /// as many copies as can be counted.
-    pub fn copy(&self, _alloc: Global) -> Result<Name<F>, AllocError>
+    pub fn copy(&self) -> Result<Name<F>, AllocError>
         ensures { IfOk result (λ n. n ≡ self.now) }
     {
         let text = self.text.clone()?;
@@ -123,7 +123,7 @@ impl<F: Form> Ord for Name<F> {
 }
 
 impl<F: Form + Drop> Key for Name<F> {
-    fn copy(&self, alloc: Global) -> Result<Name<F>, AllocError> {
-        Name::copy(self, alloc)
+    fn copy(&self) -> Result<Name<F>, AllocError> {
+        Name::copy(self)
     }
 }

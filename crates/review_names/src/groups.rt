@@ -3,7 +3,7 @@ ghost use Rattle.std.specs.{Cmp.Lexicographic.slice_cmp, List.Sorted.IsStrictlyS
 ghost use Rattle.std.specs.Prelude.{◌≡◌, ◌≤◌, ◌<◌, Err, IfOk, length};
 ghost use Rattle.review_names.specs.{Forms.text_set, Forms.most_paths, Groups.has_account};
 
-use crate::names::{AccountNo, BadName, GroupName, Members};
+use crate::names::{AccountNo, Bad, GroupName, Members};
 use crate::places::Path;
 use std::alloc::{AllocError, Global};
 use std::collections::{BTreeMap, BTreeSet};
@@ -56,9 +56,9 @@ impl Model for Paths {
 }
 
 /// The set of the paths in a list.
-fn collected(alloc: Global, paths: Vec<Path>) -> Result<BTreeSet<Path>, BadName>
+fn collected(alloc: Global, paths: Vec<Path>) -> Result<BTreeSet<Path>, Bad>
     ensures ok { IfOk result (λ s. s.keys ≡ text_set paths.items) }
-    ensures form { result ≡ Err BadName.Form → ⊥ }
+    ensures form { result ≡ Err Bad.Form → ⊥ }
 {
     let mut set = BTreeSet::new(alloc);
     let mut rest = paths;
@@ -72,13 +72,13 @@ impl Paths {
     /// The set of the paths in a list of any length, whatever their order and with doubles counted
     /// once. Form exactly where the set has more than 500 members; Memory where there was no
     /// memory to sort them.
-    pub fn from_vec(alloc: Global, paths: Vec<Path>) -> Result<Paths, BadName>
+    pub fn from_vec(alloc: Global, paths: Vec<Path>) -> Result<Paths, Bad>
         ensures ok { IfOk result (λ p. (p ≡ text_set paths.items) × (length p ≤ most_paths)) }
-        ensures form { result ≡ Err BadName.Form → most_paths < length (text_set paths.items) }
+        ensures form { result ≡ Err Bad.Form → most_paths < length (text_set paths.items) }
     {
         let set = collected(alloc, paths)?;
         if set.len() > 500 {
-            return Err(BadName::Form);
+            return Err(Bad::Form);
         }
         let mut sorted = Vec::new(alloc);
         for path in set {
@@ -93,7 +93,7 @@ impl Paths {
     {
         let mut paths = Vec::new(alloc);
         for path in self.as_slice() {
-            paths.push(path.copy(alloc)?)?;
+            paths.push(path.copy()?)?;
         }
         Ok(Paths { paths })
     }

@@ -30,7 +30,7 @@ pub use kinds::ChangeKind;
 pub use laws::{label_form, number_tells};
 pub use messages::{Message, Reason, Subject};
 pub use names::{
-    AccountName, AccountNo, BadName, GroupName, Members, RequestId, admin_name, administrators,
+    AccountName, AccountNo, Bad, GroupName, Members, RequestId, admin_name, administrators,
     read_account,
 };
 pub use numbers::{Number, NumberKind, read_number};

@@ -14,34 +14,34 @@ use std::cmp::Ordering;
 use std::collections::BTreeSet;
 use std::marker::{Model, PhantomData};
 
-/// Why a name, a number or a set was not made.
+/// Why a name, a number, a set, a stored reply, a line or a body was not read.
 #[derive(Clone, Copy, PartialEq, Eq)]
-pub enum BadName {
+pub enum Bad {
     /// What was given isn't of the form. It will not be, however often it is tried.
     Form,
     /// There was no memory for it. It may be tried again.
     Memory,
 }
 
-impl From<AllocError> for BadName {
+impl From<AllocError> for Bad {
     ghost use Rattle.std.specs.Prelude.{◌≡◌};
-    ghost use Rattle.review_names.specs.declared.names.BadName.TheVariants.{Memory};
+    ghost use Rattle.review_names.specs.declared.names.Bad.TheVariants.{Memory};
 
     ghost from_gives = { λ _ e. e ≡ Memory };
 
-    fn from(_error: AllocError) -> BadName {
-        BadName::Memory
+    fn from(_error: AllocError) -> Bad {
+        Bad::Memory
     }
 }
 
-impl<T: Drop> From<AllocFailed<T>> for BadName {
+impl<T: Drop> From<AllocFailed<T>> for Bad {
     ghost use Rattle.std.specs.Prelude.{◌≡◌};
-    ghost use Rattle.review_names.specs.declared.names.BadName.TheVariants.{Memory};
+    ghost use Rattle.review_names.specs.declared.names.Bad.TheVariants.{Memory};
 
     ghost from_gives = { λ _ e. e ≡ Memory };
 
-    fn from(_error: AllocFailed<T>) -> BadName {
-        BadName::Memory
+    fn from(_error: AllocFailed<T>) -> Bad {
+        Bad::Memory
     }
 }
 
@@ -171,9 +171,9 @@ impl Model for Members {
 }
 
 /// The set of the accounts in a list.
-fn collected(alloc: Global, accounts: Vec<AccountNo>) -> Result<BTreeSet<AccountNo>, BadName>
+fn collected(alloc: Global, accounts: Vec<AccountNo>) -> Result<BTreeSet<AccountNo>, Bad>
     ensures ok { IfOk result (λ s. s.keys ≡ set_of accounts.items) }
-    ensures form { result ≡ Err BadName.Form → ⊥ }
+    ensures form { result ≡ Err Bad.Form → ⊥ }
 {
     let mut set = BTreeSet::new(alloc);
     let mut rest = accounts;
@@ -187,13 +187,13 @@ impl Members {
     /// The set of the accounts in a list of any length, whatever their order and with doubles
     /// counted once. Form exactly where the set has more than 1,024 members; Memory where there
     /// was no memory to sort them.
-    pub fn from_vec(alloc: Global, accounts: Vec<AccountNo>) -> Result<Members, BadName>
+    pub fn from_vec(alloc: Global, accounts: Vec<AccountNo>) -> Result<Members, Bad>
         ensures ok { IfOk result (λ m. (m ≡ set_of accounts.items) × (length m ≤ most_members)) }
-        ensures form { result ≡ Err BadName.Form → most_members < length (set_of accounts.items) }
+        ensures form { result ≡ Err Bad.Form → most_members < length (set_of accounts.items) }
     {
         let set = collected(alloc, accounts)?;
         if set.len() > 1024 {
-            return Err(BadName::Form);
+            return Err(Bad::Form);
         }
         let mut sorted = Vec::new(alloc);
         for account in set {

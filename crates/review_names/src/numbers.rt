@@ -2,7 +2,7 @@
 ghost use Rattle.std.specs.Prelude.{◌≡◌, ◌+◌, ◌≤◌, ◌<◌, ◌&&◌, ◌^◌, ℕ, Bool, Some, None, true, IfOk, IfErr, IfSome, IsTrue, nat_le, nat_lt, if◌then◌else◌};
 ghost use Rattle.review_names.specs.{Forms.is_within, Numerals.number_of, Numerals.numeral};
 
-use crate::names::BadName;
+use crate::names::Bad;
 use std::marker::{Model, PhantomData};
 
 /// A kind of numbers: those from 1 to a greatest one.
@@ -60,14 +60,14 @@ impl<K: NumberKind> Number<K> {
 
     /// The one whose number a text is, in decimal without leading zeros. Any other text is
     /// answered by Form. This takes no memory, so Memory is never answered.
-    pub fn read(text: &str) -> Result<Number<K>, BadName>
+    pub fn read(text: &str) -> Result<Number<K>, Bad>
         ensures ok { IfOk result (λ n. (numeral n ≡ text.now) × (K.is_met n ≡ true)) }
-        ensures form { IfErr result (λ e. (e ≡ BadName.Form) × ((n : ℕ) → K.is_met n ≡ true → numeral n ≡ text.now → ⊥)) }
+        ensures form { IfErr result (λ e. (e ≡ Bad.Form) × ((n : ℕ) → K.is_met n ≡ true → numeral n ≡ text.now → ⊥)) }
     {
         let Some(number) = read_number(text.as_bytes()) else {
-            return Err(BadName::Form);
+            return Err(Bad::Form);
         };
-        Number::from_number(number).ok_or(BadName::Form)
+        Number::from_number(number).ok_or(Bad::Form)
     }
 
     /// The one after that of a number, or none where that is the last.

@@ -60,7 +60,7 @@ fn see<S: Alter>(
         Want::Project(project) => find_told::<ProjectNames, S>(tx, alloc, project),
         Want::Room(Counted::Projects) => branches::find_room_for_projects(tx, counts),
         Want::Room(Counted::BasesOf(project)) => {
-            branches::find_room_for_bases(tx, alloc, project, counts)
+            branches::find_room_for_bases(tx, project, counts)
         }
         Want::Base(base) => bases::find_base(tx, alloc, base),
         Want::LastPlace(branch) => find_greatest_told::<LastPlace, S>(tx, alloc, branch),
@@ -85,50 +85,44 @@ fn learnt(learning: Result<(), AllocError>) -> Ended
 }
 
 // Rows learn what was found, but for that of a group.
-fn put_found(alloc: Global, want: &Want, found: Found, rows: &mut Rows) -> Result<(), AllocError>
+fn put_found(want: &Want, found: Found, rows: &mut Rows) -> Result<(), AllocError>
     requires plain { group_of want.now ≡ None }
     ensures { OnOk result (Learns want.now (meaning found) rows.old rows.new) }
 {
-    rows.learn(want.copy(alloc)?, found)
+    rows.learn(want.copy()?, found)
 }
 
 // Rows learn the members of a group.
 fn put_members(
-    alloc: Global,
     group: &GroupName,
     members: Table<AccountNo, ()>,
     rows: &mut Rows,
 ) -> Result<(), AllocError>
     ensures { OnOk result (Learns (want.Group group.now) (held members) rows.old rows.new) }
 {
-    rows.learn_group(group.copy(alloc)?, members)
+    rows.learn_group(group.copy()?, members)
 }
 
 // Rows learn what was seen, but for that of a group.
-fn learn(alloc: Global, want: &Want, sight: Sight, rows: &mut Rows) -> Ended
+fn learn(want: &Want, sight: Sight, rows: &mut Rows) -> Ended
     requires plain { group_of want.now ≡ None }
     ensures told { (db : Trees) → Sees want.now db sight → LearnsSeen want.now rows.old rows.new db result }
     ensures learnt { result ≡ Ended.Learnt → HasLearnt want.now rows.old rows.new }
 {
     match sight {
-        Sight::Found(found) => learnt(put_found(alloc, want, found, rows)),
+        Sight::Found(found) => learnt(put_found(want, found, rows)),
         Sight::NoMemory => Ended::NoMemory,
         Sight::Damaged => Ended::Damaged,
     }
 }
 
 // The same of a group.
-fn learn_group(
-    alloc: Global,
-    group: &GroupName,
-    found: Option<Table<AccountNo, ()>>,
-    rows: &mut Rows,
-) -> Ended
+fn learn_group(group: &GroupName, found: Option<Table<AccountNo, ()>>, rows: &mut Rows) -> Ended
     ensures told { (db : Trees) → IfTold db (λ t. HasMembers (tables_at db).row group.now (rows_of t)) found → LearnsSeen (want.Group group.now) rows.old rows.new db result }
     ensures learnt { result ≡ Ended.Learnt → HasLearnt (want.Group group.now) rows.old rows.new }
 {
     match found {
-        Some(members) => learnt(put_members(alloc, group, members, rows)),
+        Some(members) => learnt(put_members(group, members, rows)),
         None => Ended::Damaged,
     }
 }
@@ -148,11 +142,11 @@ fn find<S: Alter>(
     match want.group() {
         Some(group) => {
             let found = people::find_group(tx, alloc, group)?;
-            Ok(learn_group(alloc, group, found, rows))
+            Ok(learn_group(group, found, rows))
         }
         None => {
             let sight = see(tx, alloc, want, counts)?;
-            Ok(learn(alloc, want, sight, rows))
+            Ok(learn(want, sight, rows))
         }
     }
 }
@@ -171,7 +165,7 @@ fn find_next<S: Alter>(
     ensures learnt { IfOk result (λ e. e ≡ Ended.Learnt → HasLearnt want.now rows.old rows.new) }
 {
     if let Some(sight) = find_known(want, counts) {
-        return Ok(learn(alloc, want, sight, rows));
+        return Ok(learn(want, sight, rows));
     }
     *is_asked = true;
     find(tx, alloc, want, counts, rows)

@@ -311,7 +311,7 @@ impl<S: Alter, O: Origin> Shelf for SqlShelf<S, O> {
         let key = RequestKey {
             caller,
             epoch,
-            id: id.copy(alloc)?,
+            id: id.copy()?,
         };
         let _settled = self.conn.is_autocommit();
         match find_stored(&mut self.conn, alloc, &key, self.numbers.least) {
@@ -341,7 +341,7 @@ impl<S: Alter, O: Origin> Shelf for SqlShelf<S, O> {
             Ok(()) => {
                 let _settled = self.conn.is_autocommit();
                 self.numbers = more;
-                self.counts.note(alloc, delta);
+                self.counts.note(delta);
                 Ok(())
             }
             Err(error) => Err(fault_for(&mut self.conn, &mut self.faults, error)),

@@ -43,12 +43,12 @@ fn stands_nowhere(base: &Base) -> Option<bool>
     Some(false)
 }
 
-fn place_key(alloc: Global, base: &Base, place: u64) -> Result<PlaceKey, AllocError>
+fn place_key(base: &Base, place: u64) -> Result<PlaceKey, AllocError>
     ensures { IfOk result (λ k. k ≡ record { project = base.now.project; branch = base.now.branch; place = place }) }
 {
     Ok(PlaceKey {
-        project: base.project.copy(alloc)?,
-        branch: base.branch.copy(alloc)?,
+        project: base.project.copy()?,
+        branch: base.branch.copy()?,
         place,
     })
 }
@@ -65,7 +65,7 @@ pub fn is_base<S: Alter>(
     let found = find_any::<BaseCommits, S>(tx, alloc, base)?;
     match found {
         Some(Some(place)) => {
-            let key = place_key(alloc, base, place)?;
+            let key = place_key(base, place)?;
             let stored = find::<Bases, S>(tx, alloc, &key)?;
             Ok(stands_at(base, place, stored))
         }

@@ -108,12 +108,12 @@ fn last_place(found: Option<Option<(ChangeNo, u32)>>) -> Option<u64>
 }
 
 // The key of a place of a branch, before the first one.
-fn before_first(alloc: Global, branch: &BranchKey) -> Result<PlaceKey, AllocError>
+fn before_first(branch: &BranchKey) -> Result<PlaceKey, AllocError>
     ensures { IfOk result (λ key. (key.project ≡ branch.now.project) × (key.branch ≡ branch.now.branch)) }
 {
     Ok(PlaceKey {
-        project: branch.project.copy(alloc)?,
-        branch: branch.branch.copy(alloc)?,
+        project: branch.project.copy()?,
+        branch: branch.branch.copy()?,
         place: 0,
     })
 }
@@ -132,7 +132,7 @@ fn find_joins<S: Alter>(
     let Some(last) = last_place(found) else {
         return Ok(None);
     };
-    let mut key = before_first(alloc, branch)?;
+    let mut key = before_first(branch)?;
     let mut joined = Vec::new(alloc);
     for before in 0..last {
         key.place = before + 1;

@@ -10,7 +10,7 @@ use review_sql_records::names::{account_at, account_number, name_at};
 use review_sql_tables::bound::Bound;
 use review_sql_tables::columns::number_at;
 use review_sql_tables::fronts::Front;
-use review_sql_tables::table::{Lookup, Record, Sets, Sql, Writes};
+use review_sql_tables::table::{Lookup, Record, Sql, Writes};
 use review_sql_tables::texts;
 use review_words::{AccountNo, ChangeNo};
 use sqlite::{Error, Row};
@@ -65,11 +65,7 @@ impl Record for AttentionEntries {
     ghost table = { attention_table };
 
     fn writes() -> Writes {
-        Writes(
-            Sets::Replaces,
-            texts::INSERT_ATTENTION,
-            texts::DELETE_ATTENTION,
-        )
+        Writes::replaces(texts::INSERT_ATTENTION, texts::DELETE_ATTENTION)
     }
 
     fn bind_key<'a>(key: &'a (ChangeNo, AccountNo)) -> Result<Bound<'a>, Error> {

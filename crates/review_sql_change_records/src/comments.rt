@@ -13,7 +13,7 @@ use review_sql_records::names::{account_at, account_number, name_at, small, smal
 use review_sql_tables::bound::Bound;
 use review_sql_tables::columns::number_at;
 use review_sql_tables::fronts::Front;
-use review_sql_tables::table::{Lookup, Record, Sets, Sql, Writes};
+use review_sql_tables::table::{Lookup, Record, Sql, Writes};
 use review_sql_tables::texts;
 use review_words::{ChangeNo, CommentNo};
 use sqlite::{Error, Row};
@@ -92,7 +92,7 @@ impl Record for Comments {
     ghost table = { comment_table };
 
     fn writes() -> Writes {
-        Writes(Sets::PutsIn, texts::INSERT_COMMENT, texts::DELETE_COMMENT)
+        Writes::puts_in(texts::INSERT_COMMENT, texts::DELETE_COMMENT)
     }
 
     fn bind_key<'a>(key: &'a (ChangeNo, CommentNo)) -> Result<Bound<'a>, Error> {

@@ -13,7 +13,7 @@ use review_sql_records::names::{account_at, account_number, name_at, small, smal
 use review_sql_tables::bound::Bound;
 use review_sql_tables::columns::number_at;
 use review_sql_tables::greatest::Greatest;
-use review_sql_tables::table::{Lookup, Record, Rewritten, Sets, Sql, Writes};
+use review_sql_tables::table::{Lookup, Record, Rewritten, Sql, Writes};
 use review_sql_tables::texts;
 use review_words::ChangeNo;
 use sqlite::{Error, Row};
@@ -80,7 +80,7 @@ impl Record for Headers {
     ghost table = { header_table };
 
     fn writes() -> Writes {
-        Writes(Sets::Replaces, texts::INSERT_CHANGE, texts::DELETE_CHANGE)
+        Writes::replaces(texts::INSERT_CHANGE, texts::DELETE_CHANGE)
     }
 
     fn bind_key<'a>(key: &'a ChangeNo) -> Result<Bound<'a>, Error> {

@@ -14,7 +14,7 @@ use review_sql_tables::bound::Bound;
 use review_sql_tables::columns::text_at;
 use review_sql_tables::fronts::Front;
 use review_sql_tables::greatest::Greatest;
-use review_sql_tables::table::{Lookup, Record, Sets, Sql, Writes};
+use review_sql_tables::table::{Lookup, Record, Sql, Writes};
 use review_sql_tables::texts;
 use review_words::{ChangeNo, PatchNo};
 use sqlite::{Error, Row};
@@ -145,7 +145,7 @@ impl Record for Patches {
     ghost table = { patch_table };
 
     fn writes() -> Writes {
-        Writes(Sets::PutsIn, texts::INSERT_PATCH, texts::DELETE_PATCH)
+        Writes::puts_in(texts::INSERT_PATCH, texts::DELETE_PATCH)
     }
 
     fn bind_key<'a>(key: &'a (ChangeNo, PatchNo)) -> Result<Bound<'a>, Error> {

@@ -3,7 +3,7 @@ ghost use Rattle.std.specs.Prelude.{◌≡◌, ◌∷◌, ◌++◌, [], true, If
 ghost use Rattle.review_names.specs.Forms.{is_path};
 ghost use Rattle.review_sql_change_records.specs.Forms.{are_read_back, are_same, paths_in, paths_text, set_in, with_line};
 
-use review_words::{BadName, Path, Paths};
+use review_words::{Bad, Path, Paths};
 use std::alloc::{AllocError, Global};
 
 fn add_path(text: &mut String, path: &Path) -> Result<(), AllocError>
@@ -31,8 +31,8 @@ fn set_of(alloc: Global, paths: Vec<Path>) -> Result<Option<Paths>, AllocError>
 {
     match Paths::from_vec(alloc, paths) {
         Ok(set) => Ok(Some(set)),
-        Err(BadName::Form) => Ok(None),
-        Err(BadName::Memory) => Err(AllocError),
+        Err(Bad::Form) => Ok(None),
+        Err(Bad::Memory) => Err(AllocError),
     }
 }
 
@@ -46,8 +46,8 @@ fn add_line(alloc: Global, paths: &mut Vec<Path>, line: &str) -> Result<bool, Al
             paths.push(path)?;
             Ok(true)
         }
-        Err(BadName::Form) => Ok(false),
-        Err(BadName::Memory) => Err(AllocError),
+        Err(Bad::Form) => Ok(false),
+        Err(Bad::Memory) => Err(AllocError),
     }
 }
 

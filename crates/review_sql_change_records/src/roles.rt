@@ -8,7 +8,7 @@ use crate::values::{change_number, role_at};
 use review_sql_records::names::{account_at, account_number};
 use review_sql_tables::bound::Bound;
 use review_sql_tables::fronts::Front;
-use review_sql_tables::table::{Lookup, Record, Sets, Sql, Writes};
+use review_sql_tables::table::{Lookup, Record, Sql, Writes};
 use review_sql_tables::texts;
 use review_words::{AccountNo, ChangeNo, Role};
 use sqlite::{Error, Row};
@@ -57,11 +57,7 @@ impl Record for Roles {
     ghost table = { role_table };
 
     fn writes() -> Writes {
-        Writes(
-            Sets::Replaces,
-            texts::INSERT_REVIEWER,
-            texts::DELETE_REVIEWER,
-        )
+        Writes::replaces(texts::INSERT_REVIEWER, texts::DELETE_REVIEWER)
     }
 
     fn bind_key<'a>(key: &'a (ChangeNo, AccountNo)) -> Result<Bound<'a>, Error> {

@@ -9,7 +9,7 @@ use review_core_rules::{Vote, VoteKey};
 use review_sql_records::names::{account_at, account_number, name_at};
 use review_sql_tables::bound::Bound;
 use review_sql_tables::fronts::Front;
-use review_sql_tables::table::{Lookup, Record, Sets, Sql, Writes};
+use review_sql_tables::table::{Lookup, Record, Sql, Writes};
 use review_sql_tables::texts;
 use review_words::ChangeNo;
 use sqlite::{Error, Row};
@@ -73,7 +73,7 @@ impl Record for Votes {
     ghost table = { vote_table };
 
     fn writes() -> Writes {
-        Writes(Sets::Replaces, texts::INSERT_VOTE, texts::DELETE_VOTE)
+        Writes::replaces(texts::INSERT_VOTE, texts::DELETE_VOTE)
     }
 
     fn bind_key<'a>(key: &'a (ChangeNo, VoteKey)) -> Result<Bound<'a>, Error> {

@@ -122,25 +122,19 @@ pub fn find_room_for_projects<S: Alter>(
 }
 
 // Whether so many bases of a project leave room for one more, of which the shelf learns too.
-fn tell_base_count(
-    alloc: Global,
-    project: &ProjectName,
-    count: Option<u64>,
-    counts: &mut Counts,
-) -> Sight
+fn tell_base_count(project: &ProjectName, count: Option<u64>, counts: &mut Counts) -> Sight
     ensures { (db : Trees) → count ≡ Some (as_counted ((tables_at db).count (BasesOf project.now))) → SeesBounded (want.Room (counted.BasesOf project.now)) counts.old counts.new db result }
 {
     let Some(count) = count else {
         return Sight::Damaged;
     };
-    counts.learn_bases(alloc, project, count);
+    counts.learn_bases(project, count);
     Sight::Found(Found::IsSo(count < MOST_BASES))
 }
 
 /// Whether there may be one more base of a project, for which they are counted.
 pub fn find_room_for_bases<S: Alter>(
     tx: &mut Transaction<'_, S>,
-    alloc: Global,
     project: &ProjectName,
     counts: &mut Counts,
 ) -> Result<Sight, Error>
@@ -148,7 +142,7 @@ pub fn find_room_for_bases<S: Alter>(
     ensures looks { Looks (SeesBounded (want.Room (counted.BasesOf project.now)) counts.old counts.new) (state S.Store tx.old.conn.now) (state S.Store tx.new.conn.now) result }
 {
     let count = bases::count(tx, project)?;
-    Ok(tell_base_count(alloc, project, count, counts))
+    Ok(tell_base_count(project, count, counts))
 }
 
 // The last place of a branch's bases.

@@ -126,27 +126,22 @@ impl Counts {
     }
 
     /// Learns that so many bases of a project were counted. Nothing is learnt of a project with none, of which there may be any number, nor where there is no memory for it.
-    pub fn learn_bases(&mut self, alloc: Global, project: &ProjectName, count: u64)
+    pub fn learn_bases(&mut self, project: &ProjectName, count: u64)
         ensures { (t : Tables) → AreBounded self.old t → as_counted (t.count (BasesOf project.now)) ≡ count → AreBounded self.new t }
     {
         if count > 0 {
-            let _ = set(
-                &mut self.bases,
-                alloc,
-                project,
-                Bound::of(count, MOST_BASES),
-            );
+            let _ = set(&mut self.bases, project, Bound::of(count, MOST_BASES));
         }
     }
 
     /// What a delivery changes is done.
-    pub fn note(&mut self, alloc: Global, delta: &Delta)
+    pub fn note(&mut self, delta: &Delta)
         ensures { (old new : Tables) (kept : AnswerRow) → AreBounded self.old old → IsCommitted old delta.now kept new → AreBounded self.new new }
     {
         self.requests = with_request(self.requests);
         self.projects = noted(self.projects, delta);
         if let Some(put) = &delta.base {
-            note_one(&mut self.bases, alloc, &put.key.project);
+            note_one(&mut self.bases, &put.key.project);
         }
     }
 }
@@ -173,25 +168,24 @@ fn noted(projects: Option<Bound>, delta: &Delta) -> Option<Bound>
 // Sets what is known of a project.
 fn set(
     bases: &mut Table<ProjectName, Bound>,
-    alloc: Global,
     project: &ProjectName,
     bound: Bound,
 ) -> Result<(), AllocError>
     ensures put { OnOk result ((p : List ℕ) → row_in (slice_cmp nat_cmp) (rows_of bases.new) p ≡ (if is_at (slice_cmp nat_cmp project.now) p then Some bound else row_in (slice_cmp nat_cmp) (rows_of bases.old) p)) }
     ensures same { OnErr result (rows_of bases.new ≡ rows_of bases.old) }
 {
-    bases.put(project.copy(alloc)?, bound)
+    bases.put(project.copy()?, bound)
 }
 
 // A project may have one base more.
-fn note_one(bases: &mut Table<ProjectName, Bound>, alloc: Global, project: &ProjectName)
+fn note_one(bases: &mut Table<ProjectName, Bound>, project: &ProjectName)
     ensures { (old new : Tables) → AreBasesBounded (rows_of bases.old) old → Grows project.now old new → AreBasesBounded (rows_of bases.new) new }
 {
     let Some(bound) = bases.get(project) else {
         return;
     };
     let more = bound.with_one(MOST_BASES);
-    match set(bases, alloc, project, more) {
+    match set(bases, project, more) {
         Ok(()) => {}
         Err(_) => bases.remove(project),
     }

@@ -9,7 +9,7 @@ use crate::names::{account_at, account_number, name_at};
 use review_sql_tables::bound::Bound;
 use review_sql_tables::columns::number_at;
 use review_sql_tables::greatest::Greatest;
-use review_sql_tables::table::{Lookup, Record, Sets, Sql, Writes};
+use review_sql_tables::table::{Lookup, Record, Sql, Writes};
 use review_sql_tables::texts;
 use review_words::{AccountName, AccountNo};
 use sqlite::{Error, Row};
@@ -48,7 +48,7 @@ impl Record for Accounts {
     ghost table = { account_table };
 
     fn writes() -> Writes {
-        Writes(Sets::PutsIn, texts::INSERT_ACCOUNT, texts::DELETE_ACCOUNT)
+        Writes::puts_in(texts::INSERT_ACCOUNT, texts::DELETE_ACCOUNT)
     }
 
     fn bind_key<'a>(key: &'a AccountNo) -> Result<Bound<'a>, Error> {

@@ -13,7 +13,7 @@ use review_machine_rows::Kept;
 use review_sql_tables::bound::Bound;
 use review_sql_tables::changes::set;
 use review_sql_tables::columns::{number_at, text_at};
-use review_sql_tables::table::{Lookup, Record, Sets, Sql, Writes};
+use review_sql_tables::table::{Lookup, Record, Sql, Writes};
 use review_sql_tables::texts;
 use review_words::Epoch;
 use sqlite::{Alter, Error, Row, Transaction};
@@ -99,7 +99,7 @@ impl<'k> Record for KeptAnswer<'k> {
     fn writes() -> Writes
         ensures { result ≡ answer_table.writes }
     {
-        Writes(Sets::PutsIn, texts::INSERT_ANSWER, texts::DELETE_ANSWER)
+        Writes::puts_in(texts::INSERT_ANSWER, texts::DELETE_ANSWER)
     }
 
     fn bind_key<'a>(key: &'a KeptKey<'k>) -> Result<Bound<'a>, Error> {

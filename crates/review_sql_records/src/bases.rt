@@ -16,7 +16,7 @@ use review_sql_tables::bound::Bound;
 use review_sql_tables::columns::number_at;
 use review_sql_tables::fronts::Front;
 use review_sql_tables::greatest::Greatest;
-use review_sql_tables::table::{Lookup, Record, Sets, Sql, Writes};
+use review_sql_tables::table::{Lookup, Record, Sql, Writes};
 use review_sql_tables::texts;
 use review_words::{CommitName, ProjectName};
 use sqlite::{Alter, Error, Row, Transaction};
@@ -58,7 +58,7 @@ impl Record for Bases {
     ghost table = { base_table };
 
     fn writes() -> Writes {
-        Writes(Sets::PutsIn, texts::INSERT_BASE, texts::DELETE_BASE)
+        Writes::puts_in(texts::INSERT_BASE, texts::DELETE_BASE)
     }
 
     fn bind_key<'a>(key: &'a PlaceKey) -> Result<Bound<'a>, Error> {

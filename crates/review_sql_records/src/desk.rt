@@ -7,7 +7,7 @@ ghost use Rattle.review_sql_tables.specs.declared.texts.TheConstants as texts;
 use crate::rows::DeskRow;
 use review_sql_tables::bound::Bound;
 use review_sql_tables::columns::number_at;
-use review_sql_tables::table::{Lookup, Record, Rewritten, Sets, Sql, Writes};
+use review_sql_tables::table::{Lookup, Record, Rewritten, Sql, Writes};
 use review_sql_tables::texts;
 use sqlite::{Error, Row};
 use std::alloc::{AllocError, Global};
@@ -48,7 +48,7 @@ impl Record for Desk {
     ghost table = { desk_table };
 
     fn writes() -> Writes {
-        Writes(Sets::Replaces, texts::INSERT_DESK, texts::DELETE_DESK)
+        Writes::replaces(texts::INSERT_DESK, texts::DELETE_DESK)
     }
 
     fn bind_key<'a>(_key: &'a ()) -> Result<Bound<'a>, Error> {

@@ -6,7 +6,7 @@ ghost use Rattle.review_sql_tables.specs.declared.texts.TheConstants as texts;
 
 use crate::names::{epoch_at, epoch_number};
 use review_sql_tables::bound::Bound;
-use review_sql_tables::table::{Lookup, Record, Rewritten, Sets, Sql, Writes};
+use review_sql_tables::table::{Lookup, Record, Rewritten, Sql, Writes};
 use review_sql_tables::texts;
 use review_words::Epoch;
 use sqlite::{Error, Row};
@@ -45,7 +45,7 @@ impl Record for Epochs {
     ghost table = { epochs_table };
 
     fn writes() -> Writes {
-        Writes(Sets::Replaces, texts::INSERT_EPOCHS, texts::DELETE_EPOCHS)
+        Writes::replaces(texts::INSERT_EPOCHS, texts::DELETE_EPOCHS)
     }
 
     fn bind_key<'a>(_key: &'a ()) -> Result<Bound<'a>, Error> {

@@ -9,7 +9,7 @@ use crate::names::{account_at, account_number};
 use review_machine_rows::MemberKey;
 use review_sql_tables::bound::Bound;
 use review_sql_tables::fronts::Front;
-use review_sql_tables::table::{Lookup, Record, Sets, Sql, Writes};
+use review_sql_tables::table::{Lookup, Record, Sql, Writes};
 use review_sql_tables::texts;
 use review_words::{AccountNo, GroupName};
 use sqlite::{Error, Row};
@@ -49,7 +49,7 @@ impl Record for Members {
     ghost table = { member_table };
 
     fn writes() -> Writes {
-        Writes(Sets::PutsIn, texts::INSERT_MEMBER, texts::DELETE_MEMBER)
+        Writes::puts_in(texts::INSERT_MEMBER, texts::DELETE_MEMBER)
     }
 
     fn bind_key<'a>(key: &'a MemberKey) -> Result<Bound<'a>, Error> {

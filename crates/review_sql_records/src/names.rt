@@ -7,7 +7,7 @@ ghost use Rattle.review_sql_records.specs.Forms.{where_is, is_small};
 
 use crate::rows::PlaceNo;
 use review_sql_tables::columns::{number_at, text_at};
-use review_words::{AccountNo, BadName, Epoch, Form, Name};
+use review_words::{AccountNo, Bad, Epoch, Form, Name};
 use sqlite::Row;
 use std::alloc::{AllocError, Global};
 
@@ -20,8 +20,8 @@ pub fn name_at<F: Form>(alloc: Global, row: &Row, at: usize) -> Result<Option<Na
     };
     match Name::read(alloc, text) {
         Ok(name) => Ok(Some(name)),
-        Err(BadName::Form) => Ok(None),
-        Err(BadName::Memory) => Err(AllocError),
+        Err(Bad::Form) => Ok(None),
+        Err(Bad::Memory) => Err(AllocError),
     }
 }
 

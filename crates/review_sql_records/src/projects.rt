@@ -14,7 +14,7 @@ use crate::names::name_at;
 use review_machine_rows::StoredFile;
 use review_sql_tables::bound::Bound;
 use review_sql_tables::columns::text_at;
-use review_sql_tables::table::{Lookup, Record, Sets, Sql, Writes};
+use review_sql_tables::table::{Lookup, Record, Sql, Writes};
 use review_sql_tables::texts;
 use review_words::{FileText, ProjectName};
 use sqlite::{Alter, Error, Row, Transaction};
@@ -84,7 +84,7 @@ impl Record for Projects {
     ghost table = { project_table };
 
     fn writes() -> Writes {
-        Writes(Sets::Replaces, texts::INSERT_PROJECT, texts::DELETE_PROJECT)
+        Writes::replaces(texts::INSERT_PROJECT, texts::DELETE_PROJECT)
     }
 
     fn bind_key<'a>(key: &'a ProjectName) -> Result<Bound<'a>, Error> {

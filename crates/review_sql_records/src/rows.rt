@@ -86,7 +86,7 @@ impl PlaceNo {
 }
 
 impl Key for PlaceNo {
-    fn copy(&self, _alloc: Global) -> Result<PlaceNo, AllocError> {
+    fn copy(&self) -> Result<PlaceNo, AllocError> {
         Ok(*self)
     }
 }

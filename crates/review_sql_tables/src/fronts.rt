@@ -76,7 +76,7 @@ where
     ensures ran { Inside (SetsRow T.table.search (owner.now, part.now) row.now) (state S.Store tx.old.conn.now) (state S.Store tx.new.conn.now) result }
     ensures open { Opens (state S.Store tx.old.conn.now) (state S.Store tx.new.conn.now) result }
 {
-    let key = (*owner, part.copy(alloc)?);
+    let key = (*owner, part.copy()?);
     change::<T, S>(tx, alloc, &key, row)
 }
 

@@ -42,36 +42,62 @@ pub enum Sets {
 
 /// How a record is given to a key, and the texts that put one in and take those of a key away. Contracts see the texts.
 #[derive(Drop)]
-pub struct Writes(pub Sets, pub &'static str, pub &'static str);
+pub struct Writes {
+    sets: Sets,
+    insert: &'static str,
+    delete: &'static str,
+}
 
 impl Model for Writes {
     ghost use Rattle.review_sql_tables.specs.Record.{Written};
 
     ghost Value = { Written };
 
-    ghost view = { λ w. record { sets = w.0; insert = w.1.now; delete = w.2.now } };
+    ghost view = { λ w. record { sets = w.sets; insert = w.insert.now; delete = w.delete.now } };
 }
 
 impl Writes {
+    /// A record is put in, and takes the place of what is there only where a rule of the table refuses that.
+    pub fn puts_in(insert: &'static str, delete: &'static str) -> Writes
+        ensures { result ≡ record { sets = Sets.PutsIn; insert = insert.now; delete = delete.now } }
+    {
+        Writes {
+            sets: Sets::PutsIn,
+            insert,
+            delete,
+        }
+    }
+
+    /// What is there is taken away before a record is put in.
+    pub fn replaces(insert: &'static str, delete: &'static str) -> Writes
+        ensures { result ≡ record { sets = Sets.Replaces; insert = insert.now; delete = delete.now } }
+    {
+        Writes {
+            sets: Sets::Replaces,
+            insert,
+            delete,
+        }
+    }
+
     /// How a record is given to a key.
     pub fn sets(self) -> Sets
         ensures { result ≡ self.sets }
     {
-        self.0
+        self.sets
     }
 
     /// The text that puts a record in.
     pub fn insert(self) -> &'static str
         ensures { result.now ≡ self.insert }
     {
-        self.1
+        self.insert
     }
 
     /// The text that takes the records of a key away.
     pub fn delete(self) -> &'static str
         ensures { result.now ≡ self.delete }
     {
-        self.2
+        self.delete
     }
 }
 

@@ -101,7 +101,7 @@ fn copied_keys<K: Key>(alloc: Global, keys: &[&K]) -> Result<Vec<K>, AllocError>
 {
     let mut copies = Vec::with_capacity(alloc, keys.len())?;
     for key in keys {
-        copies.push(key.copy(alloc)?)?;
+        copies.push(key.copy()?)?;
     }
     Ok(copies)
 }

@@ -97,7 +97,7 @@ impl<K: Key, V: Drop> Table<K, V> {
 
     /// Makes a place for a key, which is copied where it has none. An `Err` changes no row.
     #[tactic(auto, using(crate::proofs::Places::rows_of_inserted))]
-    fn reserve_like(&mut self, alloc: Global, key: &K) -> Result<(), AllocError>
+    fn reserve_like(&mut self, key: &K) -> Result<(), AllocError>
         ensures same { rows_of self.new ≡ rows_of self.old }
         ensures rows { (q : K) → row_at K.cmp self.new q ≡ row_at K.cmp self.old q }
         ensures stay { (q : K) → HasPlace K.cmp self.old q → HasPlace K.cmp self.new q }
@@ -106,7 +106,7 @@ impl<K: Key, V: Drop> Table<K, V> {
         ensures err { OnErr result (self.new ≡ self.old) }
     {
         if !self.places.contains_key(key) {
-            let copied = key.copy(alloc)?;
+            let copied = key.copy()?;
             self.places.insert(copied, None)?;
         }
         Ok(())
@@ -124,7 +124,7 @@ impl<K: Key, V: Drop> Table<K, V> {
     }
 
     /// Makes a place for the key of each edit. An `Err` changes no row.
-    pub fn reserve_all(&mut self, alloc: Global, edits: &[RowEdit<K, V>]) -> Result<(), AllocError>
+    pub fn reserve_all(&mut self, edits: &[RowEdit<K, V>]) -> Result<(), AllocError>
         ensures same { rows_of self.new ≡ rows_of self.old }
         ensures rows { (q : K) → row_at K.cmp self.new q ≡ row_at K.cmp self.old q }
         ensures stay { (q : K) → HasPlace K.cmp self.old q → HasPlace K.cmp self.new q }
@@ -134,7 +134,7 @@ impl<K: Key, V: Drop> Table<K, V> {
         ensures only { HasNoEmptyPlace K.cmp self.old → HasEmptyOnly K.cmp (is_named K.cmp edits.now) self.new }
     {
         for edit in edits {
-            self.reserve_like(alloc, &edit.key)?;
+            self.reserve_like(&edit.key)?;
         }
         Ok(())
     }

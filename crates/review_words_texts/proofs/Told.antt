@@ -2,9 +2,10 @@
 use Rattle.std.proofs.Common.{◌≡◌, ℕ, ◌<◌, ◌≤◌, ◌+◌, List, [], ◌∷◌, length, refl, sym, ap, ◌∙◌, subst, arith, cond, Option, Some, None, Bool, true, false, option_map, nat_le, ◌&&◌, if◌then◌else◌, codes, map, Result, Ok, Err, IfOk}
 use Rattle.std.proofs.lemmas.{Bool.Decides.nat_tests, Int.Digits.length-digits_of-le, List.length-map}
 use Rattle.std.specs.{Int.Digits.digits_of, List.AllByRecursion}
-use Rattle.review_names.proofs.{Accounts.account_back, Numerals.number_back}
+use Rattle.review_names.{proofs.Accounts.account_back, proofs.Numerals.number_back, specs.Bad.Gives}
 use Rattle.review_names.specs.Forms.{is_label, is_within, most_changes, most_comments, most_patches}
 use Rattle.review_names.specs.Numerals.{shown_digits, numeral, ◌>>=◌, number_of}
+use Rattle.review_names.specs.declared.names.Bad.{Bad}
 use Rattle.review_words.specs.{Faults.code_number, Faults.file_fault_number, Refusals.refusal_number}
 use Rattle.review_words.specs.Texts.{expr_fields, fault_fields, most_joined, refusal_fields, reply_fields, IsPlaced, IsRefusalOf, IsStored}
 use Rattle.review_words.specs.declared.faults.{ExprCode.ExprCode, FileFault.FileFault}
@@ -13,7 +14,6 @@ use Rattle.review_words.specs.declared.reply.Refusal.{Refusal}
 use Rattle.review_words.specs.declared.reply.Refusal.TheVariants.{UnknownCaller, NotAdmin, NoProject, NoBranch, NoChange, NoPatchSet, NoAccount, NoComment, NotAllowed, Closed, SameState, WorkInProgress, StalePatchSet, NoLabel, ValueOut, VoteRestricted, CommitKnown, UnknownParent, ChainOutdated, ChainAbandoned, ChainWip, ChainTooLong, RequirementUnsatisfied, NotEligible, NameTaken, BadFile, LabelNarrowed, Limit, NoParent, ParentFixed, ParentDepth, EpochAhead}
 use Rattle.review_words.specs.declared.reply.Reply.{Reply, TheVariants.Done, TheVariants.Refused}
 use Rattle.review_words_texts.specs.Reading.{AreShort, expr_fault_of, file_fault_of, label_of, list_of, new_change_of, new_patch_of, number_within, numbers_in, plain_answer_of, refusal_of, reply_of, unsatisfied_of}
-use Rattle.review_words_texts.specs.{declared.reading.BadReply.BadReply, inner.Words.Gives}
 use Rattle.review_words.specs.declared.faults.ExprCode.TheVariants as code
 use Rattle.review_words.specs.declared.faults.FileFault.TheVariants as file
 
@@ -201,7 +201,7 @@ numbers_told most (f ∷ fs) ns e =
     )
 
 -- numbers that are read from not too many fields are not too many, and of their form
-pub gives_stored : (longest most : ℕ) (r : Result (List ℕ) BadReply) (fs : List (List ℕ))
+pub gives_stored : (longest most : ℕ) (r : Result (List ℕ) Bad) (fs : List (List ℕ))
     → length fs ≤ longest → Gives r (numbers_in most fs) → IfOk r (λ ns. (length ns ≤ longest) × AllByRecursion (λ n. (1 ≤ n) × (n ≤ most)) ns)
 gives_stored longest most (Ok ns) fs few gives = let told = numbers_told most fs ns gives in let same = told.0 in (omega (arith, few, same), told.1)
 gives_stored longest most (Err e) fs few gives = tt
@@ -214,5 +214,5 @@ pub cut_to : {A : Type 0} (view : A → List (List ℕ)) (o : Option A) (x : A) 
 cut_to view o x fs some e = let same : Some (view x) ≡ Some fs = ap (option_map view) (sym some) ∙ e in cc
 
 -- what the fields of a stored reply are read as is that reply
-pub told_of : (r : Reply) (fs : List (List ℕ)) (o : Result Reply BadReply) → IsStored r → fs ≡ reply_fields r → Gives o (reply_of fs) → Gives o (Some r)
+pub told_of : (r : Reply) (fs : List (List ℕ)) (o : Result Reply Bad) → IsStored r → fs ≡ reply_fields r → Gives o (reply_of fs) → Gives o (Some r)
 told_of r fs o s same gives = subst (Gives o) (ap reply_of same ∙ reply_back r s) gives

@@ -17,5 +17,8 @@ pub mod replies;
 pub use content::content_text;
 pub use laws::{content_tells, reply_tells};
 pub use pieces::{Piece, cut, field_at, joined};
-pub use reading::{BadReply, read_reply};
+pub use reading::read_reply;
 pub use replies::reply_text;
+
+/// Why a text was not read as a stored reply.
+pub type BadReply = review_names::Bad;

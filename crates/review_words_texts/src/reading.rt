@@ -1,51 +1,20 @@
 //! Texts of replies, read.
 ghost use Rattle.std.specs.Prelude.{◌≡◌, ◌≤◌, Some, drop, map, option_map, true, IfOk, IfErr, IfSome, OnOk};
-ghost use Rattle.std.specs.Str.{bytes_eq};
+ghost use Rattle.{std.specs.Str.bytes_eq, review_names.specs.Bad.Gives};
 ghost use Rattle.review_names.specs.Forms.{is_label, most_changes, most_comments, most_patches};
+ghost use Rattle.review_names.specs.declared.names.Bad.TheVariants.{Form};
 ghost use Rattle.review_words.specs.Texts.{most_joined, reply_text, IsCommentNumber, IsRefusalOf, IsStored, IsStoredAnswer};
 ghost use Rattle.review_words.specs.declared.reply.Answer.TheVariants.{Reviewed, Submitted};
 ghost use Rattle.review_words.specs.declared.reply.{Refusal.TheVariants.BadFile, Reply.Reply};
 ghost use Rattle.review_words_texts.specs.Reading.{expr_fault_of, file_fault_of, label_of, list_of, new_change_of, new_patch_of, number_within, numbers_in, plain_answer_of, refusal_of, reply_of, unsatisfied_of};
-ghost use Rattle.review_words_texts.specs.{declared.reading.BadReply.TheVariants.Form, inner.Words.Gives};
 
 use crate::replies::reply_text;
 use crate::{cut, field_at};
-use review_names::{BadName, ChangeNo, CommentNo, LabelName, PatchNo, read_account, read_number};
+use review_names::{Bad, ChangeNo, CommentNo, LabelName, PatchNo, read_account, read_number};
 use review_words::{
     Answer, CommentNumbers, ExprCode, ExprFault, FileFault, Listed, Refusal, Reply,
 };
 use std::alloc::{AllocError, AllocFailed, Global};
-
-/// Why a text was not read as a reply.
-#[derive(Clone, Copy, PartialEq, Eq)]
-pub enum BadReply {
-    /// It is the text of no stored reply. It will not be, however often it is tried.
-    Form,
-    /// There was no memory for it. It may be tried again.
-    Memory,
-}
-
-impl From<AllocError> for BadReply {
-    ghost use Rattle.std.specs.Prelude.{◌≡◌};
-    ghost use Rattle.review_words_texts.specs.declared.reading.BadReply.TheVariants.{Memory};
-
-    ghost from_gives = { λ _ e. e ≡ Memory };
-
-    fn from(_error: AllocError) -> BadReply {
-        BadReply::Memory
-    }
-}
-
-impl<T: Drop> From<AllocFailed<T>> for BadReply {
-    ghost use Rattle.std.specs.Prelude.{◌≡◌};
-    ghost use Rattle.review_words_texts.specs.declared.reading.BadReply.TheVariants.{Memory};
-
-    ghost from_gives = { λ _ e. e ≡ Memory };
-
-    fn from(_error: AllocFailed<T>) -> BadReply {
-        BadReply::Memory
-    }
-}
 
 fn is(bytes: &[u8], word: &str) -> bool
     ensures { result ≡ bytes_eq bytes.now word.now }
@@ -130,28 +99,28 @@ fn read_new_patch(fields: &[&[u8]]) -> Option<Answer>
 
 /// The name of a label or a requirement that a field is.
 #[tactic(auto, unfolding(crate::specs::Reading::label_of))]
-fn read_label(alloc: Global, bytes: &[u8]) -> Result<LabelName, BadReply>
+fn read_label(alloc: Global, bytes: &[u8]) -> Result<LabelName, Bad>
     ensures name { Gives result (label_of bytes.now) }
     ensures form { IfOk result (λ n. is_label n ≡ true) }
 {
     let Ok(text) = str::from_utf8(bytes) else {
-        return Err(BadReply::Form);
+        return Err(Bad::Form);
     };
     match LabelName::read(alloc, text) {
         Ok(name) => Ok(name),
-        Err(BadName::Form) => Err(BadReply::Form),
-        Err(BadName::Memory) => Err(BadReply::Memory),
+        Err(Bad::Form) => Err(Bad::Form),
+        Err(Bad::Memory) => Err(Bad::Memory),
     }
 }
 
 /// The change that fields tell, and its requirement that is unsatisfied.
 #[tactic(auto, unfolding(crate::specs::Reading::unsatisfied_of))]
-fn read_unsatisfied(alloc: Global, fields: &[&[u8]]) -> Result<Refusal, BadReply>
+fn read_unsatisfied(alloc: Global, fields: &[&[u8]]) -> Result<Refusal, Bad>
     ensures refusal { Gives result (unsatisfied_of (map (λ f. f.now) fields.now)) }
     ensures stored { IfOk result IsRefusalOf }
 {
     let Some(change) = read_change(field_at(fields, 2)) else {
-        return Err(BadReply::Form);
+        return Err(Bad::Form);
     };
     let requirement = read_label(alloc, field_at(fields, 3))?;
     Ok(Refusal::RequirementUnsatisfied {
@@ -169,12 +138,12 @@ fn read_bad_file(fields: &[&[u8]]) -> Option<Refusal>
 }
 
 #[tactic(auto, unfolding(crate::specs::Reading::refusal_of))]
-fn read_refusal(alloc: Global, fields: &[&[u8]]) -> Result<Refusal, BadReply>
+fn read_refusal(alloc: Global, fields: &[&[u8]]) -> Result<Refusal, Bad>
     ensures refusal { Gives result (refusal_of (map (λ f. f.now) fields.now)) }
     ensures stored { IfOk result IsRefusalOf }
 {
     let Some(number) = read_number(field_at(fields, 1)) else {
-        return Err(BadReply::Form);
+        return Err(Bad::Form);
     };
     if number == 23 {
         return read_unsatisfied(alloc, fields);
@@ -184,7 +153,7 @@ fn read_refusal(alloc: Global, fields: &[&[u8]]) -> Result<Refusal, BadReply>
     } else {
         Refusal::from_number(number)
     };
-    refusal.ok_or(BadReply::Form)
+    refusal.ok_or(Bad::Form)
 }
 
 /// The answer of fields that tell no list.
@@ -222,13 +191,13 @@ fn fields_from<'a, 'b>(fields: &'b [&'a [u8]], first: usize) -> &'b [&'a [u8]]
 }
 
 /// The numbers of comments that fields tell.
-fn read_comment_numbers(alloc: Global, fields: &[&[u8]]) -> Result<CommentNumbers, BadReply>
+fn read_comment_numbers(alloc: Global, fields: &[&[u8]]) -> Result<CommentNumbers, Bad>
     ensures { Gives result (numbers_in most_comments (map (λ f. f.now) fields.now)) }
 {
     let mut numbers = Vec::new(alloc);
     for field in fields {
         let Some(number) = read_comment(field) else {
-            return Err(BadReply::Form);
+            return Err(Bad::Form);
         };
         numbers.push(number)?;
     }
@@ -236,13 +205,13 @@ fn read_comment_numbers(alloc: Global, fields: &[&[u8]]) -> Result<CommentNumber
 }
 
 /// The numbers of changes that fields tell.
-fn read_change_numbers(alloc: Global, fields: &[&[u8]]) -> Result<Listed<ChangeNo>, BadReply>
+fn read_change_numbers(alloc: Global, fields: &[&[u8]]) -> Result<Listed<ChangeNo>, Bad>
     ensures { Gives result (numbers_in most_changes (map (λ f. f.now) fields.now)) }
 {
     let mut numbers = Vec::new(alloc);
     for field in fields {
         let Some(number) = read_change(field) else {
-            return Err(BadReply::Form);
+            return Err(Bad::Form);
         };
         numbers.push(number)?;
     }
@@ -251,30 +220,30 @@ fn read_change_numbers(alloc: Global, fields: &[&[u8]]) -> Result<Listed<ChangeN
 
 /// The numbers of comments that fields tell, at most 10,000.
 #[tactic(auto, unfolding(crate::specs::Reading::list_of))]
-fn read_comments(alloc: Global, fields: &[&[u8]]) -> Result<CommentNumbers, BadReply>
+fn read_comments(alloc: Global, fields: &[&[u8]]) -> Result<CommentNumbers, Bad>
     ensures comments { Gives result (list_of most_comments most_comments (map (λ f. f.now) fields.now)) }
     ensures stored { IfOk result (λ c. IsStoredAnswer (Reviewed c)) }
 {
     if fields.len() > 10_000 {
-        return Err(BadReply::Form);
+        return Err(Bad::Form);
     }
     read_comment_numbers(alloc, fields)
 }
 
 /// The changes that joined, at most 100.
 #[tactic(auto, unfolding(crate::specs::Reading::list_of))]
-fn read_joined(alloc: Global, fields: &[&[u8]]) -> Result<Listed<ChangeNo>, BadReply>
+fn read_joined(alloc: Global, fields: &[&[u8]]) -> Result<Listed<ChangeNo>, Bad>
     ensures joined { Gives result (list_of most_joined most_changes (map (λ f. f.now) fields.now)) }
     ensures stored { IfOk result (λ c. IsStoredAnswer (Submitted c)) }
 {
     if fields.len() > 100 {
-        return Err(BadReply::Form);
+        return Err(Bad::Form);
     }
     read_change_numbers(alloc, fields)
 }
 
 #[tactic(auto, unfolding(crate::specs::Reading::reply_of))]
-fn read_fields(alloc: Global, fields: &[&[u8]]) -> Result<Reply, BadReply>
+fn read_fields(alloc: Global, fields: &[&[u8]]) -> Result<Reply, Bad>
     ensures reply { Gives result (reply_of (map (λ f. f.now) fields.now)) }
     ensures stored { IfOk result IsStored }
 {
@@ -293,24 +262,24 @@ fn read_fields(alloc: Global, fields: &[&[u8]]) -> Result<Reply, BadReply>
     }
     match read_plain(fields) {
         Some(answer) => Ok(Reply::Done(answer)),
-        None => Err(BadReply::Form),
+        None => Err(Bad::Form),
     }
 }
 
 /// The reply that a text is read as, of stored replies the one whose text it is. The readers let through more than is ever written, as a
 /// length with leading zeros.
-fn read_text(alloc: Global, text: &str) -> Result<Reply, BadReply>
+fn read_text(alloc: Global, text: &str) -> Result<Reply, Bad>
     ensures reply { (r : Reply) → IsStored r → reply_text r ≡ text.now → Gives result (Some r) }
     ensures stored { IfOk result IsStored }
 {
     let Some(fields) = cut(alloc, text.as_bytes())? else {
-        return Err(BadReply::Form);
+        return Err(Bad::Form);
     };
     read_fields(alloc, &fields)
 }
 
 /// Whether a text is that of a reply: Form where it isn't.
-fn check_text(alloc: Global, reply: &Reply, text: &str) -> Result<(), BadReply>
+fn check_text(alloc: Global, reply: &Reply, text: &str) -> Result<(), Bad>
     ensures same { OnOk result (reply_text reply.now ≡ text.now) }
     ensures form { IfErr result (λ e. e ≡ Form → reply_text reply.now ≡ text.now → ⊥) }
 {
@@ -318,13 +287,13 @@ fn check_text(alloc: Global, reply: &Reply, text: &str) -> Result<(), BadReply>
     if again.as_str() == text {
         Ok(())
     } else {
-        Err(BadReply::Form)
+        Err(Bad::Form)
     }
 }
 
 /// The stored reply whose text this is. Form exactly where it is the text of none, as the empty
 /// text is; Memory where there was no memory to read it.
-pub fn read_reply(alloc: Global, text: &str) -> Result<Reply, BadReply>
+pub fn read_reply(alloc: Global, text: &str) -> Result<Reply, Bad>
     ensures ok { IfOk result (λ r. IsStored r × (reply_text r ≡ text.now)) }
     ensures form { IfErr result (λ e. e ≡ Form → (r : Reply) → IsStored r → reply_text r ≡ text.now → ⊥) }
     ensures back { (r : Reply) → IsStored r → reply_text r ≡ text.now → IfOk result (λ s. s ≡ r) }

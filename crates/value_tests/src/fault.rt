@@ -1,6 +1,6 @@
 //! What ends a test early.
 
-use review_words::BadName;
+use review_words::Bad;
 use std::alloc::{AllocError, AllocFailed};
 use std::io;
 
@@ -27,11 +27,11 @@ impl<T: Drop> From<AllocFailed<T>> for Fault {
     }
 }
 
-impl From<BadName> for Fault {
-    fn from(fault: BadName) -> Fault {
+impl From<Bad> for Fault {
+    fn from(fault: Bad) -> Fault {
         match fault {
-            BadName::Form => Fault::Form,
-            BadName::Memory => Fault::Memory,
+            Bad::Form => Fault::Form,
+            Bad::Memory => Fault::Memory,
         }
     }
 }

@@ -84,7 +84,7 @@ fn holder_word(found: Option<&Found>) -> &'static str {
 
 /// What is needed to know the account of a name.
 fn need_of(alloc: Global, want: &Want) -> Result<Need, Fault> {
-    let want = want.copy(alloc)?;
+    let want = want.copy()?;
     let wants = vec![in alloc; want]?;
     Ok(Need { wants })
 }

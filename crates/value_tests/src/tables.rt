@@ -9,7 +9,7 @@ use std::test::Fail;
 /// Whether the copy of a label's name is that name.
 fn is_copied(alloc: Global) -> Result<bool, Fault> {
     let label = LabelName::read(alloc, "Verified")?;
-    let copy = Key::copy(&label, alloc)?;
+    let copy = Key::copy(&label)?;
     Ok(copy == label)
 }
 
@@ -52,7 +52,7 @@ fn changes(alloc: Global) -> Result<Vec<RowEdit<AccountNo, u8>>, AllocError> {
 
 fn make_changes(alloc: Global, table: &mut Table<AccountNo, u8>) -> Result<(), AllocError> {
     let changes = changes(alloc)?;
-    table.reserve_all(alloc, &changes)?;
+    table.reserve_all(&changes)?;
     table.apply(changes);
     Ok(())
 }

@@ -4,18 +4,18 @@ use crate::fault::Fault;
 use crate::texts::{on_a_line, with_byte};
 use review_json::routes::route_named;
 use review_json_routes::{
-    BadBody, Route, command_of, is_question, name_of_bytes, needs_body, text_at, value_of,
+    Route, command_of, is_question, name_of_bytes, needs_body, text_at, value_of,
 };
-use review_words::{Command, RequestId};
+use review_words::{Bad, Command, RequestId};
 use review_words_texts::content_text;
 use std::alloc::Global;
 
 /// What bytes spell, or none where they spell nothing.
-fn spelled<T>(read: Result<T, BadBody>) -> Result<Option<T>, Fault> {
+fn spelled<T>(read: Result<T, Bad>) -> Result<Option<T>, Fault> {
     match read {
         Ok(value) => Ok(Some(value)),
-        Err(BadBody::Form) => Ok(None),
-        Err(BadBody::Memory) => Err(Fault::Memory),
+        Err(Bad::Form) => Ok(None),
+        Err(Bad::Memory) => Err(Fault::Memory),
     }
 }
 

@@ -1,6 +1,6 @@
 //! What ends a transcript early.
 
-use review_words::BadName;
+use review_words::Bad;
 use std::alloc::{AllocError, AllocFailed};
 use std::fmt::{Display, Formatter};
 use std::{fmt, io};
@@ -40,21 +40,21 @@ impl<T: Drop> From<AllocFailed<T>> for Fault {
     }
 }
 
-impl From<BadName> for Fault {
-    fn from(fault: BadName) -> Fault {
+impl From<Bad> for Fault {
+    fn from(fault: Bad) -> Fault {
         match fault {
-            BadName::Form => Fault::Form,
-            BadName::Memory => Fault::Memory,
+            Bad::Form => Fault::Form,
+            Bad::Memory => Fault::Memory,
         }
     }
 }
 
 /// What was read, or none where it was of no form.
-pub fn named<T>(read: Result<T, BadName>) -> Result<Option<T>, Fault> {
+pub fn named<T>(read: Result<T, Bad>) -> Result<Option<T>, Fault> {
     match read {
         Ok(value) => Ok(Some(value)),
-        Err(BadName::Form) => Ok(None),
-        Err(BadName::Memory) => Err(Fault::Memory),
+        Err(Bad::Form) => Ok(None),
+        Err(Bad::Memory) => Err(Fault::Memory),
     }
 }
 

@@ -2,8 +2,8 @@
 
 use crate::fault::Fault;
 use crate::texts::{on_a_line, with_byte};
-use review_json::{BadBody, delivery_of_line};
-use review_words::{AccountNo, ChangeQuery, Command, Delivery, Epoch, Query, RequestId};
+use review_json::delivery_of_line;
+use review_words::{AccountNo, Bad, ChangeQuery, Command, Delivery, Epoch, Query, RequestId};
 use review_words_texts::content_text;
 use std::alloc::{AllocError, Global};
 
@@ -68,10 +68,10 @@ fn delivery_text(alloc: Global, delivery: &Delivery) -> Result<String, Fault> {
     }
 }
 
-fn no_delivery(alloc: Global, fault: BadBody) -> Result<String, Fault> {
+fn no_delivery(alloc: Global, fault: Bad) -> Result<String, Fault> {
     match fault {
-        BadBody::Form => Ok(String::from_str(alloc, "no delivery")?),
-        BadBody::Memory => Err(Fault::Memory),
+        Bad::Form => Ok(String::from_str(alloc, "no delivery")?),
+        Bad::Memory => Err(Fault::Memory),
     }
 }
 

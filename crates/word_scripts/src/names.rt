@@ -3,20 +3,17 @@
 use crate::fault::{Fault, named};
 use crate::texts::on_a_line;
 use review_words::{
-    AccountName, AccountNo, BadName, BranchName, ChangeKind, ChangeNo, CommentNo, CommitName,
-    Epoch, FileText, Form, GroupName, LabelName, Message, Name, PatchNo, Path, Place, ProjectName,
-    Reason, RequestId, Subject, admin_name, administrators, patch_set_level,
+    AccountName, AccountNo, Bad, BranchName, ChangeKind, ChangeNo, CommentNo, CommitName, Epoch,
+    FileText, Form, GroupName, LabelName, Message, Name, PatchNo, Path, Place, ProjectName, Reason,
+    RequestId, Subject, admin_name, administrators, patch_set_level,
 };
 use std::alloc::Global;
 use std::cmp::Ordering;
 
 /// The text of a copy of a name that was read.
-fn name_text<F: Form + Drop>(
-    alloc: Global,
-    read: Result<Name<F>, BadName>,
-) -> Result<String, Fault> {
+fn name_text<F: Form + Drop>(alloc: Global, read: Result<Name<F>, Bad>) -> Result<String, Fault> {
     match named(read)? {
-        Some(name) => on_a_line(alloc, name.copy(alloc)?.as_str()),
+        Some(name) => on_a_line(alloc, name.copy()?.as_str()),
         None => Ok(String::from_str(alloc, "no form")?),
     }
 }
@@ -112,8 +109,8 @@ fn place<F: Form + Drop>(left: &Name<F>, right: &Name<F>) -> &'static str {
 
 /// Where a name that was read stands beside another.
 fn order<F: Form + Drop>(
-    left: Result<Name<F>, BadName>,
-    right: Result<Name<F>, BadName>,
+    left: Result<Name<F>, Bad>,
+    right: Result<Name<F>, Bad>,
 ) -> Result<&'static str, Fault> {
     let left = left?;
     let right = right?;
@@ -137,5 +134,5 @@ pub fn compared(alloc: Global, word: &str, text: &str) -> Result<Option<String>,
 /// The text of a copy of a file.
 fn file_text(alloc: Global, text: &str) -> Result<String, Fault> {
     let file = FileText::from_str(alloc, text)?;
-    on_a_line(alloc, file.copy(alloc)?.as_str())
+    on_a_line(alloc, file.copy()?.as_str())
 }

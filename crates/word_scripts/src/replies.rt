@@ -4,8 +4,10 @@ use crate::fault::Fault;
 use crate::lists::{Part, list};
 use crate::texts::cut;
 use review_json::answer_text;
-use review_words::{Answer, Bases, ChangeNo, CommitName, JoinedChange, Listed, NotTaken, Reply};
-use review_words_texts::{BadReply, read_reply, reply_text};
+use review_words::{
+    Answer, Bad, Bases, ChangeNo, CommitName, JoinedChange, Listed, NotTaken, Reply,
+};
+use review_words_texts::{read_reply, reply_text};
 use std::alloc::Global;
 
 /// The status of a refusal, and what a reply is stored as.
@@ -34,10 +36,10 @@ fn told(alloc: Global, reply: Reply) -> Result<String, Fault> {
     told_of(alloc, &reply)
 }
 
-fn no_reply(alloc: Global, fault: BadReply) -> Result<String, Fault> {
+fn no_reply(alloc: Global, fault: Bad) -> Result<String, Fault> {
     match fault {
-        BadReply::Form => Ok(String::from_str(alloc, "no stored reply")?),
-        BadReply::Memory => Err(Fault::Memory),
+        Bad::Form => Ok(String::from_str(alloc, "no stored reply")?),
+        Bad::Memory => Err(Fault::Memory),
     }
 }
 

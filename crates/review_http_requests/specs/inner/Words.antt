@@ -3,9 +3,8 @@ use Rattle.std.specs.Prelude.{[], ◌<◌, ◌++◌, ℕ, List, length, ◌+◌,
 use Rattle.httparse.specs.Grammar.{RequestHead, ReadsRequest, print_request, NeverHasRequest, HasNoRequest, MayBecomeRequest}
 use Rattle.review_http_requests.specs.Heads.{Occurs, absent, once, again, envelope}
 use Rattle.review_http_requests.specs.Wire.{IsNotWhole, CallsFor, most_fields, HasManyFields, Follows}
-use Rattle.review_http_requests.specs.declared.envelope.Envelope.{Envelope}
-use Rattle.review_http_requests.specs.declared.fault.Refused.{Refused, TheVariants.Http, TheVariants.Memory}
-use Rattle.review_http_requests.specs.declared.{fault.RequestFault.RequestFault, fields.Field.Field}
+use Rattle.review_http_requests.specs.declared.{envelope.Envelope.Envelope, fault.RequestFault.RequestFault}
+use Rattle.review_http_requests.specs.declared.fields.Field.{Field}
 use Rattle.review_http_requests.specs.declared.fields.Field.TheVariants.{Absent, Once, Again}
 use Rattle.review_http_requests.specs.declared.{http_fault.HttpFault.HttpFault, judge.Head.Head}
 use Rattle.review_http_requests.specs.declared.judge.Head.TheVariants.{Asks, Partial}
@@ -29,9 +28,8 @@ Judges bytes ended (Ok (Whole d)) = CallsFor bytes ended (Ok d)
 Judges bytes ended (Ok (Wants n)) = (ended ≡ false) × IsNotWhole bytes × WaitsFor n bytes
 Judges bytes ended (Err request.Empty) = (ended ≡ true) × (bytes ≡ [])
 Judges bytes ended (Err (request.Http f)) = CallsFor bytes ended (Err f)
-Judges bytes ended (Err request.Read) = ⊥
-Judges bytes ended (Err request.Reads) = ⊥
 Judges bytes ended (Err request.Memory) = Unit {0}
+Judges bytes ended (Err _) = ⊥
 
 -- a head of few fields stands at the front
 abbrev pub Stands : List ℕ → RequestHead → Type 0
@@ -44,23 +42,17 @@ IsFaultOf buf f =
     ⊎ ((f ≡ faults.HeadTooLarge) × HasManyFields buf)
 
 -- what stands at the front of the bytes, or the fault of it
-abbrev pub HeadIs : List ℕ → Result Head Refused → Type 0
+abbrev pub HeadIs : List ℕ → Result Head RequestFault → Type 0
 HeadIs buf (Ok (Asks n a)) = (h : RequestHead) × Stands buf h × (n ≡ length (print_request h)) × (n ≤ length buf) × (envelope h ≡ Ok a)
 HeadIs buf (Ok Partial) = HasNoRequest buf × MayBecomeRequest buf
-HeadIs buf (Err (Http f)) = IsFaultOf buf f
-HeadIs buf (Err Memory) = Unit {0}
+HeadIs buf (Err (request.Http f)) = IsFaultOf buf f
+HeadIs buf (Err request.Memory) = Unit {0}
+HeadIs buf (Err _) = ⊥
 
 -- what the bytes after a head that ends there, and the end of the input, say of what it asked for
 abbrev pub Finishes : Envelope → ℕ → List ℕ → Bool → Result Look RequestFault → Type 0
 Finishes a end rest ended (Ok (Whole d)) = Follows (Ok a) rest ended (Ok d)
 Finishes a end rest ended (Ok (Wants n)) = (ended ≡ false) × (length rest < a.length) × (n ≤ end + a.length)
-Finishes a end rest ended (Err request.Empty) = ⊥
 Finishes a end rest ended (Err (request.Http f)) = Follows (Ok a) rest ended (Err f)
-Finishes a end rest ended (Err request.Read) = ⊥
-Finishes a end rest ended (Err request.Reads) = ⊥
 Finishes a end rest ended (Err request.Memory) = Unit {0}
-
--- the fault of a request that one of its parts is
-abbrev pub request_fault : Refused → RequestFault
-request_fault (Http f) = request.Http f
-request_fault Memory = request.Memory
+Finishes a end rest ended (Err _) = ⊥

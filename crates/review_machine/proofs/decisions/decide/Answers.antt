@@ -2,9 +2,9 @@ use Rattle.std.proofs.Common.{IfOk, Option, Result, Ok, Err, ◌≡◌, ◌<◌,
 use Rattle.review_words.specs.{History.Entry, History.is_account, declared.command.Command.Command}
 use Rattle.review_words.specs.declared.reply.{NotTaken.NotTaken, Refusal.TheVariants.UnknownCaller, Reply.Reply}
 use Rattle.review_machine_rows.specs.{Answer.most_requests, Changes.Reading, Decisions.RestsOn, Files.File}
-use Rattle.review_machine_rows.specs.{Steps.OfCommand, View.AreEnough, View.IsDecidedAt}
-use Rattle.review_machine_rows.specs.declared.rows.{Delta.Delta, Rows.Rows}
-use Rattle.review_machine_accounts.proofs.Decided.{refused_pair_in, caller_is, unknown_refused}
+use Rattle.review_machine_rows.specs.{Steps.OfCommand, View.AreEnough, View.IsDecidedAt, declared.rows.Delta.Delta}
+use Rattle.{review_machine_rows.specs.declared.rows.Rows.Rows, review_machine_laws.proofs.Checked.caller_is}
+use Rattle.review_machine_accounts.proofs.Decided.{refused_pair_in, unknown_refused}
 use Rattle.review_machine.proofs.decisions.decide.Goals as goal
 
 -- what is decided for an account is decided, where rows know that the caller is one

@@ -1,5 +1,5 @@
 use Rattle.std.proofs.Common.{◌∙◌, sym}
-use Rattle.review_machine_accounts.proofs.Told.{asker_is, unknown_asker}
+use Rattle.review_machine_laws.proofs.Told.{asker_is, unknown_asker}
 use Rattle.review_machine_accounts.proofs.callers.is_asker.Goals as goal
 
 pub returns-clause-told : goal.returns-clause-told

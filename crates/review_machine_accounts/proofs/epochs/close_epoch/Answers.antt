@@ -1,21 +1,21 @@
 use Rattle.std.proofs.Common.{◌≡◌, true, false, refl, sym, ◌∙◌, arith}
 use Rattle.std.specs.Prelude.{nat_le, nat_lt}
 use Rattle.review_machine_rows.proofs.Common.{CloseEpoch, EpochAhead, NotAdmin, Refused, SameState, least_open, nat_tests}
-use Rattle.review_machine_accounts.proofs.Decided.{close_answer, close_refused, close_decided, admin_is, asked_beside}
-use Rattle.review_machine_accounts.proofs.Told.{least_told}
+use Rattle.review_machine_laws.proofs.{Checked.admin_is, Checked.asked_beside, Told.least_told}
+use Rattle.review_machine_accounts.proofs.Decided.{close_answer, close_refused, close_decided}
 use Rattle.review_machine_accounts.proofs.epochs.close_epoch.Goals as goal
 
 pub returns-then-not-admin-clause-decided : goal.returns-then-not-admin-clause-decided
 returns-then-not-admin-clause-decided c = λ reading effective h known l.
     let a = c.args in
-    let admin = sym (admin_is h a.caller (CloseEpoch a.least) a.rows.now l) ∙ (sym c.in_ok-admin.ensures ∙ c.if-not-admin.true) in
+    let admin = sym (admin_is h a.caller (CloseEpoch a.least) a.rows.now refl l) ∙ (sym c.in_ok-admin.ensures ∙ c.if-not-admin.true) in
     close_refused h a.caller a.epoch a.least c.refused.result NotAdmin c.refused.ensures.empty c.refused.ensures.reply
     (close_answer reading h a.caller a.epoch a.least (Refused NotAdmin) true false (nat_le a.least a.epoch) (nat_lt (least_open h) a.least) known admin refl refl refl)
 
 pub returns-then-get-clause-decided : goal.returns-then-get-clause-decided
 returns-then-get-clause-decided c = λ reading effective h known l.
     let a = c.args in
-    let admin = sym (admin_is h a.caller (CloseEpoch a.least) a.rows.now l) ∙ (sym c.in_ok-admin.ensures ∙ c.if-not-admin.false) in
+    let admin = sym (admin_is h a.caller (CloseEpoch a.least) a.rows.now refl l) ∙ (sym c.in_ok-admin.ensures ∙ c.if-not-admin.false) in
     let ahead : nat_le a.least a.epoch ≡ false = let t = c.if-get.true in let x = c.get.ensures.value in let y = c.get-2.ensures.value in grind (arith, nat_tests, t, x, y) in
     close_refused h a.caller a.epoch a.least c.refused-then-get.result EpochAhead c.refused-then-get.ensures.empty c.refused-then-get.ensures.reply
     (close_answer reading h a.caller a.epoch a.least (Refused EpochAhead) true true false (nat_lt (least_open h) a.least) known admin ahead refl refl)
@@ -23,7 +23,7 @@ returns-then-get-clause-decided c = λ reading effective h known l.
 pub returns-then-from-number-clause-decided : goal.returns-then-from-number-clause-decided
 returns-then-from-number-clause-decided c = λ reading effective h known l.
     let a = c.args in
-    let admin = sym (admin_is h a.caller (CloseEpoch a.least) a.rows.now l) ∙ (sym c.in_ok-admin.ensures ∙ c.if-not-admin.false) in
+    let admin = sym (admin_is h a.caller (CloseEpoch a.least) a.rows.now refl l) ∙ (sym c.in_ok-admin.ensures ∙ c.if-not-admin.false) in
     let within : nat_le a.least a.epoch ≡ true = let t = c.if-get.false in let x = c.get.ensures.value in let y = c.get-2.ensures.value in grind (arith, nat_tests, t, x, y) in
     let told = c.number.ensures ∙ least_told reading h a.rows.now l.agree (asked_beside h a.caller (CloseEpoch a.least) a.rows.now l).0 in
     let same : nat_lt (least_open h) a.least ≡ false = let t = c.if-from-number.true in let x = c.get-3.ensures.value in let y = c.from.ensures in grind (arith, nat_tests, t, x, y, told) in
@@ -33,7 +33,7 @@ returns-then-from-number-clause-decided c = λ reading effective h known l.
 pub returns-clause-decided : goal.returns-clause-decided
 returns-clause-decided c = λ reading effective h known l.
     let a = c.args in
-    let admin = sym (admin_is h a.caller (CloseEpoch a.least) a.rows.now l) ∙ (sym c.in_ok-admin.ensures ∙ c.if-not-admin.false) in
+    let admin = sym (admin_is h a.caller (CloseEpoch a.least) a.rows.now refl l) ∙ (sym c.in_ok-admin.ensures ∙ c.if-not-admin.false) in
     let within : nat_le a.least a.epoch ≡ true = let t = c.if-get.false in let x = c.get.ensures.value in let y = c.get-2.ensures.value in grind (arith, nat_tests, t, x, y) in
     let told = c.number.ensures ∙ least_told reading h a.rows.now l.agree (asked_beside h a.caller (CloseEpoch a.least) a.rows.now l).0 in
     let more : nat_lt (least_open h) a.least ≡ true = let t = c.if-from-number.false in let x = c.get-3.ensures.value in let y = c.from.ensures in grind (arith, nat_tests, t, x, y, told) in

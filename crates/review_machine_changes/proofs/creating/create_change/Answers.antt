@@ -1,16 +1,17 @@
 use Rattle.std.proofs.Common.{◌≡◌, ◌+◌, ◌∙◌, ap, sym, subst, length, true, arith, option_copied}
 use Rattle.review_names.specs.Forms.{is_within, most_changes}
 use Rattle.review_machine_rows.proofs.{Asked.requests_are, Common.CreateChange, Common.begun, Common.view}
-use Rattle.review_machine_accounts.proofs.Decided.{asked_beside, refused_pair}
+use Rattle.review_machine_laws.proofs.{Checked.asked_beside, Checked.create_change_told, Told.last_change_told}
+use Rattle.review_machine_accounts.proofs.Decided.{refused_pair}
 use Rattle.review_machine_changes.proofs.Made.{change_within, first_within, stored_numbers}
-use Rattle.review_machine_changes.proofs.Told.{create_decided, number_left, refused_told, last_change_told}
+use Rattle.review_machine_changes.proofs.Told.{create_decided, number_left}
 use Rattle.review_machine_changes.proofs.creating.create_change.Goals as goal
 
 pub returns-in-Some-clause-decided : goal.returns-in-Some-clause-decided
 returns-in-Some-clause-decided c = λ reading h room known l.
     let a = c.args in
     refused_pair h a.caller (CreateChange a.new.now) c.refused.result c.in-Some.refusal c.refused.ensures.empty c.refused.ensures.reply
-    (refused_told c.one_effective_file.ensures reading h a.caller a.new.now (option_copied a.effective) a.rows.now known l ∙ (sym c.in_ok-refusal.ensures ∙ c.in-Some.is))
+    (create_change_told reading h a.caller (option_copied a.effective) a.rows.now c.one_effective_file.ensures a.new.now known l ∙ (sym c.in_ok-refusal.ensures ∙ c.in-Some.is))
 
 pub next_change-change-requires : goal.next_change-change-requires
 next_change-change-requires c =
@@ -22,7 +23,7 @@ pub returns-clause-decided : goal.returns-clause-decided
 returns-clause-decided c = λ reading h room known l.
     let a = c.args in
     let command = CreateChange a.new.now in
-    let passes = refused_told c.one_effective_file.ensures reading h a.caller a.new.now (option_copied a.effective) a.rows.now known l ∙ (sym c.in_ok-refusal.ensures ∙ c.in_default.is) in
+    let passes = create_change_told reading h a.caller (option_copied a.effective) a.rows.now c.one_effective_file.ensures a.new.now known l ∙ (sym c.in_ok-refusal.ensures ∙ c.in_default.is) in
     let number = c.next_change-change.ensures ∙ ap (λ k. k + 1) (c.number.ensures ∙ last_change_told reading h a.rows.now l.agree (asked_beside h a.caller command a.rows.now l).1.0) in
     let many : c.number-2.result ≡ length h = c.number-2.ensures ∙ requests_are (view reading h) (option_copied a.effective) a.rows.now a.caller command l.agree l.nothing_left in
     let request : c.saturating_add-request.result ≡ length h + 1 = let e = c.saturating_add-request.ensures in omega arith in

@@ -1,6 +1,6 @@
 use Rattle.std.proofs.Common.{◌≡◌, map, drop}
 use Rattle.std.specs.{Int.int_max, Prelude.filter, Prelude.fold}
-use Rattle.{review_file_rules.specs.Rights.greatest_of, review_machine_changes.specs.Facts.in_rows}
+use Rattle.{review_file_rules.specs.Rights.greatest_of, review_machine_rows.specs.Desks.in_rows}
 use Rattle.review_machine_changes.proofs.ranges.greatest_in.Given as goal
 
 abbrev pub invariant-loop-grant : goal.invariant-loop-grant

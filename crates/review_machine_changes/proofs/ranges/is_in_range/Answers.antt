@@ -1,6 +1,6 @@
 use Rattle.std.proofs.Common.{◌≡◌, ◌∙◌, ◌&&◌, ap, rules, to_z, of_z, w8, filter, int_le}
 use Rattle.review_file_rules.specs.Rights.{greatest_of, least_of}
-use Rattle.review_machine_changes.specs.Facts.{in_rows}
+use Rattle.review_machine_rows.specs.Desks.{in_rows}
 use Rattle.review_machine_changes.proofs.ranges.is_in_range.Goals as goal
 
 pub returns : goal.returns

@@ -1,13 +1,10 @@
-use Rattle.std.proofs.Common.{◌≡◌, ◌+◌, ◌∙◌, ap, min, refl, subst}
-use Rattle.review_core_rules.specs.{Change.after_plain, Seen.seen}
-use Rattle.review_machine_changes.specs.Facts.{MakesChange, next_request}
+use Rattle.{std.proofs.Common.option_copied, std.proofs.lemmas.Result.IfOk-weaker, review_core_rules.specs.Seen.seen}
+use Rattle.review_machine_changes.proofs.Requested.{plain_unless, plainly_is_done}
 use Rattle.review_machine_changes.proofs.requests.done.Goals as goal
 
-pub returns-clause-made : goal.returns-clause-made
-returns-clause-made c =
+pub returns-in_default-clause-made : goal.returns-in_default-clause-made
+returns-in_default-clause-made c =
     let a = c.args in
-    let request : c.saturating_add-request.result ≡ next_request a.rows.now = c.saturating_add-request.ensures ∙ ap (λ n. min (n + 1) 18446744073709551615) c.number.ensures in
-    record {
-      made = subst (λ n. MakesChange a.change (seen a.file.now.rows.now) (after_plain a.command.now a.caller n (seen a.file.now.rows.now)) c.in_ok-delta.delta) request c.in_ok-delta.ensures.made;
-      reply_is = refl;
-    }
+    IfOk-weaker c.plainly_done.result _ _
+    (λ r made. plainly_is_done (option_copied a.effective) a.change a.command.now a.caller a.rows.now (seen a.file.now.rows.now) r.0 r.1 (plain_unless a.command.now c.in_default.not-Upload c.in_default.not-Review) made)
+    c.plainly_done.ensures.made

@@ -1,6 +1,7 @@
-use Rattle.std.proofs.Common.{◌∙◌, true, false, subst, sym, option_copied, IfOk}
+use Rattle.std.proofs.Common.{◌∙◌, refl, true, false, subst, sym, option_copied, IfOk}
 use Rattle.review_words.specs.declared.{command.Command.TheVariants.PutProject, reply.Refusal.TheVariants.NotAdmin}
-use Rattle.review_machine_accounts.proofs.Decided.{admin_is, refused_pair, project_refused}
+use Rattle.review_machine_laws.proofs.Checked.{admin_is}
+use Rattle.review_machine_accounts.proofs.Decided.{refused_pair, project_refused}
 use Rattle.review_machine_needs.proofs.Filed.{put_project_by, undecided_by, fault_by, unreadable_by}
 use Rattle.review_machine_needs.specs.inner.Files.{IsPut}
 use Rattle.review_machine_needs.proofs.projects.put_project.Goals as goal
@@ -9,15 +10,15 @@ pub returns-then-not-admin-clause-decided : goal.returns-then-not-admin-clause-d
 returns-then-not-admin-clause-decided c = λ reading h known l.
     let a = c.args in
     let command = PutProject a.project.now a.file.now in
-    let admin = sym (admin_is h a.caller command a.rows.now l) ∙ (sym c.in_ok-admin.ensures ∙ c.if-not-admin.true) in
-    refused_pair h a.caller command c.refused.result NotAdmin c.refused.ensures.empty c.refused.ensures.reply (project_refused reading h a.caller a.project.now a.file.now true false known admin)
+    let admin = sym (admin_is h a.caller command a.rows.now refl l) ∙ (sym c.in_ok-admin.ensures ∙ c.if-not-admin.true) in
+    refused_pair h a.caller command c.refused.result NotAdmin c.refused.ensures.empty c.refused.ensures.reply (project_refused reading h a.caller a.project.now a.file.now false known admin)
 
 pub returns-in-Ok-clause-decided : goal.returns-in-Ok-clause-decided
 returns-in-Ok-clause-decided c =
     let a = c.args in
     let new = c.in-Ok.new in
     put_project_by c.one_effective_file.ensures a.caller a.project.now a.file.now (option_copied a.effective) a.rows.now new.file c.put_file.result
-    (λ reading h l. sym (admin_is h a.caller (PutProject a.project.now a.file.now) a.rows.now l) ∙ (sym c.in_ok-admin.ensures ∙ c.if-not-admin.false))
+    (λ reading h l. sym (admin_is h a.caller (PutProject a.project.now a.file.now) a.rows.now refl l) ∙ (sym c.in_ok-admin.ensures ∙ c.if-not-admin.false))
     c.in-Ok.ensures.read
     (subst (λ t. IfOk c.put_file.result (λ r. IsPut a.rows.now (option_copied a.effective) a.project.now (record { text = t; parent = new.file.parent }) new.file r.0 r.1)) c.in-Ok.ensures.text c.put_file.ensures.put)
 
@@ -29,7 +30,7 @@ pub returns-in-Err-clause-decided : goal.returns-in-Err-clause-decided
 returns-in-Err-clause-decided c =
     let a = c.args in
     fault_by a.caller a.project.now a.file.now (option_copied a.effective) a.rows.now c.in-Err.fault c.refuse_file.result
-    (λ reading h l. sym (admin_is h a.caller (PutProject a.project.now a.file.now) a.rows.now l) ∙ (sym c.in_ok-admin.ensures ∙ c.if-not-admin.false))
+    (λ reading h l. sym (admin_is h a.caller (PutProject a.project.now a.file.now) a.rows.now refl l) ∙ (sym c.in_ok-admin.ensures ∙ c.if-not-admin.false))
     c.in-Err.ensures.fault c.refuse_file.ensures.file
 
 pub returns-in-Err-clause-cause : goal.returns-in-Err-clause-cause

@@ -2,7 +2,7 @@ use Rattle.std.proofs.Common.{◌∙◌, true, false, refl, sym, ap}
 use Rattle.review_words.specs.{History.bases, History.is_branch, declared.command.Query.TheVariants.Branch}
 use Rattle.review_words.specs.declared.reply.Refusal.TheVariants.{NoProject, NoBranch}
 use Rattle.review_machine_rows.specs.Known.{known, commits_of, joined_of}
-use Rattle.review_machine_accounts.proofs.Told.{refused_question, told_question}
+use Rattle.review_machine_laws.proofs.Told.{refused_question, told_question}
 use Rattle.review_machine_submits.proofs.Loaded.{joined_asked, project_asked, bases_asked, none_there, some_there, branch_refused}
 use Rattle.review_words.specs.declared.reply.Answer.TheVariants as made
 use Rattle.review_machine_rows.specs.declared.rows.Want.TheVariants as want

@@ -1,19 +1,16 @@
-use Rattle.std.proofs.Common.{◌∙◌, ap, subst, sym, option_copied, option_map}
+use Rattle.std.proofs.Common.{◌∙◌, Some, ap, subst, sym, option_copied, option_map}
 use Rattle.review_machine_rows.proofs.Common.{AreEnough, Damaged, IfErr-weaker, IfOk-weaker, IsUndecided, NoChange, OfCommand, Submit, not-true, seen}
-use Rattle.review_machine_laws.proofs.Changes.{all_pass}
-use Rattle.review_machine_accounts.proofs.Decided.{asked_beside, refused_pair}
-use Rattle.review_machine_changes.proofs.Told.{change_told}
-use Rattle.review_machine_submits.proofs.Decided.{submit_decided, lacking_undecided, none_there, refused_told, unchained_undecided}
-use Rattle.review_machine_submits.specs.Submits.{submit_list}
+use Rattle.review_machine_rows.specs.{Answer.submit_checks, Desks.facts_by}
+use Rattle.{review_machine_laws.proofs.Changes.all_pass, review_machine_accounts.proofs.Decided.refused_pair}
+use Rattle.review_machine_submits.proofs.Decided.{absent_told, submit_decided, lacking_undecided, refused_told, unchained_undecided}
 use Rattle.review_machine_submits.proofs.submitting.submit.Goals as goal
 
 pub returns-in_default-clause-decided : goal.returns-in_default-clause-decided
 returns-in_default-clause-decided c = λ reading h room history account l.
     let a = c.args in
     refused_pair h a.caller (Submit a.change) c.refused.result NoChange c.refused.ensures.empty c.refused.ensures.reply
-    (none_there reading h a.caller a.change account
-    (sym (change_told reading h a.rows.now a.change l.agree (asked_beside h a.caller (Submit a.change) a.rows.now l).0)
-    ∙ (sym c.change.ensures ∙ ap (λ o. option_map (λ r. seen r) (option_copied o)) c.in_default.is)))
+    (absent_told c.one_effective_file.ensures reading h a.caller a.change (option_copied a.effective) a.rows.now account
+    (sym c.change.ensures ∙ ap (λ o. option_map (λ r. seen r) (option_copied o)) c.in_default.is) l)
 
 pub returns-in_default-effective-clause-cause : goal.returns-in_default-effective-clause-cause
 returns-in_default-effective-clause-cause c =
@@ -49,7 +46,7 @@ returns-clause-cause c =
     let a = c.args in
     let x = seen c.in-Some.found.now in
     let there = sym c.change.ensures ∙ ap (λ o. option_map (λ r. seen r) (option_copied o)) c.in-Some.is in
-    let pass = all_pass (submit_list c.in-Some-effective.file.now a.rows.now a.caller x) (sym c.in_ok-refusal.ensures ∙ c.in_default-refusal.is) in
+    let pass = all_pass (submit_checks (facts_by a.rows.now (Some c.in-Some-effective.file.now)) a.caller x) (sym c.in_ok-refusal.ensures ∙ c.in_default-refusal.is) in
     IfErr-weaker c.submit_chain.result _ _
     (λ e is. unchained_undecided c.changes_are_sound.ensures c.branches_are_whole.ensures c.rows_are_parts.ensures.part c.wants_are_unknown.ensures a.caller a.change (option_copied a.effective) a.rows.now x there pass.1.0 (not-true x.wip pass.1.1.0) e is)
     c.submit_chain.ensures.cause

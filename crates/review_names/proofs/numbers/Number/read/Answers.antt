@@ -1,7 +1,7 @@
 use Rattle.std.proofs.Common.{◌≡◌, Some, None, refl, sym, ap, ◌∙◌}
 use Rattle.std.specs.Prelude.{ok_or}
 use Rattle.review_names.proofs.Spans.{most_fits, unread, told, refused}
-use Rattle.review_names.specs.{Numerals.number_of, declared.names.BadName.TheVariants.Form}
+use Rattle.review_names.specs.{Numerals.number_of, declared.names.Bad.TheVariants.Form}
 use Rattle.review_names.proofs.numbers.Number.read.Goals as goal
 
 pub returns-in_default-clause-form : goal.returns-in_default-clause-form

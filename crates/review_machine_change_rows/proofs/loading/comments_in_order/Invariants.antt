@@ -1,7 +1,0 @@
-use Rattle.std.proofs.Common.{◌≡◌, ◌++◌}
-use Rattle.{review_table.specs.Rows.rows_of, review_machine_change_rows.specs.inner.Words.numbered}
-use Rattle.review_machine_change_rows.proofs.loading.comments_in_order.Given as goal
-
--- the rows so far and those that are left are all
-abbrev pub invariant-loop-number : goal.invariant-loop-number
-invariant-loop-number l = numbered 0 l.comments.items ++ l.number-iterator.rest.items ≡ rows_of l.fn.table
