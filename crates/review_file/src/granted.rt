@@ -11,7 +11,7 @@ use review_words::{AccountNo, Groups, LabelName};
 
 /// Whether an account is in one of the groups that have a right. This takes no memory.
 pub fn may(file: &ProjectFile, right: Right, account: AccountNo, groups: &Groups) -> bool
-    ensures { result ≡ may file.now right account groups.now }
+    ensures { result ≡ may file.now right (λ group. has_account groups.now group account) }
 {
     file.groups(right)
         .iter()
@@ -61,8 +61,8 @@ pub fn range_of(
     account: AccountNo,
     groups: &Groups,
 ) -> (i8, i8)
-    ensures least { result.0 ≡ least_of (granted file.now label.now account groups.now) }
-    ensures greatest { result.1 ≡ greatest_of (granted file.now label.now account groups.now) }
+    ensures least { result.0 ≡ least_of (granted file.now label.now (λ group. has_account groups.now group account)) }
+    ensures greatest { result.1 ≡ greatest_of (granted file.now label.now (λ group. has_account groups.now group account)) }
     ensures values { IfSome (find (λ l. bytes_eq l.name label.now) file.now.labels) (λ l. (is_value l.values result.0 ≡ true) × (is_value l.values result.1 ≡ true)) }
 {
     file.facts();

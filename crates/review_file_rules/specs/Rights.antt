@@ -1,7 +1,7 @@
 -- What a project file gives an account, and when one file covers another.
 use Rattle.std.specs.{Int.int_min, Int.int_max, List.list_all, List.list_any, Option.option_map_or, Ordering.int_eq}
 use Rattle.std.specs.Prelude.{ℕ, ℤ, pos, List, [], Bool, ◌&&◌, map, filter, find, fold}
-use Rattle.{std.specs.Str.bytes_eq, review_names.specs.Groups.GroupList, review_names.specs.Groups.has_account}
+use Rattle.std.specs.Str.{bytes_eq}
 use Rattle.review_file_rules.specs.View.{AccessView, LabelView, FileView}
 use Rattle.review_file_rules.specs.declared.parts.{Grant.Grant, Right.Right}
 use Rattle.review_file_rules.specs.declared.parts.Right.TheVariants.{Create, Upload, Submit, Abandon}
@@ -33,17 +33,17 @@ groups_of Upload access = access.upload
 groups_of Submit access = access.submit
 groups_of Abandon access = access.abandon
 
--- an account is in one of the groups of a right
-abbrev pub may : {A : Type 0} → FileView A → Right → ℕ → GroupList → Bool
-may file right account groups = list_any (λ group. has_account groups group account) (groups_of right file.access)
+-- a file gives a right to an account that is in these groups: it is in one of those of the right
+abbrev pub may : {A : Type 0} → FileView A → Right → (List ℕ → Bool) → Bool
+may file right is_in = list_any is_in (groups_of right file.access)
 
 -- the grants of a label; none where the file doesn't have it
 abbrev pub grants_of : {A : Type 0} → FileView A → List ℕ → List Grant
 grants_of file name = option_map_or (λ l. l.grants) (find (λ l. bytes_eq l.name name) file.labels) []
 
--- the grants to an account's groups
-abbrev pub granted : {A : Type 0} → FileView A → List ℕ → ℕ → GroupList → List Grant
-granted file label account groups = filter (λ g. has_account groups g.group account) (grants_of file label)
+-- the grants of a label to an account that is in these groups
+abbrev pub granted : {A : Type 0} → FileView A → List ℕ → (List ℕ → Bool) → List Grant
+granted file label is_in = filter (λ g. is_in g.group) (grants_of file label)
 
 -- the least of 0 and the least values of the ranges that are granted to an account
 abbrev pub least_of : List Grant → ℤ

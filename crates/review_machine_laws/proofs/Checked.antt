@@ -15,7 +15,7 @@ use Rattle.review_core_rules.specs.Change.{Change, label_in}
 use Rattle.review_machine_rows.proofs.Asked.{all_asked, beside_caller, change_asked, file_asked, line_asked}
 use Rattle.review_machine_rows.proofs.Common.{ChangeCommand, Command, Expr, ExprTree, File, LabelView, option_map_or}
 use Rattle.review_machine_rows.proofs.Lined.{texts_told, there_is}
-use Rattle.review_machine_rows.specs.Answer.{checks, first_refusal, given_checks, granted, has_right, is_in_range, is_value_of, of_change, refused_by, request_checks, submit_checks}
+use Rattle.review_machine_rows.specs.Answer.{checks, first_refusal, given_checks, has_right, is_in_range, is_value_of, of_change, refused_by, request_checks, submit_checks}
 use Rattle.review_machine_rows.specs.Changes.{Reading, Reads, change, effective_of, file_of, groups_of, own_of, texts_of}
 use Rattle.review_machine_rows.specs.{Desks.facts_by, Desks.facts_in, Desks.facts_of, Desks.in_rows, Facts.DeskFacts}
 use Rattle.review_machine_rows.specs.Known.{IsKnown, change_in, is_so, is_there, known}

@@ -1,6 +1,6 @@
 -- The answer to a command, and which lists of entries are histories.
 use Rattle.std.specs.{Bool.MatchBool, List.list_all, List.list_any, Option.option_map_or, Ordering.int_eq}
-use Rattle.std.specs.Prelude.{filter, ℕ, ◌+◌, ◌<◌, ◌≡◌, ◌⊎◌, ◌==◌, List, [], ◌∷◌, ◌++◌, Option, Some, None, Bool, true, false, not, is_some, nat_le, nat_lt, int_le, ◌&&◌, ◌||◌, length, if◌then◌else◌, MatchOption}
+use Rattle.std.specs.Prelude.{ℕ, ◌+◌, ◌<◌, ◌≡◌, ◌⊎◌, ◌==◌, List, [], ◌∷◌, ◌++◌, Option, Some, None, Bool, true, false, not, is_some, nat_le, nat_lt, int_le, ◌&&◌, ◌||◌, length, if◌then◌else◌, MatchOption}
 use Rattle.std.specs.Str.{bytes_eq}
 use Rattle.review_names.specs.Forms.{is_within, most_changes, most_patches, most_comments}
 use Rattle.review_names.specs.Names.{registered_users}
@@ -18,8 +18,8 @@ use Rattle.review_words.specs.declared.reply.Refusal.{Refusal}
 use Rattle.review_words.specs.declared.reply.Refusal.TheVariants.{UnknownCaller, NotAdmin, NoProject, NoBranch, NoChange, NoPatchSet, NoAccount, NoComment, NotAllowed, Closed, SameState, WorkInProgress, StalePatchSet, NoLabel, ValueOut, VoteRestricted, CommitKnown, UnknownParent, NotEligible, NameTaken, BadFile, LabelNarrowed, Limit, NoParent, ParentFixed, ParentDepth, EpochAhead}
 use Rattle.review_words.specs.declared.reply.Reply.{Reply, TheVariants.Done, TheVariants.Refused}
 use Rattle.review_file_rules.specs.{Inherited.inherit, Inherited.inherits_unknown_label, Reading.has_parent_key}
-use Rattle.review_file_rules.specs.Rights.{grants_of, greatest_of, groups_of, least_of}
-use Rattle.review_file_rules.specs.declared.parts.{Grant.Grant, Right.Right}
+use Rattle.review_file_rules.specs.Rights.{granted, greatest_of, least_of, may}
+use Rattle.review_file_rules.specs.declared.parts.Right.{Right}
 use Rattle.review_core_rules.specs.Change.{Change, carried, copying, current, eligible, is_lost, is_open, is_reviewer, label_in, reviewed, said}
 use Rattle.review_core_rules.specs.{Counts.AreMany, Shown.is_cc, Sound.answer_stored, Votes.voted}
 use Rattle.review_machine_rows.specs.Changes.{Reading, Reads, change, change_count, depth, file_of, own_of, setting_of}
@@ -30,9 +30,9 @@ use Rattle.review_file_rules.specs.declared.parts.Right.TheVariants as right
 pub use Rattle.review_machine_rows.specs.Limits.{most_requests, most_accounts, most_projects, most_bases}
 pub use Rattle.review_machine_rows.specs.Submits.{IsOf, is_merged}
 
--- whether an account has a right, by a file: it is in one of the groups of the right
+-- whether an account has a right, by a file
 abbrev pub has_right : DeskFacts → File → Right → ℕ → Bool
-has_right facts file right account = list_any (facts.is_in account) (groups_of right file.access)
+has_right facts file right account = may file right (facts.is_in account)
 
 -- the checks of a new patch set in a branch: its commit is new there, and what it stands on is known
 abbrev pub commit_checks : DeskFacts → List ℕ → List ℕ → List ℕ → List ℕ → List (Bool × Refusal)
@@ -48,13 +48,9 @@ upload_checks facts caller p c =
 abbrev pub is_value_of : File → Given → Bool
 is_value_of file g = option_map_or (λ label. list_any (λ v. int_eq v.0 g.value) label.values) (label_in file g.label) false
 
--- what a file grants the groups of an account on a label
-abbrev pub granted : DeskFacts → File → List ℕ → ℕ → List Grant
-granted facts file label account = filter (λ grant. facts.is_in account grant.group) (grants_of file label)
-
 -- whether a value lies in the range of an account on a label, by a file: from the least of 0 and what its groups are granted to the greatest
 abbrev pub is_in_range : DeskFacts → File → ℕ → Given → Bool
-is_in_range facts file account g = int_le (least_of (granted facts file g.label account)) g.value && int_le g.value (greatest_of (granted facts file g.label account))
+is_in_range facts file account g = int_le (least_of (granted file g.label (facts.is_in account))) g.value && int_le g.value (greatest_of (granted file g.label (facts.is_in account)))
 
 -- the checks of values on labels of a change, each over all of them, by the file of its project; none where no values are given
 abbrev pub given_checks : DeskFacts → File → ℕ → ReviewOf → Change → List Given → List (Bool × Refusal)
