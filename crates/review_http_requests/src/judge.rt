@@ -7,7 +7,7 @@ ghost use Rattle.review_http_requests.specs.inner.Words.{Judges, WaitsFor, HeadI
 use crate::envelope::Envelope;
 use crate::fault::unless_memory;
 use crate::head::envelope_by;
-use crate::{HttpFault, RequestFault, Routes};
+use crate::{HttpFault, RequestFault, PathTable};
 use httparse::spans::{EMPTY_HEADER_SPAN, parse_request};
 use httparse::{Error, Status};
 use review_json_routes::{command_of, query_of};
@@ -33,7 +33,7 @@ pub enum Head {
 }
 
 /// The head at the front of the bytes.
-fn head_of(alloc: Global, routes: &Routes, bytes: &[u8]) -> Result<Head, RequestFault>
+fn head_of(alloc: Global, paths: &PathTable, bytes: &[u8]) -> Result<Head, RequestFault>
     ensures { HeadIs bytes.now result }
 {
     let mut headers = [EMPTY_HEADER_SPAN; 64];
@@ -42,7 +42,7 @@ fn head_of(alloc: Global, routes: &Routes, bytes: &[u8]) -> Result<Head, Request
             let method = spans.method.of(bytes);
             let target = spans.path.of(bytes);
             let found = &headers[..spans.headers];
-            let envelope = envelope_by(alloc, routes, method, target, bytes, found)?;
+            let envelope = envelope_by(alloc, paths, method, target, bytes, found)?;
             Ok(Head::Asks(spans.len, envelope))
         }
         Ok(Status::Partial) => Ok(Head::Partial),
@@ -140,13 +140,13 @@ fn body_from(bytes: &[u8], end: usize) -> &[u8]
 /// The delivery or the fault that the bytes so far call for, if they are enough for one.
 pub fn judge(
     alloc: Global,
-    routes: &Routes,
+    paths: &PathTable,
     bytes: &[u8],
     ended: bool,
 ) -> Result<Look, RequestFault>
     ensures { Judges bytes.now ended result }
 {
-    match head_of(alloc, routes, front_of(bytes))? {
+    match head_of(alloc, paths, front_of(bytes))? {
         Head::Asks(end, envelope) => finish(alloc, envelope, end, body_from(bytes, end), ended),
         Head::Partial => unfinished(bytes, ended),
     }
@@ -155,7 +155,7 @@ pub fn judge(
 /// Judges the bytes once enough of them are there: fewer than are wanted are no whole request, and are not looked at before more have come, or the end of the input.
 pub fn judge_enough(
     alloc: Global,
-    routes: &Routes,
+    paths: &PathTable,
     bytes: &[u8],
     ended: bool,
     wanted: usize,
@@ -166,5 +166,5 @@ pub fn judge_enough(
     if !ended && bytes.len() < wanted {
         return Ok(Look::Wants(wanted));
     }
-    judge(alloc, routes, bytes, ended)
+    judge(alloc, paths, bytes, ended)
 }
