@@ -7,7 +7,7 @@ ghost use Rattle.review_http_requests.specs.inner.Words.{seen};
 use crate::envelope::Envelope;
 use crate::fault::unless_memory;
 use crate::fields::{Field, fields_of, number_shown, one_value};
-use crate::{HttpFault, RequestFault, PathTable, route_of};
+use crate::{HttpFault, PathTable, RequestFault, route_of};
 use httparse::spans::HeaderSpan;
 use review_json_routes::{Route, is_question, name_of_bytes, needs_body};
 use review_names::{read_account, read_number};

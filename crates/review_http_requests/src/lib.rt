@@ -42,5 +42,5 @@ pub use request_laws::{
     waiting_calls_for_nothing,
 };
 pub use routing::route_of;
-pub use table::{Resource, PathTable};
+pub use table::{PathTable, Resource};
 pub use writing::{WriteFault, write_and_flush};

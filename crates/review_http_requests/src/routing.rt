@@ -5,7 +5,7 @@ ghost use Rattle.review_http_requests.specs.Heads.{Answers, route_of};
 ghost use Rattle.review_http_requests.specs.Routes.{segment, name_in, account_in, patch_in, methods_of, branch_at, change_at, on_change, attention_at, route_at};
 
 use crate::fault::unless_memory;
-use crate::{HttpFault, Methods, Resource, RequestFault, PathTable};
+use crate::{HttpFault, Methods, PathTable, RequestFault, Resource};
 use percent_encoding::percent_decode;
 use review_json_routes::{ChangeRoute, Route, name_of_bytes};
 use review_names::{Bad, read_account, read_number};

@@ -31,7 +31,11 @@ pub enum Resource {
     EpochsClose,
 }
 
-fn insert_path(router: &mut Router<Resource>, text: &str, resource: Resource) -> Result<(), InsertError>
+fn insert_path(
+    router: &mut Router<Resource>,
+    text: &str,
+    resource: Resource,
+) -> Result<(), InsertError>
     ensures { OnOk result (router.new ≡ with_path text.now resource router.old) }
 {
     router.insert(text, resource)
