@@ -20,7 +20,7 @@ STACKS = {
     "body": [READ + " review_json_routes::command_of review_json_routes::given_of review_names::Name::read review_names::Name::of_form"],
     "recall": [TAKEN + " review_sql::SqlShelf::recall review_sql_tables::find review_sql_tables::select"],
     "look-ups": [
-        TAKEN + " review_machine_deliveries::first_arrival review_sql::SqlShelf::load review_sql_change_lookups::find_change review_sql_tables::find_parts review_sql_change_records::Votes::read review_sql_change_records::integer_at",
+        TAKEN + " review_machine_deliveries::first_arrival review_sql::SqlShelf::load review_sql_change_lookups::find_change review_sql_tables::find_parts review_sql_change_records::Votes::read review_sql_change_records::vote_at",
     ],
     "decision": [
         TAKEN + " review_machine_deliveries::first_arrival review_machine::DeskRules::decide review_machine_changes::reviewed review_core::ChangeFile::with_review review_core_tables::give review_table::Edited::set",

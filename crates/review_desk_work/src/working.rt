@@ -13,7 +13,7 @@ use crate::notices::Notices;
 use crate::task::{Ends, Task};
 use crate::{ShowFault, joined_lines, show_lines};
 use review_http::{Connections, ConnectionsFault, serve_connections};
-use review_http_requests::Routes;
+use review_http_requests::PathTable;
 use review_json_lines::{Fault, Outcome, apply_lines};
 use review_machine_deliveries::{Rules, restart_completes, runs_compose, runs_go_on};
 use review_machine_rows::Shelf;
@@ -226,10 +226,10 @@ fn serve_on_shelf<C: Connections, S: Shelf, D: Rules>(
         ((result ≡ Err ProgramFault.Memory) × (shelf.new ≡ shelf.old) × (after ≡ before)) ⊎ EndsServed S.state count before after result shelf.old shelf.new }
     ensures idle { C.is_idle connections.new ≡ true }
 {
-    let Ok(routes) = Routes::new(alloc) else {
+    let Ok(paths) = PathTable::new(alloc) else {
         return Err(ProgramFault::Memory);
     };
-    serve_outcome(serve_connections(alloc, &routes, connections, count, shelf, rules))
+    serve_outcome(serve_connections(alloc, &paths, connections, count, shelf, rules))
 }
 
 fn serve_outcome(served: Result<u32, ConnectionsFault>) -> Result<Outcome, ProgramFault>

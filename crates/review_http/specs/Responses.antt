@@ -60,7 +60,7 @@ text_of (Err fault) = compact_text (fault_data fault)
 unfoldable pub status_line : ℕ → List ℕ
 status_line status = status_text status
 
--- the methods that a path takes, where one was asked for that is none of them
+-- the methods that a resource takes, where one was asked for that is none of them
 abbrev pub allow_line : Result Reply HttpFault → List ℕ
 allow_line (Err (Method methods)) = codes "Allow: " ++ methods_text methods ++ codes "\r\n"
 allow_line told = []

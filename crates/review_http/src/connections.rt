@@ -4,7 +4,7 @@ ghost use Rattle.review_words.specs.declared.{command.Delivery.Delivery, reply.R
 ghost use Rattle.review_http.specs.Peers.{ServedOne, ServedAll, WereTold};
 
 use crate::serve::serve_request;
-use review_http_requests::{Counted, Routes};
+use review_http_requests::{Counted, PathTable};
 use review_machine_deliveries::Rules;
 use review_machine_rows::Shelf;
 use std::alloc::Global;
@@ -65,7 +65,7 @@ pub enum ConnectionsFault {
 /// Serves a connection, whatever becomes of it, and closes it.
 fn serve_connection<C: Connections, S: Shelf, D: Rules>(
     alloc: Global,
-    routes: &Routes,
+    paths: &PathTable,
     connections: &mut C,
     reader: C::Reader,
     writer: C::Writer,
@@ -81,7 +81,7 @@ fn serve_connection<C: Connections, S: Shelf, D: Rules>(
 {
     let mut reader = Counted::new(reader);
     let mut writer = Counted::new(writer);
-    let _ = serve_request(alloc, routes, &mut reader, &mut writer, shelf, rules);
+    let _ = serve_request(alloc, paths, &mut reader, &mut writer, shelf, rules);
     connections.close(reader.into_inner(), writer.into_inner());
 }
 
@@ -96,7 +96,7 @@ fn serve_connection<C: Connections, S: Shelf, D: Rules>(
 /// An error where it can't be listened for connections, or one can't be accepted; the connections before it were served.
 pub fn serve_connections<C: Connections, S: Shelf, D: Rules>(
     alloc: Global,
-    routes: &Routes,
+    paths: &PathTable,
     connections: &mut C,
     count: u32,
     shelf: &mut S,
@@ -114,7 +114,7 @@ pub fn serve_connections<C: Connections, S: Shelf, D: Rules>(
             return Ok(count - served);
         }
         let (reader, writer) = connections.accept()?;
-        serve_connection(alloc, routes, connections, reader, writer, shelf, rules);
+        serve_connection(alloc, paths, connections, reader, writer, shelf, rules);
     }
     Ok(0)
 }

@@ -50,7 +50,7 @@ fn put_number(out: &mut Vec<u8>, alloc: Global, n: u64) -> Result<(), AllocError
     out.extend_from_slice(text.as_bytes())
 }
 
-/// Puts the methods that a path takes, where one was asked for that is none of them.
+/// Puts the methods that a resource takes, where one was asked for that is none of them.
 fn put_allow(out: &mut Vec<u8>, told: &Result<Reply, HttpFault>) -> Result<(), AllocError>
     ensures { OnOk result (out.new.items ≡ out.old.items ++ allow_line told.now) }
 {

@@ -8,7 +8,7 @@ ghost use Rattle.review_http.specs.Served.{IsWritten, WasServed};
 use crate::response::response_of;
 use crate::status::status_of;
 use review_http_requests::{
-    Counted, HttpFault, RequestFault, Routes, read_request, write_and_flush,
+    Counted, HttpFault, RequestFault, PathTable, read_request, write_and_flush,
 };
 use review_machine_deliveries::{Rules, deliver};
 use review_machine_rows::Shelf;
@@ -66,7 +66,7 @@ fn tell<W: Write>(
 /// Reads only where no whole request, and no fault of its head, was there yet.
 pub fn serve_request<R: Read, W: Write, S: Shelf, D: Rules>(
     alloc: Global,
-    routes: &Routes,
+    paths: &PathTable,
     reader: &mut Counted<R>,
     writer: &mut Counted<W>,
     shelf: &mut S,
@@ -79,7 +79,7 @@ pub fn serve_request<R: Read, W: Write, S: Shelf, D: Rules>(
     ensures read { result ≡ Err ServeFault.Read → faults_of reader.new ≡ one_more (faults_of reader.old) }
     ensures write { result ≡ Err ServeFault.Write → faults_of writer.new ≡ one_more (faults_of writer.old) }
 {
-    match read_request(alloc, routes, reader) {
+    match read_request(alloc, paths, reader) {
         Ok(delivery) => {
             let reply = deliver(alloc, shelf, rules, &delivery);
             tell(alloc, writer, Ok(reply))

@@ -1,13 +1,15 @@
 -- From a look at the front of the bytes to what is told of them.
-use Rattle.std.proofs.Common.{◌≡◌, ◌<◌, ◌≤◌, ◌+◌, ◌-◌, ◌++◌, ℕ, List, length, take, drop, Bool, true, false, Option, Some, None, Result, Ok, Err, inl, inr, refl, sym, ap, subst, ◌∙◌, arith, append_assoc, append-nil, length-append, [], length-take, true≢false, take_all, drop_at, min, zero, suc, not, IfSome, length-drop, ◌⊎◌, ◌∷◌, lit<, lit≤, IsTrue}
+use Rattle.std.proofs.Common.{◌≡◌, ◌<◌, ◌≤◌, ◌+◌, ◌-◌, ◌++◌, ℕ, List, length, take, drop, Bool, true, false, Option, Some, None, Result, Ok, Err, inl, inr, refl, sym, ap, subst, ◌∙◌, arith, append_assoc, append-nil, length-append, [], length-take, map, true≢false, take_all, drop_at, min, zero, suc, not, IfSome, length-drop, ◌⊎◌, ◌∷◌, lit<, lit≤, IsTrue}
 use Rattle.std.proofs.{Math.Seq.take-append-add, lemmas.Bool.cases_lt}
-use Rattle.std.proofs.lemmas.List.{take-append-le, drop-append-le, Elements.All-nil, Elements.All-cons}
+use Rattle.std.proofs.lemmas.List.{length-map, take-append-le, drop-append-le, Elements.All-nil, Elements.All-cons}
 use Rattle.std.proofs.lemmas.Str.{IsUtf8-from_ascii, Ascii.IsAscii-from_all}
 use Rattle.httparse.proofs.GrammarLemmas.{print_request-append, request_unique}
 use Rattle.httparse.specs.Grammar.{RequestHead, ReadsRequest, HasNoRequest, NeverHasRequest, print_request, MayBecomeRequest, IsRequestHead, crlf, IsField, is_token_byte, is_uri_byte, print_blank, print_version, print_end, print_section, EndsInTarget}
-use Rattle.httparse.specs.Spans.{RequestExceeds, RequestOverflows}
+use Rattle.httparse.specs.Spans.{RequestExceeds, RequestOverflows, IsRequestOf, IsRequestWithin, header_bytes, span_bytes}
+use Rattle.httparse.specs.declared.spans.{HeaderSpan.HeaderSpan, RequestSpans.RequestSpans}
 use Rattle.{review_words.specs.declared.command.Delivery.Delivery, review_http_requests.proofs.Given.gave_more}
-use Rattle.review_http_requests.specs.{Bytes.Gave, Bytes.IsBrought, Counts.greatest, Counts.one_more, Heads.envelope}
+use Rattle.review_http_requests.specs.{Bytes.Gave, Bytes.IsBrought, Counts.greatest, Counts.one_more}
+use Rattle.review_http_requests.specs.Heads.{Answers, envelope, envelope_by}
 use Rattle.review_http_requests.specs.RequestLaws.{IsHeadFault, WasTold, IsToldOfInput}
 use Rattle.review_http_requests.specs.Wire.{front, HasHead, body_of, Follows, CallsFor, IsBadHead, IsHeadTooLarge, delivery_of, IsNotWhole, HasManyFields}
 use Rattle.review_http_requests.specs.declared.{envelope.Envelope.Envelope, fault.RequestFault.RequestFault}
@@ -15,7 +17,7 @@ use Rattle.review_http_requests.specs.declared.fault.RequestFault.TheVariants.{E
 use Rattle.review_http_requests.specs.declared.http_fault.HttpFault.{HttpFault}
 use Rattle.review_http_requests.specs.declared.http_fault.HttpFault.TheVariants.{BadHead, HeadTooLarge}
 use Rattle.review_http_requests.specs.declared.judge.Look.{Look, TheVariants.Wants, TheVariants.Whole}
-use Rattle.review_http_requests.specs.inner.Words.{Judges, WaitsFor, Stands, IsFaultOf, Finishes, HeadIs}
+use Rattle.review_http_requests.specs.inner.Words.{Judges, WaitsFor, Stands, IsFaultOf, Finishes}
 use Rattle.review_http_requests.specs.declared.fault.RequestFault.TheVariants as request
 
 -- ==== bytes that come after those that called for something change nothing of it
@@ -246,12 +248,27 @@ judged_head bytes h a ended (Err (request.Http g)) s e f = follows bytes h (Ok a
 judged_head bytes h a ended (Err request.Memory) s e f = tt
 judged_head bytes h a ended _ s e f = f
 
-pub judged_refused : (bytes : List ℕ) (ended : Bool) (e : RequestFault) → HeadIs (front bytes) (Err e) → Judges bytes ended (Err e)
-judged_refused bytes ended (request.Http f) h = judged_fault bytes ended f h
-judged_refused bytes ended request.Memory h = tt
-judged_refused bytes ended request.Empty h = absurd h
-judged_refused bytes ended request.Read h = absurd h
-judged_refused bytes ended request.Reads h = absurd h
+pub judged_refused : (bytes : List ℕ) (h : RequestHead) (ended : Bool) (e : RequestFault) → Stands (front bytes) h → Answers (Err e) (envelope h) → Judges bytes ended (Err e)
+judged_refused bytes h ended (request.Http f) s e = judged_fault bytes ended f (inl (h, s, e))
+judged_refused bytes h ended request.Memory s e = tt
+judged_refused bytes h ended request.Empty s e = absurd e
+judged_refused bytes h ended request.Read s e = absurd e
+judged_refused bytes h ended request.Reads s e = absurd e
+
+-- what stands where the parser found a head at the front
+pub found : (bytes buf : List ℕ) (headers : List HeaderSpan) (r : RequestSpans) → buf ≡ front bytes → length headers ≡ 64 → IsRequestOf buf headers r → IsRequestWithin buf headers r
+    → (h : RequestHead) × Stands (front bytes) h × (r.len ≡ length (print_request h)) × (r.len ≤ length (front bytes))
+    × (envelope h ≡ envelope_by (span_bytes buf r.method) (span_bytes buf r.path) (map (header_bytes buf) (take r.headers headers)))
+found bytes buf headers r e room w v =
+    let f = w.1.fields in
+    let few : length w.0.fields ≤ 64 = omega (arith, room, simp (length-map, length-take) at (ap length f)) in
+    let reads : ReadsRequest buf w.0 (drop (length (print_request w.0)) buf) = subst (λ (n : ℕ). ReadsRequest buf w.0 (drop n buf)) w.1.len w.1.reads in (
+      w.0,
+      (subst (λ (b : List ℕ). ReadsRequest b w.0 (drop (length (print_request w.0)) b)) e reads, few),
+      w.1.len,
+      subst (λ (b : List ℕ). r.len ≤ length b) e v.section.len_fits,
+      rw (w.1.method, w.1.path, w.1.fields) refl,
+    )
 
 pub judged_body : (bytes : List ℕ) (n : ℕ) (a : Envelope) (ended : Bool) (r : Result Look RequestFault)
     → ((h : RequestHead) × Stands (front bytes) h × (n ≡ length (print_request h)) × (n ≤ length (front bytes)) × (envelope h ≡ Ok a))

@@ -6,11 +6,11 @@ use Rattle.review_names.specs.{Names.is_word, Numerals.account_of, Numerals.numb
 use Rattle.review_json_routes.specs.Commands.{is_question, needs_body}
 use Rattle.review_json_routes.specs.{Parts.epoch_from, Parts.name_of_bytes, declared.route.Route.Route}
 use Rattle.review_http_requests.specs.Routes.{methods_of, route_at, takes}
-use Rattle.review_http_requests.specs.{Table.place_of, declared.envelope.Envelope.Envelope}
+use Rattle.review_http_requests.specs.{Table.resource_of, declared.envelope.Envelope.Envelope}
 use Rattle.review_http_requests.specs.declared.fault.RequestFault.{RequestFault, TheVariants.Http, TheVariants.Memory}
 use Rattle.review_http_requests.specs.declared.http_fault.HttpFault.{HttpFault}
 use Rattle.review_http_requests.specs.declared.http_fault.HttpFault.TheVariants.{BadHead, NoRoute, Method, NoCaller, NoRequestId, BadEpoch, LengthRequired, TooLarge}
-use Rattle.review_http_requests.specs.declared.table.Place.{Place}
+use Rattle.review_http_requests.specs.declared.table.Resource.{Resource}
 use Rattle.review_names.specs.declared.names.Bad.TheVariants as bad
 
 -- what was answered is what is expected, unless memory ran out
@@ -95,17 +95,17 @@ most = 10000000
 abbrev pub path_of : List ℕ → List ℕ
 path_of target = before_first (λ b. b == 63) target
 
--- the route of a path of a place, where the place takes the method
-abbrev pub if_taken : List ℕ → Place → Route → Result Route HttpFault
-if_taken method place route = if takes (methods_of place) method then Ok route else Err (Method (methods_of place))
+-- the route to a resource, where it takes the method
+abbrev pub if_taken : List ℕ → Resource → Route → Result Route HttpFault
+if_taken method resource route = if takes (methods_of resource) method then Ok route else Err (Method (methods_of resource))
 
--- what a method asks for by a path of a place: its segments are decoded before the method is looked at
-abbrev pub routed_at : List ℕ → List ℕ → Place → Result Route HttpFault
-routed_at method path place = or_fault NoRoute (route_at place (bytes_eq method (codes "GET")) path) >>= if_taken method place
+-- the route of a method and a path that names a resource: its segments are decoded before the method is looked at
+abbrev pub routed_at : List ℕ → List ℕ → Resource → Result Route HttpFault
+routed_at method path resource = or_fault NoRoute (route_at resource (bytes_eq method (codes "GET")) path) >>= if_taken method resource
 
--- what a method asks for by a path, which is routed before its segments are decoded
+-- the route of a method and a path: the resource is found before the segments are decoded
 unfoldable pub route_of : List ℕ → List ℕ → Result Route HttpFault
-route_of method path = or_fault NoRoute (place_of path) >>= routed_at method path
+route_of method path = or_fault NoRoute (resource_of path) >>= routed_at method path
 
 -- ---- who asks, under which id, in which epoch
 

@@ -1,4 +1,4 @@
--- What a path and a method ask for: the segments of a path, the names and numbers that they are once decoded, and the methods that a place takes.
+-- Routes, each what a method asks of the resource that a path names: the segments of a path, the names and numbers that they are once decoded, and the methods that a resource takes.
 use Rattle.std.specs.List.{slice_index_or, slice_split}
 use Rattle.std.specs.Prelude.{ℕ, List, [], Bool, if◌then◌else◌, Option, Some, None, option_map, option_and_then, codes, ◌==◌, ◌||◌}
 use Rattle.{std.specs.Str.bytes_eq, percent_encoding.specs.Percent.percent_decode}
@@ -9,10 +9,10 @@ use Rattle.review_json_routes.specs.declared.route.{ChangeRoute.ChangeRoute, Rou
 use Rattle.review_json_routes.specs.declared.route.Route.TheVariants.{CreateAccount, PutGroup, PutProject, RecordBase, CreateChange, OnChange, Submit, CloseEpoch, Branch, AskChange}
 use Rattle.review_http_requests.specs.declared.methods.Methods.{Methods}
 use Rattle.review_http_requests.specs.declared.methods.Methods.TheVariants.{Get, GetAndPost, GetAndPut, Post, Put}
-use Rattle.review_http_requests.specs.declared.table.Place.{Place}
+use Rattle.review_http_requests.specs.declared.table.Resource.{Resource}
 use Rattle.review_words.specs.declared.command.ChangeQuery.TheVariants as query
 use Rattle.review_json_routes.specs.declared.route.ChangeRoute.TheVariants as asked
-use Rattle.review_http_requests.specs.declared.table.Place.TheVariants as place
+use Rattle.review_http_requests.specs.declared.table.Resource.TheVariants as resource
 
 -- what stands behind so many slashes of a path, up to the next slash or the end of the path; nothing where the path has fewer slashes
 abbrev pub segment : ℕ → List ℕ → List ℕ
@@ -56,13 +56,13 @@ takes GetAndPut method = bytes_eq method (codes "GET") || bytes_eq method (codes
 takes Post method = bytes_eq method (codes "POST")
 takes Put method = bytes_eq method (codes "PUT")
 
--- the methods that a place takes
-abbrev pub methods_of : Place → Methods
-methods_of (place.Asked query) = Get
-methods_of place.Attention = GetAndPost
-methods_of place.Branch = GetAndPut
-methods_of place.Group = Put
-methods_of place.Project = Put
+-- the methods that a resource takes
+abbrev pub methods_of : Resource → Methods
+methods_of (resource.Asked query) = Get
+methods_of resource.Attention = GetAndPost
+methods_of resource.Branch = GetAndPut
+methods_of resource.Group = Put
+methods_of resource.Project = Put
 methods_of _ = Post
 
 -- ---- routes
@@ -84,23 +84,23 @@ on_change asked path = option_map (λ change. OnChange change asked) (change_at 
 abbrev pub attention_at : Bool → List ℕ → Option Route
 attention_at is_get path = option_map (λ change. if is_get then AskChange change query.Attention else OnChange change asked.AddAttention) (change_at path)
 
--- the route of a path of a place, asked for by GET or not: its segments decoded, of which the fourth is an account, a patch set or a branch
-unfoldable pub route_at : Place → Bool → List ℕ → Option Route
-route_at place.Accounts is_get path = Some CreateAccount
-route_at place.Group is_get path = option_map (λ group. PutGroup group) (name_in is_word (segment 2 path))
-route_at place.Project is_get path = option_map (λ project. PutProject project) (name_in is_slashed_name (segment 2 path))
-route_at place.Branch is_get path = branch_at is_get path
-route_at place.Changes is_get path = Some CreateChange
-route_at (place.Asked query) is_get path = option_map (λ change. AskChange change query) (change_at path)
-route_at place.Attention is_get path = attention_at is_get path
-route_at place.Revisions is_get path = on_change asked.Upload path
-route_at place.Review is_get path = option_and_then (λ patch. on_change (asked.Review patch) path) (patch_in (segment 4 path))
-route_at place.Reviewers is_get path = on_change asked.AddReviewer path
-route_at place.ReviewerDelete is_get path = option_and_then (λ account. on_change (asked.RemoveReviewer account) path) (account_in (segment 4 path))
-route_at place.Wip is_get path = on_change asked.SetWip path
-route_at place.Ready is_get path = on_change asked.SetReady path
-route_at place.Abandon is_get path = on_change asked.Abandon path
-route_at place.Restore is_get path = on_change asked.Restore path
-route_at place.Submit is_get path = option_map (λ change. Submit change) (change_at path)
-route_at place.AttentionDelete is_get path = option_and_then (λ account. on_change (asked.RemoveAttention account) path) (account_in (segment 4 path))
-route_at place.EpochsClose is_get path = Some CloseEpoch
+-- the route of a path that names a resource, asked for by GET or not: its segments decoded, of which the fourth is an account, a patch set or a branch
+unfoldable pub route_at : Resource → Bool → List ℕ → Option Route
+route_at resource.Accounts is_get path = Some CreateAccount
+route_at resource.Group is_get path = option_map (λ group. PutGroup group) (name_in is_word (segment 2 path))
+route_at resource.Project is_get path = option_map (λ project. PutProject project) (name_in is_slashed_name (segment 2 path))
+route_at resource.Branch is_get path = branch_at is_get path
+route_at resource.Changes is_get path = Some CreateChange
+route_at (resource.Asked query) is_get path = option_map (λ change. AskChange change query) (change_at path)
+route_at resource.Attention is_get path = attention_at is_get path
+route_at resource.Revisions is_get path = on_change asked.Upload path
+route_at resource.Review is_get path = option_and_then (λ patch. on_change (asked.Review patch) path) (patch_in (segment 4 path))
+route_at resource.Reviewers is_get path = on_change asked.AddReviewer path
+route_at resource.ReviewerDelete is_get path = option_and_then (λ account. on_change (asked.RemoveReviewer account) path) (account_in (segment 4 path))
+route_at resource.Wip is_get path = on_change asked.SetWip path
+route_at resource.Ready is_get path = on_change asked.SetReady path
+route_at resource.Abandon is_get path = on_change asked.Abandon path
+route_at resource.Restore is_get path = on_change asked.Restore path
+route_at resource.Submit is_get path = option_map (λ change. Submit change) (change_at path)
+route_at resource.AttentionDelete is_get path = option_and_then (λ account. on_change (asked.RemoveAttention account) path) (account_in (segment 4 path))
+route_at resource.EpochsClose is_get path = Some CloseEpoch

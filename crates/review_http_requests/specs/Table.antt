@@ -3,24 +3,24 @@ use Rattle.std.specs.Prelude.{ℕ, List, [], ◌∷◌, ◌++◌, Option, option
 use Rattle.matchit.specs.{Order.placed, Route.Scan, Route.parse_route, Router.RouteOf, Router.route_from, Rows.RowsOf}
 use Rattle.matchit.specs.{Seek.first, declared.error.InsertError.InsertError}
 use Rattle.review_words.specs.declared.command.ChangeQuery.TheVariants.{Change, Requirements, Threads}
-use Rattle.review_http_requests.specs.declared.table.Place.{Place}
-use Rattle.review_http_requests.specs.declared.table.Place.TheVariants.{Accounts, Group, Project, Branch, Changes, Asked, Attention, Revisions, Review, Reviewers, ReviewerDelete, Wip, Ready, Abandon, Restore, Submit, AttentionDelete, EpochsClose}
+use Rattle.review_http_requests.specs.declared.table.Resource.{Resource}
+use Rattle.review_http_requests.specs.declared.table.Resource.TheVariants.{Accounts, Group, Project, Branch, Changes, Asked, Attention, Revisions, Review, Reviewers, ReviewerDelete, Wip, Ready, Abandon, Restore, Submit, AttentionDelete, EpochsClose}
 
--- paths as the router keeps them, each with its place
+-- paths as the router keeps them, each with the resource that it names
 abbrev pub Rows : Type 0
-Rows = RowsOf (RouteOf Place)
+Rows = RowsOf (RouteOf Resource)
 
 -- the paths with one more, as the router read it
-abbrev pub add_read : Result Scan InsertError → Place → Rows → Rows
-add_read (Ok s) place rows = placed ((route_from s place).pattern, route_from s place) rows
-add_read (Err e) place rows = rows
+abbrev pub add_read : Result Scan InsertError → Resource → Rows → Rows
+add_read (Ok s) resource rows = placed ((route_from s resource).pattern, route_from s resource) rows
+add_read (Err e) resource rows = rows
 
 -- the paths with one more
-unfoldable pub with_path : List ℕ → Place → Rows → Rows
-with_path text place rows = add_read (parse_route text) place rows
+unfoldable pub with_path : List ℕ → Resource → Rows → Rows
+with_path text resource rows = add_read (parse_route text) resource rows
 
 -- the paths of accounts, groups, projects, branches and new changes; a name or a number is left open between braces
-abbrev pub desk_paths : List (List ℕ × Place)
+abbrev pub desk_paths : List (List ℕ × Resource)
 desk_paths =
     (codes "/accounts", Accounts)
     ∷ (codes "/groups/{group}", Group)
@@ -30,7 +30,7 @@ desk_paths =
     ∷ []
 
 -- the paths of a change, of what is asked of it, and of its new patch sets
-abbrev pub change_paths : List (List ℕ × Place)
+abbrev pub change_paths : List (List ℕ × Resource)
 change_paths =
     (codes "/changes/{change}", Asked Change)
     ∷ (codes "/changes/{change}/requirements", Asked Requirements)
@@ -40,7 +40,7 @@ change_paths =
     ∷ []
 
 -- the paths of its reviews, its reviewers and its work in progress
-abbrev pub reviewing_paths : List (List ℕ × Place)
+abbrev pub reviewing_paths : List (List ℕ × Resource)
 reviewing_paths =
     (codes "/changes/{change}/revisions/{patch_set}/review", Review)
     ∷ (codes "/changes/{change}/reviewers", Reviewers)
@@ -50,7 +50,7 @@ reviewing_paths =
     ∷ []
 
 -- the paths that end it, or take who is called off it, and the one that closes epochs
-abbrev pub state_paths : List (List ℕ × Place)
+abbrev pub state_paths : List (List ℕ × Resource)
 state_paths =
     (codes "/changes/{change}/abandon", Abandon)
     ∷ (codes "/changes/{change}/restore", Restore)
@@ -59,22 +59,22 @@ state_paths =
     ∷ (codes "/epochs/close", EpochsClose)
     ∷ []
 
--- the paths that there are, each with its place
-abbrev pub paths : List (List ℕ × Place)
+-- the paths that there are, each with the resource that it names
+abbrev pub paths : List (List ℕ × Resource)
 paths = desk_paths ++ (change_paths ++ (reviewing_paths ++ state_paths))
 
 -- the paths with more, one after the other
-abbrev pub with_paths : List (List ℕ × Place) → Rows → Rows
+abbrev pub with_paths : List (List ℕ × Resource) → Rows → Rows
 with_paths [] rows = rows
-with_paths ((text, place) ∷ more) rows = with_paths more (with_path text place rows)
+with_paths ((text, resource) ∷ more) rows = with_paths more (with_path text resource rows)
 
 -- the table of paths
 unfoldable pub table : Rows
 table = with_paths paths []
 
--- the place of a path, by the router's definition
-abbrev pub place_of : List ℕ → Option Place
-place_of path = option_map (λ r. r.value) (first table path)
+-- the resource that a path names, by the router's definition
+abbrev pub resource_of : List ℕ → Option Resource
+resource_of path = option_map (λ r. r.value) (first table path)
 
 -- no path is left out of the table: each is one that the router reads
 abbrev pub HoldsEachPath : Type 0

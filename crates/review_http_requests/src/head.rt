@@ -7,7 +7,7 @@ ghost use Rattle.review_http_requests.specs.inner.Words.{seen};
 use crate::envelope::Envelope;
 use crate::fault::unless_memory;
 use crate::fields::{Field, fields_of, number_shown, one_value};
-use crate::{HttpFault, RequestFault, Routes, route_of};
+use crate::{HttpFault, PathTable, RequestFault, route_of};
 use httparse::spans::HeaderSpan;
 use review_json_routes::{Route, is_question, name_of_bytes, needs_body};
 use review_names::{read_account, read_number};
@@ -94,7 +94,7 @@ fn question_by(caller: AccountNo, route: Route) -> Envelope
 #[tactic(auto, unfolding(crate::specs::Heads::envelope_by))]
 pub fn envelope_by(
     alloc: Global,
-    routes: &Routes,
+    paths: &PathTable,
     method: &[u8],
     target: &[u8],
     buf: &[u8],
@@ -104,7 +104,7 @@ pub fn envelope_by(
     requires within { All (IsHeaderWithin (length buf.now)) headers.now }
     ensures { Answers result (envelope_by method.now target.now (map (header_bytes buf.now) headers.now)) }
 {
-    let route = route_of(alloc, routes, method, path_of(target))?;
+    let route = route_of(alloc, paths, method, path_of(target))?;
     let fields = fields_of(buf, headers);
     let caller = caller_of(fields.caller)?;
     if is_question(&route) {

@@ -10,9 +10,9 @@ pub enum HttpFault {
     BadHead,
     /// There is no whole head in the first 16,384 bytes, or it has more than 64 fields.
     HeadTooLarge,
-    /// The path names nothing.
+    /// The path names no resource, or a segment of it is no name or number of its kind.
     NoRoute,
-    /// The method is none of those that the path takes, which are these.
+    /// The method is none of those that the resource takes, which are these.
     Method(Methods),
     /// There isn't one field `X-Account` with the number of an account.
     NoCaller,

@@ -1,13 +1,13 @@
 //! A look at the bytes so far.
 ghost use Rattle.std.specs.Prelude.{◌≡◌, ◌<◌, ◌≤◌, length, drop, take, Ok, option_map, Some, None, Err, IfOk};
 ghost use Rattle.httparse.specs.Grammar.{HasNoRequest, MayBecomeRequest};
-ghost use Rattle.review_http_requests.specs.{Heads.Answers, Wire.delivery_of, Wire.front};
-ghost use Rattle.review_http_requests.specs.inner.Words.{Judges, WaitsFor, HeadIs, Finishes};
+ghost use Rattle.review_http_requests.specs.Wire.{front};
+ghost use Rattle.review_http_requests.specs.inner.Words.{Judges, WaitsFor, Finishes};
 
 use crate::envelope::Envelope;
 use crate::fault::unless_memory;
 use crate::head::envelope_by;
-use crate::{HttpFault, RequestFault, Routes};
+use crate::{HttpFault, PathTable, RequestFault};
 use httparse::spans::{EMPTY_HEADER_SPAN, parse_request};
 use httparse::{Error, Status};
 use review_json_routes::{command_of, query_of};
@@ -23,66 +23,11 @@ pub enum Look {
     Wants(usize),
 }
 
-/// What stands at the front of the bytes.
-#[derive(Drop)]
-pub enum Head {
-    /// A whole head of this length, and what it asks for.
-    Asks(usize, Envelope),
-    /// No whole head yet, and no fault.
-    Partial,
-}
-
-/// The head at the front of the bytes.
-fn head_of(alloc: Global, routes: &Routes, bytes: &[u8]) -> Result<Head, RequestFault>
-    ensures { HeadIs bytes.now result }
-{
-    let mut headers = [EMPTY_HEADER_SPAN; 64];
-    match parse_request(bytes, &mut headers) {
-        Ok(Status::Complete(spans)) => {
-            let method = spans.method.of(bytes);
-            let target = spans.path.of(bytes);
-            let found = &headers[..spans.headers];
-            let envelope = envelope_by(alloc, routes, method, target, bytes, found)?;
-            Ok(Head::Asks(spans.len, envelope))
-        }
-        Ok(Status::Partial) => Ok(Head::Partial),
-        Err(Error::TooManyHeaders) => Err(RequestFault::Http(HttpFault::HeadTooLarge)),
-        Err(_) => Err(RequestFault::Http(HttpFault::BadHead)),
-    }
-}
-
 /// How many bytes alone are looked at for a head.
 const FRONT: usize = 16_384;
 
-/// The delivery that a body completes what was asked for to.
+/// The delivery that the bytes after a head complete what it asks for to, if they are enough for its body.
 #[tactic(auto, unfolding(crate::specs::Wire::delivery_of))]
-fn delivery_of(alloc: Global, envelope: Envelope, body: &[u8]) -> Result<Delivery, RequestFault>
-    ensures { Answers result (delivery_of envelope body.now) }
-{
-    let Envelope {
-        caller,
-        id,
-        epoch,
-        route,
-        length: _,
-    } = envelope;
-    match id {
-        None => match query_of(&route) {
-            Ok(query) => Ok(Delivery::Read { caller, query }),
-            Err(bad) => Err(unless_memory(bad, HttpFault::BadBody)),
-        },
-        Some(id) => match command_of(alloc, &route, body) {
-            Ok(command) => Ok(Delivery::Write {
-                caller,
-                epoch,
-                id,
-                command,
-            }),
-            Err(bad) => Err(unless_memory(bad, HttpFault::BadBody)),
-        },
-    }
-}
-
 fn finish(
     alloc: Global,
     envelope: Envelope,
@@ -92,15 +37,34 @@ fn finish(
 ) -> Result<Look, RequestFault>
     ensures { Finishes envelope end rest.now ended result }
 {
-    let length = envelope.length;
+    let Envelope {
+        caller,
+        id,
+        epoch,
+        route,
+        length,
+    } = envelope;
     if rest.len() < length {
         if ended {
             return Err(RequestFault::Http(HttpFault::BadBody));
         }
         return Ok(Look::Wants(end.saturating_add(length)));
     }
-    let delivery = delivery_of(alloc, envelope, &rest[..length])?;
-    Ok(Look::Whole(delivery))
+    match id {
+        None => match query_of(&route) {
+            Ok(query) => Ok(Look::Whole(Delivery::Read { caller, query })),
+            Err(bad) => Err(unless_memory(bad, HttpFault::BadBody)),
+        },
+        Some(id) => match command_of(alloc, &route, &rest[..length]) {
+            Ok(command) => Ok(Look::Whole(Delivery::Write {
+                caller,
+                epoch,
+                id,
+                command,
+            })),
+            Err(bad) => Err(unless_memory(bad, HttpFault::BadBody)),
+        },
+    }
 }
 
 /// The bytes that alone are looked at for a head.
@@ -140,22 +104,33 @@ fn body_from(bytes: &[u8], end: usize) -> &[u8]
 /// The delivery or the fault that the bytes so far call for, if they are enough for one.
 pub fn judge(
     alloc: Global,
-    routes: &Routes,
+    paths: &PathTable,
     bytes: &[u8],
     ended: bool,
 ) -> Result<Look, RequestFault>
     ensures { Judges bytes.now ended result }
 {
-    match head_of(alloc, routes, front_of(bytes))? {
-        Head::Asks(end, envelope) => finish(alloc, envelope, end, body_from(bytes, end), ended),
-        Head::Partial => unfinished(bytes, ended),
+    let front = front_of(bytes);
+    let mut headers = [EMPTY_HEADER_SPAN; 64];
+    match parse_request(front, &mut headers) {
+        Ok(Status::Complete(spans)) => {
+            let method = spans.method.of(front);
+            let target = spans.path.of(front);
+            let found = &headers[..spans.headers];
+            let envelope = envelope_by(alloc, paths, method, target, front, found)?;
+            let end = spans.len;
+            finish(alloc, envelope, end, body_from(bytes, end), ended)
+        }
+        Ok(Status::Partial) => unfinished(bytes, ended),
+        Err(Error::TooManyHeaders) => Err(RequestFault::Http(HttpFault::HeadTooLarge)),
+        Err(_) => Err(RequestFault::Http(HttpFault::BadHead)),
     }
 }
 
 /// Judges the bytes once enough of them are there: fewer than are wanted are no whole request, and are not looked at before more have come, or the end of the input.
 pub fn judge_enough(
     alloc: Global,
-    routes: &Routes,
+    paths: &PathTable,
     bytes: &[u8],
     ended: bool,
     wanted: usize,
@@ -166,5 +141,5 @@ pub fn judge_enough(
     if !ended && bytes.len() < wanted {
         return Ok(Look::Wants(wanted));
     }
-    judge(alloc, routes, bytes, ended)
+    judge(alloc, paths, bytes, ended)
 }

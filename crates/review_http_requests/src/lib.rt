@@ -8,7 +8,7 @@
 //! - **Proved**: what is told is what the bytes call for (`CallsFor`), however they are cut, in at most 4,096 reads ([`read_request`]); it
 //!   is one thing but where a head is malformed and also too large (the laws); each path of the table is in it ([`table_holds_each_path`]).
 //!   Readers and writers count their reads and faults ([`Counted`]).
-//! - **Assumed**: nothing beyond the kit, whose `httparse` says what a head is, and `matchit` which path a table has.
+//! - **Assumed**: nothing beyond the kit, whose `httparse` says what a head is, and `matchit` which resource a path names.
 //! - **Only tested**: `scripts/http.txt` byte for byte; `value_tests` over a socket.
 //! - **Must not know**: shelves, or what a delivery means.
 #![tactic(auto)]
@@ -42,5 +42,5 @@ pub use request_laws::{
     waiting_calls_for_nothing,
 };
 pub use routing::route_of;
-pub use table::{Place, Routes};
+pub use table::{PathTable, Resource};
 pub use writing::{WriteFault, write_and_flush};

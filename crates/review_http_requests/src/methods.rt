@@ -1,8 +1,8 @@
-//! The methods that a path takes.
+//! The methods that a resource takes.
 ghost use Rattle.std.specs.Prelude.{◌≡◌};
 ghost use Rattle.review_http_requests.specs.Routes.{methods_text, takes};
 
-/// The methods that a path takes.
+/// The methods that a resource takes.
 #[derive(Clone, Copy, PartialEq, Eq)]
 pub enum Methods {
     Get,

@@ -6,7 +6,7 @@ ghost use Rattle.review_http_requests.specs.Shown.{inner_of, reads_of, faults_of
 
 use crate::fault::RequestFault;
 use crate::judge::{Look, judge, judge_enough};
-use crate::{Counted, Routes, Stop, read_more};
+use crate::{Counted, PathTable, Stop, read_more};
 use review_words::Delivery;
 use std::alloc::Global;
 use std::io::Read;
@@ -18,7 +18,7 @@ use std::io::Read;
 /// fault of its head was there; Reads where 4,096 reads gave neither. Of the bytes that were read nothing is kept, and at most one read gives none.
 pub fn read_request<R: Read>(
     alloc: Global,
-    routes: &Routes,
+    paths: &PathTable,
     reader: &mut Counted<R>,
 ) -> Result<Delivery, RequestFault>
     ensures told { WasTold (R.remaining (inner_of reader.old)) (R.remaining (inner_of reader.new)) result }
@@ -32,7 +32,7 @@ pub fn read_request<R: Read>(
     let mut ended = false;
     let mut wanted = 0;
     for _ in 0..4096u16 {
-        match judge_enough(alloc, routes, bytes.as_slice(), ended, wanted) {
+        match judge_enough(alloc, paths, bytes.as_slice(), ended, wanted) {
             Ok(Look::Whole(delivery)) => return Ok(delivery),
             Ok(Look::Wants(count)) => wanted = count,
             Err(fault) => return Err(fault),
@@ -43,7 +43,7 @@ pub fn read_request<R: Read>(
             Err(Stop::Memory) => return Err(RequestFault::Memory),
         }
     }
-    match judge(alloc, routes, bytes.as_slice(), ended) {
+    match judge(alloc, paths, bytes.as_slice(), ended) {
         Ok(Look::Whole(delivery)) => Ok(delivery),
         Ok(Look::Wants(_)) => Err(RequestFault::Reads),
         Err(fault) => Err(fault),

@@ -1,11 +1,11 @@
-//! What a path and a method ask for.
+//! Routes: what methods ask of the resources that paths name.
 ghost use Rattle.std.specs.Prelude.{◌≡◌, IfOk};
 ghost use Rattle.{percent_encoding.specs.Percent.percent_decode, review_names.specs.Bad.Gives};
 ghost use Rattle.review_http_requests.specs.Heads.{Answers, route_of};
 ghost use Rattle.review_http_requests.specs.Routes.{segment, name_in, account_in, patch_in, methods_of, branch_at, change_at, on_change, attention_at, route_at};
 
 use crate::fault::unless_memory;
-use crate::{HttpFault, Methods, Place, RequestFault, Routes};
+use crate::{HttpFault, Methods, PathTable, RequestFault, Resource};
 use percent_encoding::percent_decode;
 use review_json_routes::{ChangeRoute, Route, name_of_bytes};
 use review_names::{Bad, read_account, read_number};
@@ -60,15 +60,15 @@ fn patch_in(alloc: Global, segment: &str) -> Result<Option<PatchNo>, Bad>
     Ok(Some(patch))
 }
 
-/// The methods that a place takes.
-fn methods_of(place: Place) -> Methods
-    ensures { result ≡ methods_of place }
+/// The methods that a resource takes.
+fn methods_of(resource: Resource) -> Methods
+    ensures { result ≡ methods_of resource }
 {
-    match place {
-        Place::Asked(_) => Methods::Get,
-        Place::Attention => Methods::GetAndPost,
-        Place::Branch => Methods::GetAndPut,
-        Place::Group | Place::Project => Methods::Put,
+    match resource {
+        Resource::Asked(_) => Methods::Get,
+        Resource::Attention => Methods::GetAndPost,
+        Resource::Branch => Methods::GetAndPut,
+        Resource::Group | Resource::Project => Methods::Put,
         _ => Methods::Post,
     }
 }
@@ -117,70 +117,70 @@ fn attention_at(alloc: Global, is_get: bool, path: &str) -> Result<Route, Bad>
     Ok(Route::AskChange { change, query })
 }
 
-/// The route of a path of a place, asked for by GET or not: its segments decoded. Form exactly where a segment is no name or number of its kind.
+/// The route of a path that names this resource, asked for by GET or not: its segments decoded. Form exactly where a segment is no name or number of its kind.
 #[tactic(auto, unfolding(crate::specs::Routes::route_at))]
-fn route_at(alloc: Global, place: Place, is_get: bool, path: &str) -> Result<Route, Bad>
-    ensures { Gives result (route_at place is_get path.now) }
+fn route_at(alloc: Global, resource: Resource, is_get: bool, path: &str) -> Result<Route, Bad>
+    ensures { Gives result (route_at resource is_get path.now) }
 {
-    match place {
-        Place::Accounts => Ok(Route::CreateAccount),
-        Place::Group => Ok(Route::PutGroup {
+    match resource {
+        Resource::Accounts => Ok(Route::CreateAccount),
+        Resource::Group => Ok(Route::PutGroup {
             group: name_in(alloc, segment(path, 2))?,
         }),
-        Place::Project => Ok(Route::PutProject {
+        Resource::Project => Ok(Route::PutProject {
             project: name_in(alloc, segment(path, 2))?,
         }),
-        Place::Branch => branch_at(alloc, is_get, path),
-        Place::Changes => Ok(Route::CreateChange),
-        Place::Asked(query) => {
+        Resource::Branch => branch_at(alloc, is_get, path),
+        Resource::Changes => Ok(Route::CreateChange),
+        Resource::Asked(query) => {
             let change = change_at(alloc, path)?;
             Ok(Route::AskChange { change, query })
         }
-        Place::Attention => attention_at(alloc, is_get, path),
-        Place::Revisions => on_change(alloc, ChangeRoute::Upload, path),
-        Place::Review => {
+        Resource::Attention => attention_at(alloc, is_get, path),
+        Resource::Revisions => on_change(alloc, ChangeRoute::Upload, path),
+        Resource::Review => {
             let patch = patch_in(alloc, segment(path, 4))?;
             on_change(alloc, ChangeRoute::Review { patch }, path)
         }
-        Place::Reviewers => on_change(alloc, ChangeRoute::AddReviewer, path),
-        Place::ReviewerDelete => {
+        Resource::Reviewers => on_change(alloc, ChangeRoute::AddReviewer, path),
+        Resource::ReviewerDelete => {
             let account = account_in(alloc, segment(path, 4))?;
             on_change(alloc, ChangeRoute::RemoveReviewer { account }, path)
         }
-        Place::Wip => on_change(alloc, ChangeRoute::SetWip, path),
-        Place::Ready => on_change(alloc, ChangeRoute::SetReady, path),
-        Place::Abandon => on_change(alloc, ChangeRoute::Abandon, path),
-        Place::Restore => on_change(alloc, ChangeRoute::Restore, path),
-        Place::Submit => Ok(Route::Submit {
+        Resource::Wip => on_change(alloc, ChangeRoute::SetWip, path),
+        Resource::Ready => on_change(alloc, ChangeRoute::SetReady, path),
+        Resource::Abandon => on_change(alloc, ChangeRoute::Abandon, path),
+        Resource::Restore => on_change(alloc, ChangeRoute::Restore, path),
+        Resource::Submit => Ok(Route::Submit {
             change: change_at(alloc, path)?,
         }),
-        Place::AttentionDelete => {
+        Resource::AttentionDelete => {
             let account = account_in(alloc, segment(path, 4))?;
             on_change(alloc, ChangeRoute::RemoveAttention { account }, path)
         }
-        Place::EpochsClose => Ok(Route::CloseEpoch),
+        Resource::EpochsClose => Ok(Route::CloseEpoch),
     }
 }
 
-/// What a method asks for by a path: the path is routed, its segments are decoded to names and numbers, and then the method is one of those that the
-/// place takes, told apart by case. The first of these that isn't so is the fault.
+/// The route of a method and a path: the path names a resource, its segments are decoded to names and numbers, and then the method is one of those that
+/// the resource takes, told apart by case. The first of these that isn't so is the fault.
 #[tactic(auto, unfolding(crate::specs::Heads::route_of))]
 pub fn route_of(
     alloc: Global,
-    routes: &Routes,
+    paths: &PathTable,
     method: &[u8],
     path: &str,
 ) -> Result<Route, RequestFault>
     ensures { Answers result (route_of method.now path.now) }
 {
-    let Some(place) = routes.place_of(path) else {
+    let Some(resource) = paths.resource_of(path) else {
         return Err(RequestFault::Http(HttpFault::NoRoute));
     };
-    let route = match route_at(alloc, place, method == b"GET".as_slice(), path) {
+    let route = match route_at(alloc, resource, method == b"GET".as_slice(), path) {
         Ok(route) => route,
         Err(bad) => return Err(unless_memory(bad, HttpFault::NoRoute)),
     };
-    let methods = methods_of(place);
+    let methods = methods_of(resource);
     if methods.takes(method) {
         Ok(route)
     } else {

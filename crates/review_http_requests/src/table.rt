@@ -1,15 +1,15 @@
 //! The table of paths.
 ghost use Rattle.std.specs.Prelude.{◌≡◌, IfOk, OnOk};
-ghost use Rattle.review_http_requests.specs.Table.{change_paths, desk_paths, state_paths, place_of, reviewing_paths, table, with_path, with_paths};
+ghost use Rattle.review_http_requests.specs.Table.{change_paths, desk_paths, state_paths, resource_of, reviewing_paths, table, with_path, with_paths};
 
 use matchit::{InsertError, Router};
 use review_words::ChangeQuery;
 use std::alloc::{AllocError, Global};
 use std::marker::Model;
 
-/// The paths that there are, each with its names and numbers left open.
+/// What paths name, with the names and numbers of a path left open.
 #[derive(Clone, Copy, PartialEq, Eq)]
-pub enum Place {
+pub enum Resource {
     Accounts,
     Group,
     Project,
@@ -31,91 +31,95 @@ pub enum Place {
     EpochsClose,
 }
 
-fn insert_path(router: &mut Router<Place>, text: &str, place: Place) -> Result<(), InsertError>
-    ensures { OnOk result (router.new ≡ with_path text.now place router.old) }
+fn insert_path(
+    router: &mut Router<Resource>,
+    text: &str,
+    resource: Resource,
+) -> Result<(), InsertError>
+    ensures { OnOk result (router.new ≡ with_path text.now resource router.old) }
 {
-    router.insert(text, place)
+    router.insert(text, resource)
 }
 
 /// Adds the paths of accounts, groups, projects, branches and new changes.
-fn insert_desk_paths(router: &mut Router<Place>) -> Result<(), InsertError>
+fn insert_desk_paths(router: &mut Router<Resource>) -> Result<(), InsertError>
     ensures { OnOk result (router.new ≡ with_paths desk_paths router.old) }
 {
-    insert_path(router, "/accounts", Place::Accounts)?;
-    insert_path(router, "/groups/{group}", Place::Group)?;
-    insert_path(router, "/projects/{project}", Place::Project)?;
+    insert_path(router, "/accounts", Resource::Accounts)?;
+    insert_path(router, "/groups/{group}", Resource::Group)?;
+    insert_path(router, "/projects/{project}", Resource::Project)?;
     insert_path(
         router,
         "/projects/{project}/branches/{branch}",
-        Place::Branch,
+        Resource::Branch,
     )?;
-    insert_path(router, "/changes/", Place::Changes)?;
+    insert_path(router, "/changes/", Resource::Changes)?;
     Ok(())
 }
 
 /// Adds those of a change, of what is asked of it, and of its new patch sets.
-fn insert_change_paths(router: &mut Router<Place>) -> Result<(), InsertError>
+fn insert_change_paths(router: &mut Router<Resource>) -> Result<(), InsertError>
     ensures { OnOk result (router.new ≡ with_paths change_paths router.old) }
 {
     insert_path(
         router,
         "/changes/{change}",
-        Place::Asked(ChangeQuery::Change),
+        Resource::Asked(ChangeQuery::Change),
     )?;
     insert_path(
         router,
         "/changes/{change}/requirements",
-        Place::Asked(ChangeQuery::Requirements),
+        Resource::Asked(ChangeQuery::Requirements),
     )?;
     insert_path(
         router,
         "/changes/{change}/threads",
-        Place::Asked(ChangeQuery::Threads),
+        Resource::Asked(ChangeQuery::Threads),
     )?;
-    insert_path(router, "/changes/{change}/attention", Place::Attention)?;
-    insert_path(router, "/changes/{change}/revisions", Place::Revisions)?;
+    insert_path(router, "/changes/{change}/attention", Resource::Attention)?;
+    insert_path(router, "/changes/{change}/revisions", Resource::Revisions)?;
     Ok(())
 }
 
 /// Adds those of its reviews, its reviewers and its work in progress.
-fn insert_reviewing_paths(router: &mut Router<Place>) -> Result<(), InsertError>
+fn insert_reviewing_paths(router: &mut Router<Resource>) -> Result<(), InsertError>
     ensures { OnOk result (router.new ≡ with_paths reviewing_paths router.old) }
 {
     insert_path(
         router,
         "/changes/{change}/revisions/{patch_set}/review",
-        Place::Review,
+        Resource::Review,
     )?;
-    insert_path(router, "/changes/{change}/reviewers", Place::Reviewers)?;
+    insert_path(router, "/changes/{change}/reviewers", Resource::Reviewers)?;
     insert_path(
         router,
         "/changes/{change}/reviewers/{account}/delete",
-        Place::ReviewerDelete,
+        Resource::ReviewerDelete,
     )?;
-    insert_path(router, "/changes/{change}/wip", Place::Wip)?;
-    insert_path(router, "/changes/{change}/ready", Place::Ready)?;
+    insert_path(router, "/changes/{change}/wip", Resource::Wip)?;
+    insert_path(router, "/changes/{change}/ready", Resource::Ready)?;
     Ok(())
 }
 
 /// Adds those that change its state or take an account out of its attention set, and the one that closes epochs.
-fn insert_state_paths(router: &mut Router<Place>) -> Result<(), InsertError>
+fn insert_state_paths(router: &mut Router<Resource>) -> Result<(), InsertError>
     ensures { OnOk result (router.new ≡ with_paths state_paths router.old) }
 {
-    insert_path(router, "/changes/{change}/abandon", Place::Abandon)?;
-    insert_path(router, "/changes/{change}/restore", Place::Restore)?;
-    insert_path(router, "/changes/{change}/submit", Place::Submit)?;
+    insert_path(router, "/changes/{change}/abandon", Resource::Abandon)?;
+    insert_path(router, "/changes/{change}/restore", Resource::Restore)?;
+    insert_path(router, "/changes/{change}/submit", Resource::Submit)?;
     insert_path(
         router,
         "/changes/{change}/attention/{account}/delete",
-        Place::AttentionDelete,
+        Resource::AttentionDelete,
     )?;
-    insert_path(router, "/epochs/close", Place::EpochsClose)?;
+    insert_path(router, "/epochs/close", Resource::EpochsClose)?;
     Ok(())
 }
 
 /// The router of the table.
 #[tactic(auto, unfolding(crate::specs::Table::table))]
-fn router(alloc: Global) -> Result<Router<Place>, InsertError>
+fn router(alloc: Global) -> Result<Router<Resource>, InsertError>
     ensures { IfOk result (λ r. r ≡ table) }
 {
     let mut router = Router::new(alloc);
@@ -128,11 +132,11 @@ fn router(alloc: Global) -> Result<Router<Place>, InsertError>
 
 /// The table of paths, which is the same for every request: it is made once. Contracts see nothing of it, since there is one alone.
 #[derive(Drop)]
-pub struct Routes {
-    router: Router<Place>,
+pub struct PathTable {
+    router: Router<Resource>,
 }
 
-impl Model for Routes {
+impl Model for PathTable {
     ghost use Rattle.std.specs.Prelude.{◌≡◌};
     ghost use Rattle.review_http_requests.specs.Table.{table};
 
@@ -143,18 +147,18 @@ impl Model for Routes {
     ghost invariant = { λ r. r.router ≡ table };
 }
 
-impl Routes {
+impl PathTable {
     /// The table, or an error where there is no memory for it.
-    pub fn new(alloc: Global) -> Result<Routes, AllocError> {
+    pub fn new(alloc: Global) -> Result<PathTable, AllocError> {
         match router(alloc) {
-            Ok(router) => Ok(Routes { router }),
+            Ok(router) => Ok(PathTable { router }),
             Err(_) => Err(AllocError),
         }
     }
 
-    /// The place of a path, or none where it has none.
-    pub fn place_of(&self, path: &str) -> Option<Place>
-        ensures { result ≡ place_of path.now }
+    /// The resource that a path names, or none where it names none.
+    pub fn resource_of(&self, path: &str) -> Option<Resource>
+        ensures { result ≡ resource_of path.now }
     {
         match self.router.at(path) {
             Ok(found) => Some(*found.value),

@@ -1,7 +1,6 @@
 //! A JSON text, written token by token: no value is made of what it says.
 ghost use Rattle.std.specs.Prelude.{◌≡◌, ◌++◌, ◌∷◌, [], IfOk, OnOk, map, string_bytes};
-ghost use Rattle.json.specs.Print.{print};
-ghost use Rattle.json.specs.Token.{begin_array, begin_object, end_array, end_object, key};
+ghost use Rattle.json.specs.{Print.print, Token.begin_object, Token.end_object, Token.key};
 ghost use Rattle.serde_json.specs.Data.{Data, array, boolean, number, string};
 ghost use Rattle.serde_json.specs.{Find.of_integer, View.items_of};
 ghost use Rattle.review_json.specs.{Shown.number_data, Tokens.HasPut, Tokens.member_tokens, Tokens.value_tokens};
@@ -128,26 +127,14 @@ impl JsonText {
         self.writer.boolean(flag)
     }
 
-    fn begin_array(&mut self) -> Result<(), AllocError>
-        ensures { OnOk result (HasPut self.old self.new (begin_array ∷ [])) }
-    {
-        self.writer.begin_array()
-    }
-
-    fn end_array(&mut self) -> Result<(), AllocError>
-        ensures { OnOk result (HasPut self.old self.new (end_array ∷ [])) }
-    {
-        self.writer.end_array()
-    }
-
     /// Writes a list, item by item.
     pub fn list<T: Written>(&mut self, items: &[T]) -> Result<(), AllocError>
         ensures { OnOk result (HasPut self.old self.new (value_tokens (array (items_of (map T.value_of items.now))))) }
     {
-        self.begin_array()?;
+        self.writer.begin_array()?;
         for item in items {
             item.write_to(self)?;
         }
-        self.end_array()
+        self.writer.end_array()
     }
 }

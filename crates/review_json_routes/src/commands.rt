@@ -4,18 +4,20 @@ ghost use Rattle.review_json_routes.specs.Commands.{change_command_in, command_i
 ghost use Rattle.review_json_routes.specs.declared.route.Route.TheVariants.{RecordBase};
 
 use crate::changes::{new_change, new_patch};
+use crate::comments::comments_in;
 use crate::parts::{epoch_at, file_at, members_at, name_at};
-use crate::reviews::{has_refused, said};
+use crate::reviews::{has_refused, message_in};
 use crate::roles::{account_named_at, role_in};
 use crate::route::{ChangeRoute, Route};
 use crate::texts::body_of;
+use crate::votes::labels_in;
 use review_names::Bad;
-use review_words::{BranchName, ChangeCommand, Command, ProjectName};
+use review_words::{BranchName, ChangeCommand, Command, ProjectName, Review};
 use serde_json::Value;
 use std::alloc::Global;
 
 /// What an object asks of a change. Form exactly where it asks nothing of the kind.
-#[tactic(auto, unfolding(crate::specs::Commands::change_command_in))]
+#[tactic(auto, unfolding(crate::specs::Commands::change_command_in, crate::specs::Reviews::said))]
 fn change_command_in(alloc: Global, asked: ChangeRoute, body: &Value) -> Result<ChangeCommand, Bad>
     ensures { Gives result (change_command_in asked (view body.now)) }
 {
@@ -25,7 +27,15 @@ fn change_command_in(alloc: Global, asked: ChangeRoute, body: &Value) -> Result<
             if has_refused(body) {
                 return Err(Bad::Form);
             }
-            Ok(ChangeCommand::Review(said(alloc, patch, body)?))
+            let message = message_in(alloc, body)?;
+            let labels = labels_in(alloc, body)?;
+            let comments = comments_in(alloc, body)?;
+            Ok(ChangeCommand::Review(Review {
+                patch,
+                message,
+                labels,
+                comments,
+            }))
         }
         ChangeRoute::AddReviewer => {
             let account = account_named_at("reviewer", body)?;

@@ -1,13 +1,12 @@
 //! The comments that a review makes.
-ghost use Rattle.std.specs.Prelude.{◌≡◌, ◌++◌, Some, None, Err, IfOk, OnOk, option_map};
-ghost use Rattle.serde_json.specs.View.{view, items_view, members_view};
-ghost use Rattle.review_names.specs.Bad.{Gives};
-ghost use Rattle.review_json_routes.specs.Reviews.{line_in, answered_in, comment_of, comments_on, comments_at, comments_from, comments_in};
+ghost use Rattle.std.specs.Prelude.{◌≡◌, ◌++◌, Some, None, Err, OnOk, option_map};
+ghost use Rattle.{serde_json.specs.View.view, serde_json.specs.View.items_view, review_names.specs.Bad.Gives};
+ghost use Rattle.review_json_routes.specs.Reviews.{line_in, answered_in, comment_of, comments_on, comments_at, comments_in};
 
 use crate::parts::{flag_at, name_at};
 use review_names::Bad;
 use review_words::{CommentNo, Comments, NewComment, Place};
-use serde_json::{Map, Value};
+use serde_json::Value;
 use std::alloc::Global;
 
 /// The line that is commented on: `line`, a whole number from 0 to 1,000,000,000, 0 where it is absent.
@@ -88,17 +87,6 @@ fn comments_at(
     comments_on(alloc, comments, &place, list)
 }
 
-fn comments_from(alloc: Global, members: &Map<String, Value>) -> Result<Vec<NewComment>, Bad>
-    ensures ok { IfOk result (λ comments. comments_from (members_view members.now.entries) ≡ Some comments.items) }
-    ensures form { result ≡ Err Bad.Form → comments_from (members_view members.now.entries) ≡ None }
-{
-    let mut comments = Vec::new(alloc);
-    for (key, value) in members.iter() {
-        comments_at(alloc, &mut comments, key.as_str(), value)?;
-    }
-    Ok(comments)
-}
-
 /// The comments that a review makes: `comments`, an object from places to lists of comments,
 /// which may be absent. They come in the order of the bytes of their places, those of one place
 /// in the order of its list.
@@ -106,9 +94,12 @@ fn comments_from(alloc: Global, members: &Map<String, Value>) -> Result<Vec<NewC
 pub fn comments_in(alloc: Global, body: &Value) -> Result<Comments, Bad>
     ensures { Gives result (comments_in (view body.now)) }
 {
-    let comments = match body.get("comments") {
-        Some(comments) => comments_from(alloc, comments.as_object().ok_or(Bad::Form)?)?,
-        None => Vec::new(alloc),
+    let mut comments = Vec::new(alloc);
+    let Some(places) = body.get("comments") else {
+        return Comments::from_vec(comments);
     };
+    for (key, value) in places.as_object().ok_or(Bad::Form)?.iter() {
+        comments_at(alloc, &mut comments, key.as_str(), value)?;
+    }
     Comments::from_vec(comments)
 }

@@ -29,7 +29,7 @@ pub use parts::{
     account_at, change_at, epoch_at, epoch_or_first, file_at, members_at, name_at, text_at,
 };
 pub use questions::{is_question, needs_body, query_of};
-pub use reviews::{has_refused, patch_in, said};
+pub use reviews::{has_refused, patch_in};
 pub use roles::{account_named_at, role_in};
 pub use route::{ChangeRoute, Route};
 pub use texts::{name_of_bytes, value_of};

@@ -1,12 +1,10 @@
 //! The bodies of reviews, and the patch sets that they are of.
 ghost use Rattle.std.specs.Prelude.{◌≡◌, is_some};
 ghost use Rattle.{serde_json.specs.Find.get, serde_json.specs.View.view, review_names.specs.Bad.Gives};
-ghost use Rattle.review_json_routes.specs.Reviews.{patch_in, message_in, has_refused, said};
+ghost use Rattle.review_json_routes.specs.Reviews.{patch_in, message_in, has_refused};
 
-use crate::comments::comments_in;
-use crate::votes::labels_in;
 use review_names::Bad;
-use review_words::{Message, PatchNo, Review};
+use review_words::{Message, PatchNo};
 use serde_json::Value;
 use std::alloc::Global;
 
@@ -55,20 +53,4 @@ pub fn has_refused(body: &Value) -> bool
         || has("add_to_attention_set", body)
         || has("remove_from_attention_set", body)
         || has("ignore_automatic_attention_set_rules", body)
-}
-
-/// What a body says of a patch set: `message`, `labels` and `comments`, each of which may be absent.
-#[tactic(auto, unfolding(crate::specs::Reviews::said))]
-pub fn said(alloc: Global, patch: Option<PatchNo>, body: &Value) -> Result<Review, Bad>
-    ensures { Gives result (said patch (view body.now)) }
-{
-    let message = message_in(alloc, body)?;
-    let labels = labels_in(alloc, body)?;
-    let comments = comments_in(alloc, body)?;
-    Ok(Review {
-        patch,
-        message,
-        labels,
-        comments,
-    })
 }

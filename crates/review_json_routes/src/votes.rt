@@ -1,11 +1,11 @@
 //! The values that a review gives on labels.
-ghost use Rattle.std.specs.Prelude.{◌≡◌, Some, None, Err, IfOk};
-ghost use Rattle.{serde_json.specs.View.view, serde_json.specs.View.members_view, review_names.specs.Bad.Gives};
-ghost use Rattle.review_json_routes.specs.Reviews.{value_of, given_of, given_in, labels_in};
+ghost use Rattle.std.specs.Prelude.{◌≡◌};
+ghost use Rattle.{serde_json.specs.View.view, review_names.specs.Bad.Gives};
+ghost use Rattle.review_json_routes.specs.Reviews.{value_of, given_of, labels_in};
 
 use review_names::Bad;
 use review_words::{Given, LabelName, Labels};
-use serde_json::{Map, Value};
+use serde_json::Value;
 use std::alloc::Global;
 
 /// The value on a label that a whole number is, if it is from -99 to 99.
@@ -30,27 +30,19 @@ fn given_of(alloc: Global, key: &str, value: &Value) -> Result<Given, Bad>
     Ok(Given { label, value })
 }
 
-fn given_in(alloc: Global, members: &Map<String, Value>) -> Result<Vec<Given>, Bad>
-    ensures ok { IfOk result (λ given. given_in (members_view members.now.entries) ≡ Some given.items) }
-    ensures form { result ≡ Err Bad.Form → given_in (members_view members.now.entries) ≡ None }
-{
-    let mut given = Vec::new(alloc);
-    for (key, value) in members.iter() {
-        let one = given_of(alloc, key.as_str(), value)?;
-        given.push(one)?;
-    }
-    Ok(given)
-}
-
 /// The values that a review gives: `labels`, an object from the names of labels to whole numbers
 /// from -99 to 99, which may be absent.
 #[tactic(auto, unfolding(crate::specs::Reviews::labels_in, crate::specs::Reviews::labels_of))]
 pub fn labels_in(alloc: Global, body: &Value) -> Result<Labels, Bad>
     ensures { Gives result (labels_in (view body.now)) }
 {
-    let given = match body.get("labels") {
-        Some(labels) => given_in(alloc, labels.as_object().ok_or(Bad::Form)?)?,
-        None => Vec::new(alloc),
+    let mut given = Vec::new(alloc);
+    let Some(labels) = body.get("labels") else {
+        return Ok(Labels::from_vec(alloc, given)?);
     };
+    for (key, value) in labels.as_object().ok_or(Bad::Form)?.iter() {
+        let one = given_of(alloc, key.as_str(), value)?;
+        given.push(one)?;
+    }
     Ok(Labels::from_vec(alloc, given)?)
 }

@@ -6,7 +6,7 @@ ghost use Rattle.review_http.specs.Served.{WasServed};
 
 use crate::rules::DeskRules;
 use review_http::{ServeFault, Served, serve_request};
-use review_http_requests::{Counted, Routes};
+use review_http_requests::{Counted, PathTable};
 use review_machine_rows::Shelf;
 use std::alloc::Global;
 use std::io::{Read, Write};
@@ -28,12 +28,12 @@ pub fn serve_one<R: Read, W: Write, S: Shelf>(
     ensures read { result ≡ Err ServeFault.Read → faults_of reader.new ≡ one_more (faults_of reader.old) }
     ensures write { result ≡ Err ServeFault.Write → faults_of writer.new ≡ one_more (faults_of writer.old) }
 {
-    let Ok(routes) = Routes::new(alloc) else {
+    let Ok(paths) = PathTable::new(alloc) else {
         return Err(ServeFault::Memory);
     };
     serve_request(
         alloc,
-        &routes,
+        &paths,
         reader,
         writer,
         shelf,

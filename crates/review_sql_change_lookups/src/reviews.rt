@@ -86,19 +86,6 @@ fn find_talk<S: Alter>(
     })
 }
 
-fn find_rows<S: Alter>(
-    tx: &mut Transaction<'_, S>,
-    alloc: Global,
-    number: ChangeNo,
-) -> Result<FoundRows, Error>
-    ensures same_reference { tx.new.conn.ghost_name ≡ tx.old.conn.ghost_name }
-    ensures looks { Looks (AreFoundRows number) (state S.Store tx.old.conn.now) (state S.Store tx.new.conn.now) result }
-{
-    let sets = find_sets(tx, alloc, number)?;
-    let talk = find_talk(tx, alloc, number)?;
-    Ok(FoundRows { sets, talk })
-}
-
 fn is_empty<K: Key, V: Drop>(table: &Table<K, V>) -> bool
     ensures none { result ≡ true → rows_of table.now ≡ [] }
     ensures some { result ≡ false → HasRow K.cmp (rows_of table.now) }
@@ -210,8 +197,9 @@ pub fn find_change<S: Alter>(
     ensures same_reference { tx.new.conn.ghost_name ≡ tx.old.conn.ghost_name }
     ensures looks { Looks (Sees (want.Change number)) (state S.Store tx.old.conn.now) (state S.Store tx.new.conn.now) result }
 {
-    let found = find_rows(tx, alloc, number)?;
-    Ok(tell_change(alloc, found))
+    let sets = find_sets(tx, alloc, number)?;
+    let talk = find_talk(tx, alloc, number)?;
+    Ok(tell_change(alloc, FoundRows { sets, talk }))
 }
 
 fn tell_last_change(found: Option<Option<u64>>) -> Sight

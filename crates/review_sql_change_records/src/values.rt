@@ -77,24 +77,16 @@ pub fn answers_number(answers: Option<CommentNo>) -> u32
     }
 }
 
-fn integer_at(row: &Row, at: usize) -> Option<i64>
-    ensures { result ≡ integer_in (column row.now at) }
-{
-    match row.get_ref(at) {
-        Ok(ValueRef::Int(number)) => Some(number),
-        _ => None,
-    }
-}
-
 /// The vote whose value is in a column; none where it is no value of a vote.
 pub fn vote_at(row: &Row, at: usize) -> Option<Vote>
     ensures { result ≡ where_is is_vote (integer_in (column row.now at)) }
 {
-    let number = integer_at(row, at)?;
-    if number < -128 || number > 127 {
-        return None;
+    match row.get_ref(at) {
+        Ok(ValueRef::Int(number)) if -128 <= number && number <= 127 => {
+            Vote::from_value(number as i8)
+        }
+        _ => None,
     }
-    Vote::from_value(number as i8)
 }
 
 /// The value of a vote.

@@ -1,14 +1,13 @@
 //! The rows of an owner are looked up and changed, whatever the table.
-ghost use Rattle.std.specs.Prelude.{◌≡◌, option_map, IfOk};
+ghost use Rattle.std.specs.Prelude.{◌≡◌, option_map};
 ghost use Rattle.{sqlite.specs.Held.state, review_table.specs.Rows.rows_of};
-ghost use Rattle.review_sql_tables.specs.Ran.{Inside, Looks, Opens};
-ghost use Rattle.review_sql_tables.specs.{Search.AreParts, Search.SetsParts, Search.SetsRow, inner.Words.WereSorted};
+ghost use Rattle.review_sql_tables.specs.{Ran.Inside, Ran.Looks, Search.AreParts, Search.SetsParts};
 
 use crate::changes::change;
 use crate::table::{Lookup, Record, select};
 use review_table::{Key, RowEdit, Table as Rows};
-use sqlite::{Alter, Error, Row, Transaction};
-use std::alloc::{AllocError, Global};
+use sqlite::{Alter, Error, Transaction};
+use std::alloc::Global;
 
 /// A look-up of all rows of an owner, each with the rest of its key.
 pub trait Front: Lookup<Item = (<Self as Front>::Part, <Self as Front>::Rest)> {
@@ -28,27 +27,6 @@ pub trait Front: Lookup<Item = (<Self as Front>::Part, <Self as Front>::Rest)> {
     ghost lawful: { IsFront Self.Part.cmp Self.search whole };
 }
 
-// The rows by the rest of their keys, if they are rows of the table and no two have one key.
-fn read_apart<F: Front>(
-    alloc: Global,
-    rows: &[Row],
-) -> Result<Option<Rows<F::Part, F::Rest>>, AllocError>
-    ensures { IfOk result (λ found. WereSorted F.Part.cmp F.search.read rows.now (option_map (λ t. rows_of t) found)) }
-{
-    let mut table = Rows::new(alloc);
-    for row in rows {
-        let Some(item) = F::read(alloc, row)? else {
-            return Ok(None);
-        };
-        let (part, item) = item;
-        if table.get(&part).is_some() {
-            return Ok(None);
-        }
-        table.put(part, item)?;
-    }
-    Ok(Some(table))
-}
-
 /// All rows of an owner by the rest of their keys; none where a row of it is odd, or two have one key.
 pub fn find_parts<F: Front, S: Alter>(
     tx: &mut Transaction<'_, S>,
@@ -59,25 +37,18 @@ pub fn find_parts<F: Front, S: Alter>(
     ensures looks { Looks (λ db found. AreParts F.Part.cmp F.search F.whole owner.now db (option_map (λ t. rows_of t) found)) (state S.Store tx.old.conn.now) (state S.Store tx.new.conn.now) result }
 {
     let rows = select::<F, S>(tx, owner)?;
-    Ok(read_apart::<F>(alloc, &rows)?)
-}
-
-/// Gives a key of an owner this row, or none.
-pub fn change_part<T: Front + Record<Key = (<T as Lookup>::Key, <T as Front>::Part)>, S: Alter>(
-    tx: &mut Transaction<'_, S>,
-    alloc: Global,
-    owner: &<T as Lookup>::Key,
-    part: &T::Part,
-    row: &Option<<T as Record>::Item>,
-) -> Result<(), Error>
-where
-    <T as Lookup>::Key: Copy,
-    ensures same_reference { tx.new.conn.ghost_name ≡ tx.old.conn.ghost_name }
-    ensures ran { Inside (SetsRow T.table.search (owner.now, part.now) row.now) (state S.Store tx.old.conn.now) (state S.Store tx.new.conn.now) result }
-    ensures open { Opens (state S.Store tx.old.conn.now) (state S.Store tx.new.conn.now) result }
-{
-    let key = (*owner, part.copy()?);
-    change::<T, S>(tx, alloc, &key, row)
+    let mut table = Rows::new(alloc);
+    for row in &rows {
+        let Some(item) = F::read(alloc, row)? else {
+            return Ok(None);
+        };
+        let (part, item) = item;
+        if table.get(&part).is_some() {
+            return Ok(None);
+        }
+        table.put(part, item)?;
+    }
+    Ok(Some(table))
 }
 
 /// Makes the changes of an owner's rows, the last first, so that the first of a key stands.
@@ -95,8 +66,9 @@ where
     let mut left = changes.len();
     while left > 0 {
         left -= 1;
-        let change = &changes[left];
-        change_part::<T, S>(tx, alloc, owner, &change.key, &change.row)?;
+        let edit = &changes[left];
+        let key = (*owner, edit.key.copy()?);
+        change::<T, S>(tx, alloc, &key, &edit.row)?;
     }
     Ok(())
 }

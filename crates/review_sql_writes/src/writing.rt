@@ -3,7 +3,7 @@ ghost use Rattle.std.specs.Prelude.{◌≡◌, Some, [], ◌+◌, ◌<◌, ◌^�
 ghost use Rattle.sqlite.specs.Held.{state};
 ghost use Rattle.review_sql_tables.specs.Ran.{Inside, Within, Opens, Transacts};
 ghost use Rattle.review_sql_writes.specs.Commits.{Commits};
-ghost use Rattle.review_sql_writes.specs.inner.Words.{GivesUp, SetsDelta, SetsEdit, SetsEdits, SetsPut, SetsUnless, SetsUnowned, is_named};
+ghost use Rattle.review_sql_writes.specs.inner.Words.{GivesUp, SetsEdit, SetsEdits, SetsPut, SetsUnowned, is_named};
 
 use crate::numbers::Numbers;
 use review_machine_rows::{ChangeEdit, Delta, Kept, Put};
@@ -80,23 +80,7 @@ fn is_named(edits: &[ChangeEdit], change: ChangeNo) -> bool
     edits.iter().any(|edit| edit.change == change)
 }
 
-// Makes an edit, unless one before it is of the same change.
-fn write_unless<S: Alter>(
-    tx: &mut Transaction<'_, S>,
-    alloc: Global,
-    before: &[ChangeEdit],
-    edit: &ChangeEdit,
-) -> Result<(), Error>
-    ensures same_reference { tx.new.conn.ghost_name ≡ tx.old.conn.ghost_name }
-    ensures ran { Inside (SetsUnless (is_named before.now edit.now.change) edit.now) (state S.Store tx.old.conn.now) (state S.Store tx.new.conn.now) result }
-{
-    if is_named(before, edit.change) {
-        return Ok(());
-    }
-    write_edit(tx, alloc, edit)
-}
-
-// Makes the edits, the last first.
+// Makes the edits, the last first, each unless one before it is of the same change.
 fn write_edits<S: Alter>(
     tx: &mut Transaction<'_, S>,
     alloc: Global,
@@ -108,21 +92,13 @@ fn write_edits<S: Alter>(
     let mut left = edits.len();
     while left > 0 {
         left -= 1;
-        write_unless(tx, alloc, &edits[..left], &edits[left])?;
+        let edit = &edits[left];
+        if is_named(&edits[..left], edit.change) {
+            continue;
+        }
+        write_edit(tx, alloc, edit)?;
     }
     Ok(())
-}
-
-fn write_delta<S: Alter>(
-    tx: &mut Transaction<'_, S>,
-    alloc: Global,
-    delta: &Delta,
-) -> Result<(), Error>
-    ensures same_reference { tx.new.conn.ghost_name ≡ tx.old.conn.ghost_name }
-    ensures ran { Inside (SetsDelta delta.now) (state S.Store tx.old.conn.now) (state S.Store tx.new.conn.now) result }
-{
-    write_unowned(tx, alloc, delta)?;
-    write_edits(tx, alloc, &delta.changes)
 }
 
 // Makes an epoch the least open one, and takes the kept answers of lower ones away.
@@ -165,7 +141,8 @@ fn write<S: Alter>(
     ensures ran { Within (Commits delta.now kept.now numbers.now) (state S.Store tx.old.conn.now) (state S.Store tx.new.conn.now) result }
     ensures open { Opens (state S.Store tx.old.conn.now) (state S.Store tx.new.conn.now) result }
 {
-    write_delta(tx, alloc, delta)?;
+    write_unowned(tx, alloc, delta)?;
+    write_edits(tx, alloc, &delta.changes)?;
     answers::put(tx, alloc, kept)?;
     give_up(tx, alloc, delta.least_epoch)?;
     let row = DeskRow {

@@ -1,14 +1,13 @@
 -- Words that only proofs and private clauses use.
 use Rattle.std.specs.Prelude.{[], ◌<◌, ◌++◌, ℕ, List, length, ◌+◌, ◌≡◌, Bool, true, false, Result, Ok, Err, ◌≤◌, drop, ◌⊎◌}
-use Rattle.httparse.specs.Grammar.{RequestHead, ReadsRequest, print_request, NeverHasRequest, HasNoRequest, MayBecomeRequest}
+use Rattle.httparse.specs.Grammar.{RequestHead, ReadsRequest, print_request, NeverHasRequest}
 use Rattle.review_http_requests.specs.Heads.{Occurs, absent, once, again, envelope}
 use Rattle.review_http_requests.specs.Wire.{IsNotWhole, CallsFor, most_fields, HasManyFields, Follows}
 use Rattle.review_http_requests.specs.declared.{envelope.Envelope.Envelope, fault.RequestFault.RequestFault}
 use Rattle.review_http_requests.specs.declared.fields.Field.{Field}
 use Rattle.review_http_requests.specs.declared.fields.Field.TheVariants.{Absent, Once, Again}
-use Rattle.review_http_requests.specs.declared.{http_fault.HttpFault.HttpFault, judge.Head.Head}
-use Rattle.review_http_requests.specs.declared.judge.Head.TheVariants.{Asks, Partial}
-use Rattle.review_http_requests.specs.declared.judge.Look.{Look, TheVariants.Whole, TheVariants.Wants}
+use Rattle.review_http_requests.specs.declared.{http_fault.HttpFault.HttpFault, judge.Look.Look}
+use Rattle.review_http_requests.specs.declared.judge.Look.TheVariants.{Whole, Wants}
 use Rattle.review_http_requests.specs.declared.fault.RequestFault.TheVariants as request
 use Rattle.review_http_requests.specs.declared.http_fault.HttpFault.TheVariants as faults
 
@@ -40,14 +39,6 @@ abbrev pub IsFaultOf : List ℕ → HttpFault → Type 0
 IsFaultOf buf f =
     ((h : RequestHead) × Stands buf h × (envelope h ≡ Err f)) ⊎ ((f ≡ faults.BadHead) × NeverHasRequest buf)
     ⊎ ((f ≡ faults.HeadTooLarge) × HasManyFields buf)
-
--- what stands at the front of the bytes, or the fault of it
-abbrev pub HeadIs : List ℕ → Result Head RequestFault → Type 0
-HeadIs buf (Ok (Asks n a)) = (h : RequestHead) × Stands buf h × (n ≡ length (print_request h)) × (n ≤ length buf) × (envelope h ≡ Ok a)
-HeadIs buf (Ok Partial) = HasNoRequest buf × MayBecomeRequest buf
-HeadIs buf (Err (request.Http f)) = IsFaultOf buf f
-HeadIs buf (Err request.Memory) = Unit {0}
-HeadIs buf (Err _) = ⊥
 
 -- what the bytes after a head that ends there, and the end of the input, say of what it asked for
 abbrev pub Finishes : Envelope → ℕ → List ℕ → Bool → Result Look RequestFault → Type 0

@@ -1,22 +1,31 @@
-use Rattle.std.proofs.Common.{List, ℕ, subst, Ok}
-use Rattle.review_http_requests.proofs.Telling.{judged_body, front_within}
-use Rattle.review_http_requests.specs.{Wire.front, inner.Words.HeadIs}
+use Rattle.std.proofs.Common.{◌≡◌, length, Err, ◌∙◌, sym, arith}
+use Rattle.std.proofs.lemmas.Grind.{common_steps}
+use Rattle.review_http_requests.proofs.Telling.{found, judged_body, judged_refused, front_within}
+use Rattle.review_http_requests.specs.inner.Words.{Judges}
 use Rattle.review_http_requests.proofs.judge.judge.Goals as goal
+
+pub returns-in_err-envelope-in-Ok-Complete : goal.returns-in_err-envelope-in-Ok-Complete
+returns-in_err-envelope-in-Ok-Complete c =
+    let w = rw c.in-Ok-Complete.field-0-is at c.in-Ok-Complete.ensures.complete in
+    let v = rw c.in-Ok-Complete.field-0-is at c.in-Ok-Complete.ensures.within in
+    let room : length c.parse_request.new.headers ≡ 64 = omega arith in
+    let h = found c.args.bytes.now _ _ c.in-Ok-Complete.spans c.front_of-front.ensures room w v in
+    let e = c.in_err-envelope-in-Ok-Complete.ensures in
+    let j : Judges c.args.bytes.now c.args.ended (Err c.in_err-envelope-in-Ok-Complete.field-0.0) =
+    judged_refused c.args.bytes.now h.0 c.args.ended _ h.1 (rw (h.4, ← c.of-method.ensures, ← c.of-target.ensures) e) in
+    grind (arith, common_steps, j)
 
 pub body_from-requires : goal.body_from-requires
 body_from-requires c =
-    let h : HeadIs (front c.args.bytes.now) (Ok c.in_ok-end.field-0) = subst (λ (b : List ℕ). HeadIs b (Ok c.in_ok-end.field-0)) c.front_of.ensures c.in_ok-end.ensures in
-    let w = rw c.in-Asks.is at h in
-    front_within c.args.bytes.now c.in-Asks.end w.3
+    front_within c.args.bytes.now c.in-Ok-Complete.spans.len (rw (sym c.front_of-front.ensures) (grind (arith, common_steps)))
 
-pub unfinished-requires : goal.unfinished-requires
-unfinished-requires c =
-    let h : HeadIs (front c.args.bytes.now) (Ok c.in_ok-end.field-0) = subst (λ (b : List ℕ). HeadIs b (Ok c.in_ok-end.field-0)) c.front_of.ensures c.in_ok-end.ensures in
-    rw c.in-Partial.is at h
-
-pub returns-in-Asks : goal.returns-in-Asks
-returns-in-Asks c =
-    let h : HeadIs (front c.args.bytes.now) (Ok c.in_ok-end.field-0) = subst (λ (b : List ℕ). HeadIs b (Ok c.in_ok-end.field-0)) c.front_of.ensures c.in_ok-end.ensures in
-    let w = rw c.in-Asks.is at h in
+pub returns-in_ok-envelope-in-Ok-Complete : goal.returns-in_ok-envelope-in-Ok-Complete
+returns-in_ok-envelope-in-Ok-Complete c =
+    let w = rw c.in-Ok-Complete.field-0-is at c.in-Ok-Complete.ensures.complete in
+    let v = rw c.in-Ok-Complete.field-0-is at c.in-Ok-Complete.ensures.within in
+    let room : length c.parse_request.new.headers ≡ 64 = omega arith in
+    let h = found c.args.bytes.now _ _ c.in-Ok-Complete.spans c.front_of-front.ensures room w v in
+    let e = c.in_ok-envelope-in-Ok-Complete.ensures in
     let f = rw c.body_from.ensures at c.finish.ensures in
-    judged_body c.args.bytes.now c.in-Asks.end c.in-Asks.envelope c.args.ended c.finish.result w f
+    judged_body c.args.bytes.now c.in-Ok-Complete.spans.len c.in_ok-envelope-in-Ok-Complete.envelope c.args.ended c.finish.result
+    (h.0, h.1, h.2, h.3, h.4 ∙ rw (← c.of-method.ensures, ← c.of-target.ensures) e) f
