@@ -1,5 +1,5 @@
 -- The table of paths, as the router's definition has it.
-use Rattle.std.specs.Prelude.{ℕ, List, [], ◌∷◌, ◌++◌, Option, option_map, codes, Result, Ok, Err, ◌≡◌, length}
+use Rattle.std.specs.Prelude.{ℕ, List, [], ◌∷◌, Option, option_map, codes, Result, Ok, Err, ◌≡◌, length}
 use Rattle.matchit.specs.{Order.placed, Route.Scan, Route.parse_route, Router.RouteOf, Router.route_from, Rows.RowsOf}
 use Rattle.matchit.specs.{Seek.first, declared.error.InsertError.InsertError}
 use Rattle.review_words.specs.declared.command.ChangeQuery.TheVariants.{Change, Requirements, Threads}
@@ -19,49 +19,30 @@ add_read (Err e) resource rows = rows
 unfoldable pub with_path : List ℕ → Resource → Rows → Rows
 with_path text resource rows = add_read (parse_route text) resource rows
 
--- the paths of accounts, groups, projects, branches and new changes; a name or a number is left open between braces
-abbrev pub desk_paths : List (List ℕ × Resource)
-desk_paths =
+-- the paths that there are, each with the resource that it names; a name or a number is left open between braces
+abbrev pub paths : List (List ℕ × Resource)
+paths =
     (codes "/accounts", Accounts)
     ∷ (codes "/groups/{group}", Group)
     ∷ (codes "/projects/{project}", Project)
     ∷ (codes "/projects/{project}/branches/{branch}", Branch)
     ∷ (codes "/changes/", Changes)
-    ∷ []
-
--- the paths of a change, of what is asked of it, and of its new patch sets
-abbrev pub change_paths : List (List ℕ × Resource)
-change_paths =
-    (codes "/changes/{change}", Asked Change)
+    ∷ (codes "/changes/{change}", Asked Change)
     ∷ (codes "/changes/{change}/requirements", Asked Requirements)
     ∷ (codes "/changes/{change}/threads", Asked Threads)
     ∷ (codes "/changes/{change}/attention", Attention)
     ∷ (codes "/changes/{change}/revisions", Revisions)
-    ∷ []
-
--- the paths of its reviews, its reviewers and its work in progress
-abbrev pub reviewing_paths : List (List ℕ × Resource)
-reviewing_paths =
-    (codes "/changes/{change}/revisions/{patch_set}/review", Review)
+    ∷ (codes "/changes/{change}/revisions/{patch_set}/review", Review)
     ∷ (codes "/changes/{change}/reviewers", Reviewers)
     ∷ (codes "/changes/{change}/reviewers/{account}/delete", ReviewerDelete)
     ∷ (codes "/changes/{change}/wip", Wip)
     ∷ (codes "/changes/{change}/ready", Ready)
-    ∷ []
-
--- the paths that end it, or take who is called off it, and the one that closes epochs
-abbrev pub state_paths : List (List ℕ × Resource)
-state_paths =
-    (codes "/changes/{change}/abandon", Abandon)
+    ∷ (codes "/changes/{change}/abandon", Abandon)
     ∷ (codes "/changes/{change}/restore", Restore)
     ∷ (codes "/changes/{change}/submit", Submit)
     ∷ (codes "/changes/{change}/attention/{account}/delete", AttentionDelete)
     ∷ (codes "/epochs/close", EpochsClose)
     ∷ []
-
--- the paths that there are, each with the resource that it names
-abbrev pub paths : List (List ℕ × Resource)
-paths = desk_paths ++ (change_paths ++ (reviewing_paths ++ state_paths))
 
 -- the paths with more, one after the other
 abbrev pub with_paths : List (List ℕ × Resource) → Rows → Rows

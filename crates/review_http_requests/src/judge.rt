@@ -101,15 +101,21 @@ fn body_from(bytes: &[u8], end: usize) -> &[u8]
     &bytes[end..]
 }
 
-/// The delivery or the fault that the bytes so far call for, if they are enough for one.
+/// The delivery or the fault that the bytes so far call for, if they are enough for one. Fewer than are wanted are no whole request, and are not looked at before more have come, or the end
+/// of the input.
 pub fn judge(
     alloc: Global,
     paths: &PathTable,
     bytes: &[u8],
     ended: bool,
+    wanted: usize,
 ) -> Result<Look, RequestFault>
+    requires { WaitsFor wanted bytes.now }
     ensures { Judges bytes.now ended result }
 {
+    if !ended && bytes.len() < wanted {
+        return Ok(Look::Wants(wanted));
+    }
     let front = front_of(bytes);
     let mut headers = [EMPTY_HEADER_SPAN; 64];
     match parse_request(front, &mut headers) {
@@ -125,21 +131,4 @@ pub fn judge(
         Err(Error::TooManyHeaders) => Err(RequestFault::Http(HttpFault::HeadTooLarge)),
         Err(_) => Err(RequestFault::Http(HttpFault::BadHead)),
     }
-}
-
-/// Judges the bytes once enough of them are there: fewer than are wanted are no whole request, and are not looked at before more have come, or the end of the input.
-pub fn judge_enough(
-    alloc: Global,
-    paths: &PathTable,
-    bytes: &[u8],
-    ended: bool,
-    wanted: usize,
-) -> Result<Look, RequestFault>
-    requires { WaitsFor wanted bytes.now }
-    ensures { Judges bytes.now ended result }
-{
-    if !ended && bytes.len() < wanted {
-        return Ok(Look::Wants(wanted));
-    }
-    judge(alloc, paths, bytes, ended)
 }

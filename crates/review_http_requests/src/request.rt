@@ -5,7 +5,7 @@ ghost use Rattle.review_http_requests.specs.RequestLaws.{WasTold, IsToldOfInput}
 ghost use Rattle.review_http_requests.specs.Shown.{inner_of, reads_of, faults_of};
 
 use crate::fault::RequestFault;
-use crate::judge::{Look, judge, judge_enough};
+use crate::judge::{Look, judge};
 use crate::{Counted, PathTable, Stop, read_more};
 use review_words::Delivery;
 use std::alloc::Global;
@@ -32,7 +32,7 @@ pub fn read_request<R: Read>(
     let mut ended = false;
     let mut wanted = 0;
     for _ in 0..4096u16 {
-        match judge_enough(alloc, paths, bytes.as_slice(), ended, wanted) {
+        match judge(alloc, paths, bytes.as_slice(), ended, wanted) {
             Ok(Look::Whole(delivery)) => return Ok(delivery),
             Ok(Look::Wants(count)) => wanted = count,
             Err(fault) => return Err(fault),
@@ -43,7 +43,7 @@ pub fn read_request<R: Read>(
             Err(Stop::Memory) => return Err(RequestFault::Memory),
         }
     }
-    match judge(alloc, paths, bytes.as_slice(), ended) {
+    match judge(alloc, paths, bytes.as_slice(), ended, wanted) {
         Ok(Look::Whole(delivery)) => Ok(delivery),
         Ok(Look::Wants(_)) => Err(RequestFault::Reads),
         Err(fault) => Err(fault),

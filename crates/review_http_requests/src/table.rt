@@ -1,6 +1,6 @@
 //! The table of paths.
 ghost use Rattle.std.specs.Prelude.{◌≡◌, IfOk, OnOk};
-ghost use Rattle.review_http_requests.specs.Table.{change_paths, desk_paths, state_paths, resource_of, reviewing_paths, table, with_path, with_paths};
+ghost use Rattle.review_http_requests.specs.{Table.resource_of, Table.table, Table.with_paths, inner.Words.entries};
 
 use matchit::{InsertError, Router};
 use review_words::ChangeQuery;
@@ -31,89 +31,51 @@ pub enum Resource {
     EpochsClose,
 }
 
-fn insert_path(
-    router: &mut Router<Resource>,
-    text: &str,
-    resource: Resource,
-) -> Result<(), InsertError>
-    ensures { OnOk result (router.new ≡ with_path text.now resource router.old) }
-{
-    router.insert(text, resource)
-}
-
-/// Adds the paths of accounts, groups, projects, branches and new changes.
-fn insert_desk_paths(router: &mut Router<Resource>) -> Result<(), InsertError>
-    ensures { OnOk result (router.new ≡ with_paths desk_paths router.old) }
-{
-    insert_path(router, "/accounts", Resource::Accounts)?;
-    insert_path(router, "/groups/{group}", Resource::Group)?;
-    insert_path(router, "/projects/{project}", Resource::Project)?;
-    insert_path(
-        router,
-        "/projects/{project}/branches/{branch}",
-        Resource::Branch,
-    )?;
-    insert_path(router, "/changes/", Resource::Changes)?;
-    Ok(())
-}
-
-/// Adds those of a change, of what is asked of it, and of its new patch sets.
-fn insert_change_paths(router: &mut Router<Resource>) -> Result<(), InsertError>
-    ensures { OnOk result (router.new ≡ with_paths change_paths router.old) }
-{
-    insert_path(
-        router,
-        "/changes/{change}",
-        Resource::Asked(ChangeQuery::Change),
-    )?;
-    insert_path(
-        router,
+/// The paths that there are, each with the resource that it names. A name or a number is left open between braces.
+const PATHS: [(&str, Resource); 20] = [
+    ("/accounts", Resource::Accounts),
+    ("/groups/{group}", Resource::Group),
+    ("/projects/{project}", Resource::Project),
+    ("/projects/{project}/branches/{branch}", Resource::Branch),
+    ("/changes/", Resource::Changes),
+    ("/changes/{change}", Resource::Asked(ChangeQuery::Change)),
+    (
         "/changes/{change}/requirements",
         Resource::Asked(ChangeQuery::Requirements),
-    )?;
-    insert_path(
-        router,
+    ),
+    (
         "/changes/{change}/threads",
         Resource::Asked(ChangeQuery::Threads),
-    )?;
-    insert_path(router, "/changes/{change}/attention", Resource::Attention)?;
-    insert_path(router, "/changes/{change}/revisions", Resource::Revisions)?;
-    Ok(())
-}
-
-/// Adds those of its reviews, its reviewers and its work in progress.
-fn insert_reviewing_paths(router: &mut Router<Resource>) -> Result<(), InsertError>
-    ensures { OnOk result (router.new ≡ with_paths reviewing_paths router.old) }
-{
-    insert_path(
-        router,
+    ),
+    ("/changes/{change}/attention", Resource::Attention),
+    ("/changes/{change}/revisions", Resource::Revisions),
+    (
         "/changes/{change}/revisions/{patch_set}/review",
         Resource::Review,
-    )?;
-    insert_path(router, "/changes/{change}/reviewers", Resource::Reviewers)?;
-    insert_path(
-        router,
+    ),
+    ("/changes/{change}/reviewers", Resource::Reviewers),
+    (
         "/changes/{change}/reviewers/{account}/delete",
         Resource::ReviewerDelete,
-    )?;
-    insert_path(router, "/changes/{change}/wip", Resource::Wip)?;
-    insert_path(router, "/changes/{change}/ready", Resource::Ready)?;
-    Ok(())
-}
-
-/// Adds those that change its state or take an account out of its attention set, and the one that closes epochs.
-fn insert_state_paths(router: &mut Router<Resource>) -> Result<(), InsertError>
-    ensures { OnOk result (router.new ≡ with_paths state_paths router.old) }
-{
-    insert_path(router, "/changes/{change}/abandon", Resource::Abandon)?;
-    insert_path(router, "/changes/{change}/restore", Resource::Restore)?;
-    insert_path(router, "/changes/{change}/submit", Resource::Submit)?;
-    insert_path(
-        router,
+    ),
+    ("/changes/{change}/wip", Resource::Wip),
+    ("/changes/{change}/ready", Resource::Ready),
+    ("/changes/{change}/abandon", Resource::Abandon),
+    ("/changes/{change}/restore", Resource::Restore),
+    ("/changes/{change}/submit", Resource::Submit),
+    (
         "/changes/{change}/attention/{account}/delete",
         Resource::AttentionDelete,
-    )?;
-    insert_path(router, "/epochs/close", Resource::EpochsClose)?;
+    ),
+    ("/epochs/close", Resource::EpochsClose),
+];
+
+fn insert_each(router: &mut Router<Resource>, paths: &[(&str, Resource)]) -> Result<(), InsertError>
+    ensures { OnOk result (router.new ≡ with_paths (entries paths.now) router.old) }
+{
+    for (text, resource) in paths {
+        router.insert(text, *resource)?;
+    }
     Ok(())
 }
 
@@ -123,10 +85,7 @@ fn router(alloc: Global) -> Result<Router<Resource>, InsertError>
     ensures { IfOk result (λ r. r ≡ table) }
 {
     let mut router = Router::new(alloc);
-    insert_desk_paths(&mut router)?;
-    insert_change_paths(&mut router)?;
-    insert_reviewing_paths(&mut router)?;
-    insert_state_paths(&mut router)?;
+    insert_each(&mut router, &PATHS)?;
     Ok(router)
 }
 

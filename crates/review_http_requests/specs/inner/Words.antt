@@ -1,5 +1,6 @@
 -- Words that only proofs and private clauses use.
-use Rattle.std.specs.Prelude.{[], ◌<◌, ◌++◌, ℕ, List, length, ◌+◌, ◌≡◌, Bool, true, false, Result, Ok, Err, ◌≤◌, drop, ◌⊎◌}
+use Rattle.std.specs.Borrow.{Bor}
+use Rattle.std.specs.Prelude.{map, [], ◌<◌, ◌++◌, ℕ, List, length, ◌+◌, ◌≡◌, Bool, true, false, Result, Ok, Err, ◌≤◌, drop, ◌⊎◌}
 use Rattle.httparse.specs.Grammar.{RequestHead, ReadsRequest, print_request, NeverHasRequest}
 use Rattle.review_http_requests.specs.Heads.{Occurs, absent, once, again, envelope}
 use Rattle.review_http_requests.specs.Wire.{IsNotWhole, CallsFor, most_fields, HasManyFields, Follows}
@@ -8,6 +9,7 @@ use Rattle.review_http_requests.specs.declared.fields.Field.{Field}
 use Rattle.review_http_requests.specs.declared.fields.Field.TheVariants.{Absent, Once, Again}
 use Rattle.review_http_requests.specs.declared.{http_fault.HttpFault.HttpFault, judge.Look.Look}
 use Rattle.review_http_requests.specs.declared.judge.Look.TheVariants.{Whole, Wants}
+use Rattle.review_http_requests.specs.declared.table.Resource.{Resource}
 use Rattle.review_http_requests.specs.declared.fault.RequestFault.TheVariants as request
 use Rattle.review_http_requests.specs.declared.http_fault.HttpFault.TheVariants as faults
 
@@ -47,3 +49,7 @@ Finishes a end rest ended (Ok (Wants n)) = (ended ≡ false) × (length rest < a
 Finishes a end rest ended (Err (request.Http f)) = Follows (Ok a) rest ended (Err f)
 Finishes a end rest ended (Err request.Memory) = Unit {0}
 Finishes a end rest ended (Err _) = ⊥
+
+-- the paths of the code, as the definition of the table has them
+abbrev pub entries : List (Bor (List ℕ) × Resource) → List (List ℕ × Resource)
+entries xs = map (λ x. (x.0.now, x.1)) xs

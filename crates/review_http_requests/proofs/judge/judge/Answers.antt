@@ -1,6 +1,6 @@
 use Rattle.std.proofs.Common.{◌≡◌, length, Err, ◌∙◌, sym, arith}
 use Rattle.std.proofs.lemmas.Grind.{common_steps}
-use Rattle.review_http_requests.proofs.Telling.{found, judged_body, judged_refused, front_within}
+use Rattle.review_http_requests.proofs.Telling.{still_waits, found, judged_body, judged_refused, front_within}
 use Rattle.review_http_requests.specs.inner.Words.{Judges}
 use Rattle.review_http_requests.proofs.judge.judge.Goals as goal
 
@@ -29,3 +29,6 @@ returns-in_ok-envelope-in-Ok-Complete c =
     let f = rw c.body_from.ensures at c.finish.ensures in
     judged_body c.args.bytes.now c.in-Ok-Complete.spans.len c.in_ok-envelope-in-Ok-Complete.envelope c.args.ended c.finish.result
     (h.0, h.1, h.2, h.3, h.4 ∙ rw (← c.of-method.ensures, ← c.of-target.ensures) e) f
+
+pub returns-then-bytes-wanted : goal.returns-then-bytes-wanted
+returns-then-bytes-wanted c = still_waits c.args.bytes.now c.args.wanted c.args.ended c.if-not-ended.true c.requires c.if-bytes-wanted.true

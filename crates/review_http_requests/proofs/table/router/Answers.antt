@@ -3,12 +3,4 @@ use Rattle.review_http_requests.proofs.table.router.Goals as goal
 
 pub returns : goal.returns
 unfolding table
-returns c =
-    rw (
-      c.in_ok-insert_state_paths.ensures,
-      c.in_ok-insert_reviewing_paths.ensures,
-      c.in_ok-insert_change_paths.ensures,
-      c.in_ok-insert_desk_paths.ensures,
-      c.new-router.ensures,
-    )
-    refl
+returns c = rw (c.in_ok-insert_each.ensures, c.new-router.ensures) refl
