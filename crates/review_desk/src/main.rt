@@ -54,13 +54,15 @@ impl Starts<Unknown> for Unknowns {
     }
 }
 
-// Does a job on a file, whatever the file holds.
-fn run_on<F: Start, T: Starts<F>>(
+// Does a job: on a file, whatever the file holds, or on an empty desk in memory.
+fn run<F: Start, T: Starts<F>>(
     rt: &HostRuntime,
-    file: &str,
     mut starts: T,
     job: Job<'_>,
 ) -> Result<Outcome, ProgramFault> {
+    let Place::File(file) = job.place() else {
+        return apply_in_memory(rt);
+    };
     let conn = files::open(rt, file, starts.next())?;
     match job {
         Job::Init { .. } => files::init(rt, conn),
@@ -73,17 +75,6 @@ fn run_on<F: Start, T: Starts<F>>(
             branch,
             ..
         } => files::work_on(rt, conn, &Task::Joined { project, branch }),
-    }
-}
-
-fn run<F: Start, T: Starts<F>>(
-    rt: &HostRuntime,
-    starts: T,
-    job: Job<'_>,
-) -> Result<Outcome, ProgramFault> {
-    match job.place() {
-        Place::Memory => apply_in_memory(rt),
-        Place::File(file) => run_on(rt, file, starts, job),
     }
 }
 

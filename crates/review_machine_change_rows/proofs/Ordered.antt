@@ -2,10 +2,11 @@
 use Rattle.std.proofs.Common.{◌≡◌, ℕ, zero, suc, ◌+◌, ◌<◌, ◌≤◌, ◌==◌, true, false, cond, List, [], ◌∷◌, ◌++◌, length, Some, None, refl, sym, ap, ◌∙◌, subst, ⊎_elim, arith}
 use Rattle.std.{proofs.lemmas.Cmp.ranked, specs.List.Sorted.IsStrictlySortedBy, specs.Prelude.slice_get}
 use Rattle.review_machine_rows.proofs.Common.{AllByRecursion, Less, append-nil, cases_lt, keys_of, nat_cmp, nat_tests, of_number, row_in, unsigned_tied}
-use Rattle.review_machine_change_rows.specs.inner.Words.{AreInOrder, numbered}
+use Rattle.review_machine_change_rows.specs.declared.loading.ChangeFault.{ChangeFault}
+use Rattle.review_machine_change_rows.specs.declared.loading.ChangeFault.TheVariants.{Memory, Gap}
+use Rattle.review_machine_change_rows.specs.inner.Words.{AddsNext, AreInOrder, IsGap, IsNotNext, numbered}
 
--- one more row under the next number
-pub numbered_more : {X : Type 0} (k : ℕ) (xs : List X) (m : ℕ) (x : X) (rest : List (ℕ × X)) → m ≡ k + length xs + 1 → numbered k (xs ++ x ∷ []) ++ rest ≡ numbered k xs ++ (m, x) ∷ rest
+numbered_more : {X : Type 0} (k : ℕ) (xs : List X) (m : ℕ) (x : X) (rest : List (ℕ × X)) → m ≡ k + length xs + 1 → numbered k (xs ++ x ∷ []) ++ rest ≡ numbered k xs ++ (m, x) ∷ rest
 numbered_more k [] m x rest is = let e : k + 1 ≡ m = omega (arith, is) in ap (λ n. (n, x) ∷ rest) e
 numbered_more k (y ∷ xs) m x rest is = ap (λ l. (k + 1, y) ∷ l) (numbered_more (k + 1) xs m x rest (omega (arith, is)))
 
@@ -99,7 +100,7 @@ hole k (y ∷ xs) m x rest s low ne =
     }
 
 -- rows that pass over a number make no list
-pub gap : {X : Type 0} (rows : List (ℕ × X)) (xs : List X) (m : ℕ) (x : X) (rest : List (ℕ × X)) → IsStrictlySortedBy nat_cmp (keys_of rows) → numbered 0 xs ++ (m, x) ∷ rest ≡ rows → 1 ≤ m →
+gap : {X : Type 0} (rows : List (ℕ × X)) (xs : List X) (m : ℕ) (x : X) (rest : List (ℕ × X)) → IsStrictlySortedBy nat_cmp (keys_of rows) → numbered 0 xs ++ (m, x) ∷ rest ≡ rows → 1 ≤ m →
     (m ≡ length xs + 1 → ⊥) → (ys : List X) → AreInOrder rows ys → ⊥
 gap rows xs m x rest s is low ne ys order =
     let h = hole 0 xs m x rest (subst (λ r. IsStrictlySortedBy nat_cmp (keys_of r)) (sym is) s) (omega arith) (λ e. ne (omega (arith, e))) in
@@ -108,3 +109,17 @@ gap rows xs m x rest s is low ne ys order =
     let long = number_some ys m x (sym (order m) ∙ ap (λ r. row_in nat_cmp r m) (sym is) ∙ h.there) in
     let far = h.far in
     absurd (omega (arith, short, long, far))
+
+-- ---- one row more
+
+-- the next row of those that are left
+pub one_more : {X : Type 0} (all left rest : List (ℕ × X)) (old new : List X) (n : ℕ) (x : X) → left ≡ (n, x) ∷ rest → AddsNext old n x new → numbered 0 old ++ left ≡ all → numbered 0 new ++ rest ≡ all
+one_more all left rest old new n x is adds whole =
+    let next = adds.0 in
+    ap (λ xs. numbered 0 xs ++ rest) adds.1 ∙ numbered_more 0 old n x rest (omega (arith, next)) ∙ ap (λ xs. numbered 0 old ++ xs) (sym is) ∙ whole
+
+-- or a row whose number isn't the next
+pub not_next : {X : Type 0} (all left rest : List (ℕ × X)) (old : List X) (n : ℕ) (x : X) (f : ChangeFault) → IsStrictlySortedBy nat_cmp (keys_of all) → left ≡ (n, x) ∷ rest → numbered 0 old ++ left ≡ all →
+    IsNotNext old n f → IsGap all f
+not_next all left rest old n x Memory sorted is whole other = tt
+not_next all left rest old n x Gap sorted is whole other = gap all old n x rest sorted (ap (λ xs. numbered 0 old ++ xs) (sym is) ∙ whole) other.0 other.1

@@ -1,34 +1,12 @@
 -- The change that tables show.
 use Rattle.std.proofs.Common.{◌≡◌, ℕ, Option, Some, None, Result, Ok, Err, refl, sym, ap, subst, ◌∙◌, nat_cmp, IfErr, option_map, IsErr, IsErrAnd}
-use Rattle.review_core_rules.specs.Parts.{Part, TheHeader, PatchOf, VoteOf, RoleOf, CommentOf, AttentionOf, AHeader, APatch, ARole, AComment, AnAttentionEntry}
+use Rattle.review_core_rules.specs.Parts.{TheHeader, PatchOf, VoteOf, RoleOf, CommentOf, AttentionOf, AHeader, APatch, ARole, AComment, AnAttentionEntry}
 use Rattle.review_machine_rows.proofs.Common.{ChangeRows, CommentRow, PatchRow, VoteKey, of_number, row_in, rows_of, seen, vote_cmp, vote_row}
 use Rattle.review_machine_change_rows.proofs.Edited.{vote_is}
-use Rattle.review_machine_change_rows.specs.Tables.{HaveFault, Show, part_in}
-use Rattle.review_machine_change_rows.specs.declared.loading.ChangeFault.{ChangeFault}
+use Rattle.review_machine_change_rows.specs.{Tables.HaveFault, Tables.Show, declared.loading.ChangeFault.ChangeFault}
 use Rattle.review_machine_change_rows.specs.declared.loading.ChangeFault.TheVariants.{Memory, Gap}
 use Rattle.review_machine_change_rows.specs.declared.tables.ChangeTables.{ChangeTables}
 use Rattle.review_machine_change_rows.specs.inner.Words.{AreInOrder, IsGap}
-
--- tables whose rows are those of others
-pub record Repeats (t s : ChangeTables) : Type 0 where
-  pub header : s.header ≡ t.header
-  pub patches : (n : ℕ) → row_in nat_cmp (rows_of s.patches) n ≡ row_in nat_cmp (rows_of t.patches) n
-  pub votes : (q : VoteKey) → row_in vote_cmp (rows_of s.votes) q ≡ row_in vote_cmp (rows_of t.votes) q
-  pub roles : (u : ℕ) → row_in nat_cmp (rows_of s.roles) u ≡ row_in nat_cmp (rows_of t.roles) u
-  pub comments : (n : ℕ) → row_in nat_cmp (rows_of s.comments) n ≡ row_in nat_cmp (rows_of t.comments) n
-  pub attention : (u : ℕ) → row_in nat_cmp (rows_of s.attention) u ≡ row_in nat_cmp (rows_of t.attention) u
-
-pub repeated : (t s : ChangeTables) → Repeats t s → (part : Part) → part_in s part ≡ part_in t part
-repeated t s is TheHeader = ap (λ h. Some (AHeader h)) is.header
-repeated t s is (PatchOf n) = ap (option_map APatch) (is.patches n)
-repeated t s is (VoteOf n l a) = ap vote_row (is.votes (record { patch = n; label = l; account = a }))
-repeated t s is (RoleOf u) = ap (option_map ARole) (is.roles u)
-repeated t s is (CommentOf n) = ap (option_map AComment) (is.comments n)
-repeated t s is (AttentionOf u) = ap (option_map AnAttentionEntry) (is.attention u)
-
-pub fault_by : (t s : ChangeTables) → ((part : Part) → part_in s part ≡ part_in t part) → (f : ChangeFault) → HaveFault s f → HaveFault t f
-fault_by t s same Memory none = tt
-fault_by t s same Gap none = λ c show. none c (λ part. same part ∙ show part)
 
 -- the rows of a change are those of tables
 pub record Reads (t : ChangeTables) (r : ChangeRows) : Type 0 where

@@ -123,8 +123,9 @@ fn copied_rows<K: Key, V: Copied>(
     ensures rows { IfOk result (λ rows. rows.items ≡ rows_of table.now) }
     ensures sorted { IsStrictlySortedBy K.cmp (keys_of (rows_of table.now)) }
 {
-    let mut copies = Vec::new(alloc);
-    for (key, row) in table.rows(alloc)? {
+    let rows = table.rows(alloc)?;
+    let mut copies = Vec::with_capacity(alloc, rows.len())?;
+    for (key, row) in rows {
         let copy = copied_row(alloc, key, row)?;
         copies.push(copy)?;
     }

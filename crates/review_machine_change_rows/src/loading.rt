@@ -1,9 +1,11 @@
 //! A change from its tables.
-ghost use Rattle.std.specs.Prelude.{◌≡◌, ◌++◌, ◌∷◌, [], IfErr, IfOk, OnOk};
+ghost use Rattle.std.specs.Prelude.{◌≡◌, IfErr, IfOk, OnOk};
 ghost use Rattle.{review_table.specs.Rows.rows_of, review_core_rules.specs.Seen.seen};
 ghost use Rattle.review_machine_change_rows.specs.Tables.{HaveFault, Show};
-ghost use Rattle.review_machine_change_rows.specs.inner.Words.{AreInOrder, IsGap};
+ghost use Rattle.review_machine_change_rows.specs.inner.Words.{AddsNext, AreInOrder, IsGap, IsNotNext};
 
+use crate::copies::{copied_header, copied_marks};
+use crate::rows::Copied;
 use crate::tables::ChangeTables;
 use review_core_rules::ChangeRows;
 use review_machine_rows::ShelfFault;
@@ -45,6 +47,21 @@ impl From<ChangeFault> for ShelfFault {
     }
 }
 
+fn boxed(alloc: Global, rows: ChangeRows) -> Result<Box<ChangeRows>, AllocError>
+    ensures { IfOk result (λ boxed. boxed.value ≡ rows) }
+{
+    Ok(Box::new(alloc, rows)?)
+}
+
+/// The change that tables show, in a box, or why they show none: where their patch sets or comments have a gap, or there was no memory for it.
+pub fn change_rows(alloc: Global, tables: ChangeTables) -> Result<Box<ChangeRows>, ChangeFault>
+    ensures shown { IfOk result (λ rows. Show tables (seen rows.value)) }
+    ensures fault { IfErr result (HaveFault tables) }
+{
+    let rows = ordered(alloc, tables)?;
+    Ok(boxed(alloc, rows)?)
+}
+
 // The rows of a change in their order, or why tables show none.
 fn ordered(alloc: Global, tables: ChangeTables) -> Result<ChangeRows, ChangeFault>
     ensures shown { IfOk result (λ rows. Show tables (seen rows)) }
@@ -70,19 +87,32 @@ fn ordered(alloc: Global, tables: ChangeTables) -> Result<ChangeRows, ChangeFaul
     })
 }
 
-fn boxed(alloc: Global, rows: ChangeRows) -> Result<Box<ChangeRows>, AllocError>
-    ensures { IfOk result (λ boxed. boxed.value ≡ rows) }
+/// The same, of copies of the rows of tables, which stay as they are.
+pub fn copied_change(alloc: Global, tables: &ChangeTables) -> Result<Box<ChangeRows>, ChangeFault>
+    ensures shown { IfOk result (λ rows. Show tables.now (seen rows.value)) }
+    ensures fault { IfErr result (HaveFault tables.now) }
 {
-    Ok(Box::new(alloc, rows)?)
+    let rows = ordered_copy(alloc, tables)?;
+    Ok(boxed(alloc, rows)?)
 }
 
-/// The change that tables show, in a box, or why they show none: where their patch sets or comments have a gap, or there was no memory for it.
-pub fn change_rows(alloc: Global, tables: ChangeTables) -> Result<Box<ChangeRows>, ChangeFault>
-    ensures shown { IfOk result (λ rows. Show tables (seen rows.value)) }
-    ensures fault { IfErr result (HaveFault tables) }
+// Copies of the rows of a change in their order, or why tables show none.
+fn ordered_copy(alloc: Global, tables: &ChangeTables) -> Result<ChangeRows, ChangeFault>
+    ensures shown { IfOk result (λ rows. Show tables.now (seen rows)) }
+    ensures fault { IfErr result (HaveFault tables.now) }
 {
-    let rows = ordered(alloc, tables)?;
-    Ok(boxed(alloc, rows)?)
+    let patches = copied_in_order(alloc, &tables.patches)?;
+    let comments = copied_in_order(alloc, &tables.comments)?;
+    let header = copied_header(&tables.header)?;
+    let marks = copied_marks(alloc, &tables.votes, &tables.roles, &tables.attention)?;
+    Ok(ChangeRows {
+        header,
+        patches,
+        votes: marks.votes,
+        roles: marks.roles,
+        comments,
+        attention: marks.attention,
+    })
 }
 
 // The rows of a table in the order of their numbers, or that these have a gap.
@@ -94,19 +124,44 @@ fn in_order<K: NumberKind, V: Drop>(
     ensures fault { IfErr result (IsGap (rows_of table)) }
 {
     table.once();
-    let mut rows = Vec::new(alloc);
-    for (number, row) in table.into_rows(alloc)? {
-        if number.get() as usize != rows.len() + 1 {
-            return Err(ChangeFault::Gap);
-        }
-        add(&mut rows, row)?;
+    let left = table.into_rows(alloc)?;
+    let mut rows = Vec::with_capacity(alloc, left.len())?;
+    for (number, row) in left {
+        add(&mut rows, number, row)?;
     }
     Ok(rows)
 }
 
-fn add<V: Drop>(rows: &mut Vec<V>, row: V) -> Result<(), AllocError>
-    ensures { OnOk result (rows.new.items ≡ rows.old.items ++ row ∷ []) }
+// Copies of the rows of a table in the order of their numbers, or that these have a gap.
+fn copied_in_order<K: NumberKind, V: Copied>(
+    alloc: Global,
+    table: &Table<Number<K>, V>,
+) -> Result<Vec<V>, ChangeFault>
+    ensures rows { IfOk result (λ rows. AreInOrder (rows_of table.now) rows.items) }
+    ensures fault { IfErr result (IsGap (rows_of table.now)) }
 {
-    rows.push(row)?;
-    Ok(())
+    let left = table.rows(alloc)?;
+    let mut rows = Vec::with_capacity(alloc, left.len())?;
+    for (number, row) in left {
+        add(&mut rows, *number, row.copied(alloc)?)?;
+    }
+    Ok(rows)
+}
+
+// Adds the row of the next number, or tells that it is that of another one.
+fn add<K: NumberKind, V: Drop>(
+    rows: &mut Vec<V>,
+    number: Number<K>,
+    row: V,
+) -> Result<(), ChangeFault>
+    ensures added { OnOk result (AddsNext rows.old.items number row rows.new.items) }
+    ensures fault { IfErr result (IsNotNext rows.old.items number) }
+{
+    if number.get() as usize != rows.len() + 1 {
+        return Err(ChangeFault::Gap);
+    }
+    match rows.push(row) {
+        Ok(()) => Ok(()),
+        Err(_) => Err(ChangeFault::Memory),
+    }
 }

@@ -4,9 +4,8 @@ ghost use Rattle.review_sql_change_records.specs.Forms.{attention_entries, chang
 ghost use Rattle.review_sql_change_records.specs.Laws.{attention_of_change, attention_table};
 ghost use Rattle.review_sql_tables.specs.declared.texts.TheConstants as texts;
 
-use crate::values::change_number;
 use review_core_rules::AttentionEntry;
-use review_sql_records::names::{account_at, account_number, name_at};
+use review_sql_records::names::{name_at, numbered_at, stored_number};
 use review_sql_tables::bound::Bound;
 use review_sql_tables::columns::number_at;
 use review_sql_tables::fronts::Front;
@@ -38,7 +37,7 @@ impl Lookup for AttentionEntries {
         let Some(reason) = name_at(alloc, row, 1)? else {
             return Ok(None);
         };
-        let (Some(account), Some(request)) = (account_at(row, 0), number_at(row, 2)) else {
+        let (Some(account), Some(request)) = (numbered_at(row, 0), number_at(row, 2)) else {
             return Ok(None);
         };
         Ok(Some((account, AttentionEntry { reason, request })))
@@ -69,7 +68,7 @@ impl Record for AttentionEntries {
     }
 
     fn bind_key<'a>(key: &'a (ChangeNo, AccountNo)) -> Result<Bound<'a>, Error> {
-        let (change, account) = (change_number(key.0), account_number(key.1));
+        let (change, account) = (stored_number(key.0), stored_number(key.1));
         Ok(Bound::new().number(change).number(account))
     }
 

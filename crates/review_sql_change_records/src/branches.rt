@@ -4,9 +4,8 @@ ghost use Rattle.review_sql_tables.proofs.TextsOfLookups.{find_change_at, find_c
 ghost use Rattle.review_sql_change_records.specs.Forms.{change_branches, changes_at};
 ghost use Rattle.review_sql_tables.specs.declared.texts.TheConstants as texts;
 
-use crate::values::change_at;
 use review_machine_rows::{BranchKey, PlaceKey};
-use review_sql_records::names::name_at;
+use review_sql_records::names::{name_at, numbered_at};
 use review_sql_tables::bound::Bound;
 use review_sql_tables::table::{Lookup, Sql};
 use review_sql_tables::texts;
@@ -36,7 +35,7 @@ impl Lookup for ChangeAt {
     }
 
     fn read(_alloc: Global, row: &Row) -> Result<Option<ChangeNo>, AllocError> {
-        Ok(change_at(row, 0))
+        Ok(numbered_at(row, 0))
     }
 
     ghost asks = { λ k. find_change_at k.project k.branch (pos k.place) };

@@ -4,12 +4,9 @@ ghost use Rattle.review_sql_change_records.specs.Forms.{answers_number, change_c
 ghost use Rattle.review_sql_change_records.specs.Laws.{comment_table, comments_of_change};
 ghost use Rattle.review_sql_tables.specs.declared.texts.TheConstants as texts;
 
-use crate::values::{
-    answers_at, answers_number, change_number, comment_at, comment_number, flag_at, flag_number,
-    patch_at, patch_number,
-};
+use crate::values::{answers_at, answers_number, flag_at, flag_number};
 use review_core_rules::{Comment, CommentRow};
-use review_sql_records::names::{account_at, account_number, name_at, small, small_at};
+use review_sql_records::names::{name_at, numbered_at, small, small_at, stored_number};
 use review_sql_tables::bound::Bound;
 use review_sql_tables::columns::number_at;
 use review_sql_tables::fronts::Front;
@@ -45,13 +42,13 @@ impl Lookup for Comments {
             return Ok(None);
         };
         let (Some(number), Some(patch), Some(line)) = (
-            comment_at(row, 0),
-            patch_at(row, 1),
+            numbered_at(row, 0),
+            numbered_at(row, 1),
             small_at(row, 3),
         ) else {
             return Ok(None);
         };
-        let (Some(author), Some(unresolved)) = (account_at(row, 4), flag_at(row, 6)) else {
+        let (Some(author), Some(unresolved)) = (numbered_at(row, 4), flag_at(row, 6)) else {
             return Ok(None);
         };
         let (Some(answers), Some(request)) = (answers_at(row, 7), number_at(row, 8)) else {
@@ -96,7 +93,7 @@ impl Record for Comments {
     }
 
     fn bind_key<'a>(key: &'a (ChangeNo, CommentNo)) -> Result<Bound<'a>, Error> {
-        let (change, comment) = (change_number(key.0), comment_number(key.1));
+        let (change, comment) = (stored_number(key.0), stored_number(key.1));
         Ok(Bound::new().number(change).number(comment))
     }
 
@@ -109,10 +106,10 @@ impl Record for Comments {
         let row = row.row();
         let values = Comments::bind_key(key)?;
         values
-            .number(patch_number(row.patch))
+            .number(stored_number(row.patch))
             .text(row.path.as_str())
             .number(small(row.line))
-            .number(account_number(row.author))
+            .number(stored_number(row.author))
             .text(row.message.as_str())
             .number(flag_number(row.unresolved))
             .number(answers_number(row.answers))

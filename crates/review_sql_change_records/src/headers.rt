@@ -6,10 +6,10 @@ ghost use Rattle.review_sql_change_records.specs.Forms.{change_numbers, change_p
 ghost use Rattle.review_sql_change_records.specs.Laws.{header_table};
 ghost use Rattle.review_sql_tables.specs.declared.texts.TheConstants as texts;
 
-use crate::values::{change_at, change_number, flag_at, flag_number, state_at};
+use crate::values::{flag_at, flag_number, state_at};
 use review_core_rules::Header;
 use review_machine_rows::BranchKey;
-use review_sql_records::names::{account_at, account_number, name_at, small, small_at};
+use review_sql_records::names::{name_at, numbered_at, small, small_at, stored_number};
 use review_sql_tables::bound::Bound;
 use review_sql_tables::columns::number_at;
 use review_sql_tables::greatest::Greatest;
@@ -48,7 +48,7 @@ impl Lookup for Headers {
             return Ok(None);
         };
         let (Some(owner), Some(state), Some(wip)) = (
-            account_at(row, 3),
+            numbered_at(row, 3),
             state_at(row, 4),
             flag_at(row, 5),
         ) else {
@@ -84,7 +84,7 @@ impl Record for Headers {
     }
 
     fn bind_key<'a>(key: &'a ChangeNo) -> Result<Bound<'a>, Error> {
-        Ok(Bound::new().number(change_number(*key)))
+        Ok(Bound::new().number(stored_number(*key)))
     }
 
     fn bind_row<'a>(
@@ -100,11 +100,11 @@ impl Record for Headers {
     {
         let state: &'a str = row.state.name();
         let named = Bound::new()
-            .number(change_number(*key))
+            .number(stored_number(*key))
             .text(row.project.as_str())
             .text(row.branch.as_str())
             .text(row.subject.as_str());
-        let stated = named.number(account_number(row.owner)).text(state);
+        let stated = named.number(stored_number(row.owner)).text(state);
         Ok(
             stated
                 .number(flag_number(row.wip))
@@ -171,7 +171,7 @@ impl Greatest for LastJoined {
     }
 
     fn read(_alloc: Global, row: &Row) -> Result<Option<(ChangeNo, u32)>, AllocError> {
-        Ok(change_at(row, 0).zip(small_at(row, 1)))
+        Ok(numbered_at(row, 0).zip(small_at(row, 1)))
     }
 
     ghost asks = { λ b. find_last_joined b.project b.branch };

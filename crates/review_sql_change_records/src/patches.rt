@@ -7,9 +7,9 @@ ghost use Rattle.review_sql_change_records.specs.Laws.{patch_table, patches_of_c
 ghost use Rattle.review_sql_tables.specs.declared.texts.TheConstants as texts;
 
 use crate::paths::{is_read_back, paths_text, read_paths};
-use crate::values::{change_number, kind_at, patch_at, patch_number};
+use crate::values::kind_at;
 use review_core_rules::PatchRow;
-use review_sql_records::names::{account_at, account_number, name_at};
+use review_sql_records::names::{name_at, numbered_at, stored_number};
 use review_sql_tables::bound::Bound;
 use review_sql_tables::columns::text_at;
 use review_sql_tables::fronts::Front;
@@ -33,7 +33,7 @@ fn read_patch(alloc: Global, row: &Row, from: usize) -> Result<Option<PatchRow>,
     };
     let (Some(kind), Some(uploader), Some(text)) = (
         kind_at(row, from + 2),
-        account_at(row, from + 3),
+        numbered_at(row, from + 3),
         text_at(row, from + 4),
     ) else {
         return Ok(None);
@@ -96,7 +96,7 @@ impl Greatest for LastPatch {
     }
 
     fn read(_alloc: Global, row: &Row) -> Result<Option<PatchNo>, AllocError> {
-        Ok(patch_at(row, 0))
+        Ok(numbered_at(row, 0))
     }
 
     ghost asks = { λ change. find_last_patch (pos change) };
@@ -121,7 +121,7 @@ impl Lookup for Patches {
     }
 
     fn read(alloc: Global, row: &Row) -> Result<Option<(PatchNo, PatchRow)>, AllocError> {
-        Ok(patch_at(row, 0).zip(read_patch(alloc, row, 1)?))
+        Ok(numbered_at(row, 0).zip(read_patch(alloc, row, 1)?))
     }
 
     ghost asks = { λ change. find_patches (pos change) };
@@ -149,7 +149,7 @@ impl Record for Patches {
     }
 
     fn bind_key<'a>(key: &'a (ChangeNo, PatchNo)) -> Result<Bound<'a>, Error> {
-        let (change, patch) = (change_number(key.0), patch_number(key.1));
+        let (change, patch) = (stored_number(key.0), stored_number(key.1));
         Ok(Bound::new().number(change).number(patch))
     }
 
@@ -170,7 +170,7 @@ impl Record for Patches {
                 .text(row.commit.as_str())
                 .text(row.parent.as_str())
                 .text(row.kind.name())
-                .number(account_number(row.uploader))
+                .number(stored_number(row.uploader))
                 .text(buffer.as_str()),
         )
     }

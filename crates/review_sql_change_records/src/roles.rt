@@ -4,8 +4,8 @@ ghost use Rattle.review_sql_change_records.specs.Forms.{change_roles, roles};
 ghost use Rattle.review_sql_change_records.specs.Laws.{role_table, roles_of_change};
 ghost use Rattle.review_sql_tables.specs.declared.texts.TheConstants as texts;
 
-use crate::values::{change_number, role_at};
-use review_sql_records::names::{account_at, account_number};
+use crate::values::role_at;
+use review_sql_records::names::{numbered_at, stored_number};
 use review_sql_tables::bound::Bound;
 use review_sql_tables::fronts::Front;
 use review_sql_tables::table::{Lookup, Record, Sql, Writes};
@@ -33,7 +33,7 @@ impl Lookup for Roles {
     }
 
     fn read(_alloc: Global, row: &Row) -> Result<Option<(AccountNo, Role)>, AllocError> {
-        Ok(account_at(row, 0).zip(role_at(row, 1)))
+        Ok(numbered_at(row, 0).zip(role_at(row, 1)))
     }
 
     ghost asks = { λ change. find_reviewers (pos change) };
@@ -61,7 +61,7 @@ impl Record for Roles {
     }
 
     fn bind_key<'a>(key: &'a (ChangeNo, AccountNo)) -> Result<Bound<'a>, Error> {
-        let (change, account) = (change_number(key.0), account_number(key.1));
+        let (change, account) = (stored_number(key.0), stored_number(key.1));
         Ok(Bound::new().number(change).number(account))
     }
 

@@ -2,7 +2,7 @@
 ghost use Rattle.{review_sql_tables.proofs.TextsOfLookups.find_sent, review_sql_change_records.specs.Forms.sent};
 ghost use Rattle.review_sql_tables.specs.declared.texts.TheConstants as texts;
 
-use crate::values::{change_at, patch_at};
+use review_sql_records::names::numbered_at;
 use review_sql_tables::bound::Bound;
 use review_sql_tables::table::{Lookup, Sql};
 use review_sql_tables::texts;
@@ -29,7 +29,7 @@ impl Lookup for Sent {
     }
 
     fn read(_alloc: Global, row: &Row) -> Result<Option<(ChangeNo, PatchNo)>, AllocError> {
-        Ok(change_at(row, 0).zip(patch_at(row, 1)))
+        Ok(numbered_at(row, 0).zip(numbered_at(row, 1)))
     }
 
     ghost asks = { find_sent };

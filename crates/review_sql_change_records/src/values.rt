@@ -1,8 +1,6 @@
 //! Values of columns, as they are read and stored.
 ghost use Rattle.std.specs.{Int.w64, Prelude.◌≡◌, Prelude.true, Prelude.FitsSigned};
-ghost use Rattle.sqlite_value.specs.Order.{column};
-ghost use Rattle.review_names.specs.Forms.{is_within, most_changes, most_comments, most_patches};
-ghost use Rattle.review_names.specs.Kinds.{kind_named};
+ghost use Rattle.{sqlite_value.specs.Order.column, review_names.specs.Kinds.kind_named};
 ghost use Rattle.review_words.specs.{States.state_named, Texts.role_named};
 ghost use Rattle.review_sql_tables.specs.Search.{number_in, text_in};
 ghost use Rattle.review_sql_records.specs.Forms.{where_is};
@@ -10,7 +8,7 @@ ghost use Rattle.review_sql_change_records.specs.Forms.{answered, answers_number
 
 use review_core_rules::Vote;
 use review_sql_tables::columns::{number_at, text_at};
-use review_words::{ChangeKind, ChangeNo, CommentNo, PatchNo, Role, State};
+use review_words::{ChangeKind, CommentNo, Role, State};
 use sqlite::Row;
 use sqlite::types::ValueRef;
 
@@ -53,27 +51,6 @@ pub fn flag_at(row: &Row, at: usize) -> Option<bool>
     }
 }
 
-/// The patch set whose number is in a column; none where it is no such number.
-pub fn patch_at(row: &Row, at: usize) -> Option<PatchNo>
-    ensures { result ≡ where_is (is_within most_patches) (number_in (column row.now at)) }
-{
-    PatchNo::from_number(number_at(row, at)?)
-}
-
-/// The change whose number is in a column; none where it is no such number.
-pub fn change_at(row: &Row, at: usize) -> Option<ChangeNo>
-    ensures { result ≡ where_is (is_within most_changes) (number_in (column row.now at)) }
-{
-    ChangeNo::from_number(number_at(row, at)?)
-}
-
-/// The comment whose number is in a column; none where it is no such number.
-pub fn comment_at(row: &Row, at: usize) -> Option<CommentNo>
-    ensures { result ≡ where_is (is_within most_comments) (number_in (column row.now at)) }
-{
-    CommentNo::from_number(number_at(row, at)?)
-}
-
 /// The comment that is answered, by its number, 0 for none; none where the column has no such number.
 pub fn answers_at(row: &Row, at: usize) -> Option<Option<CommentNo>>
     ensures { result ≡ answered (number_in (column row.now at)) }
@@ -98,33 +75,6 @@ pub fn answers_number(answers: Option<CommentNo>) -> u32
         Some(comment) => comment.get(),
         None => 0,
     }
-}
-
-/// The number of a change.
-#[tactic(auto, unfolding(review_names::specs::Forms::is_within))]
-pub fn change_number(change: ChangeNo) -> u32
-    ensures number { result ≡ change }
-    ensures good { is_within most_changes change ≡ true }
-{
-    change.get()
-}
-
-/// The number of a patch set.
-#[tactic(auto, unfolding(review_names::specs::Forms::is_within))]
-pub fn patch_number(patch: PatchNo) -> u32
-    ensures number { result ≡ patch }
-    ensures good { is_within most_patches patch ≡ true }
-{
-    patch.get()
-}
-
-/// The number of a comment.
-#[tactic(auto, unfolding(review_names::specs::Forms::is_within))]
-pub fn comment_number(comment: CommentNo) -> u32
-    ensures number { result ≡ comment }
-    ensures good { is_within most_comments comment ≡ true }
-{
-    comment.get()
 }
 
 /// The vote whose value is in a column; none where it is no value of a vote.

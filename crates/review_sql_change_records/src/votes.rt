@@ -4,9 +4,9 @@ ghost use Rattle.review_sql_change_records.specs.Forms.{change_votes, votes};
 ghost use Rattle.review_sql_change_records.specs.Laws.{vote_table, votes_of_change};
 ghost use Rattle.review_sql_tables.specs.declared.texts.TheConstants as texts;
 
-use crate::values::{change_number, patch_at, patch_number, vote_at, vote_value};
+use crate::values::{vote_at, vote_value};
 use review_core_rules::{Vote, VoteKey};
-use review_sql_records::names::{account_at, account_number, name_at};
+use review_sql_records::names::{name_at, numbered_at, stored_number};
 use review_sql_tables::bound::Bound;
 use review_sql_tables::fronts::Front;
 use review_sql_tables::table::{Lookup, Record, Sql, Writes};
@@ -35,8 +35,8 @@ impl Lookup for Votes {
 
     fn read(alloc: Global, row: &Row) -> Result<Option<(VoteKey, Vote)>, AllocError> {
         let (Some(patch), Some(account), Some(vote)) = (
-            patch_at(row, 0),
-            account_at(row, 2),
+            numbered_at(row, 0),
+            numbered_at(row, 2),
             vote_at(row, 3),
         ) else {
             return Ok(None);
@@ -77,8 +77,8 @@ impl Record for Votes {
     }
 
     fn bind_key<'a>(key: &'a (ChangeNo, VoteKey)) -> Result<Bound<'a>, Error> {
-        let (change, patch) = (change_number(key.0), patch_number(key.1.patch));
-        let account = account_number(key.1.account);
+        let (change, patch) = (stored_number(key.0), stored_number(key.1.patch));
+        let account = stored_number(key.1.account);
         let values = Bound::new().number(change).number(patch);
         Ok(values.text(key.1.label.as_str()).number(account))
     }

@@ -5,7 +5,7 @@ ghost use Rattle.review_sql_records.specs.Forms.{account_names, account_numbers,
 ghost use Rattle.review_sql_records.specs.Laws.{account_table};
 ghost use Rattle.review_sql_tables.specs.declared.texts.TheConstants as texts;
 
-use crate::names::{account_at, account_number, name_at};
+use crate::names::{name_at, numbered_at, stored_number};
 use review_sql_tables::bound::Bound;
 use review_sql_tables::columns::number_at;
 use review_sql_tables::greatest::Greatest;
@@ -52,7 +52,7 @@ impl Record for Accounts {
     }
 
     fn bind_key<'a>(key: &'a AccountNo) -> Result<Bound<'a>, Error> {
-        Ok(Bound::new().number(account_number(*key)))
+        Ok(Bound::new().number(stored_number(*key)))
     }
 
     fn bind_row<'a>(
@@ -84,7 +84,7 @@ impl Lookup for AccountNames {
     }
 
     fn read(_alloc: Global, row: &Row) -> Result<Option<AccountNo>, AllocError> {
-        Ok(account_at(row, 0))
+        Ok(numbered_at(row, 0))
     }
 
     ghost asks = { find_account_named };

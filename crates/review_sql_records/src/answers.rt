@@ -7,7 +7,7 @@ ghost use Rattle.review_sql_records.specs.Forms.{answers, is_of_lower, kept_answ
 ghost use Rattle.review_sql_records.specs.Laws.{answer_table};
 ghost use Rattle.review_sql_tables.specs.declared.texts.TheConstants as texts;
 
-use crate::names::{account_number, epoch_number};
+use crate::names::{epoch_number, stored_number};
 use crate::rows::{Answered, RequestKey, Text};
 use review_machine_rows::Kept;
 use review_sql_tables::bound::Bound;
@@ -104,7 +104,7 @@ impl<'k> Record for KeptAnswer<'k> {
 
     fn bind_key<'a>(key: &'a KeptKey<'k>) -> Result<Bound<'a>, Error> {
         let kept = key.kept;
-        let values = Bound::new().number(account_number(kept.caller));
+        let values = Bound::new().number(stored_number(kept.caller));
         Ok(
             values
                 .number(epoch_number(kept.epoch))

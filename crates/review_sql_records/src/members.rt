@@ -5,7 +5,7 @@ ghost use Rattle.review_sql_records.specs.Forms.{group_members, member_parts, me
 ghost use Rattle.review_sql_records.specs.Laws.{member_table, members_of_group};
 ghost use Rattle.review_sql_tables.specs.declared.texts.TheConstants as texts;
 
-use crate::names::{account_at, account_number};
+use crate::names::{numbered_at, stored_number};
 use review_machine_rows::MemberKey;
 use review_sql_tables::bound::Bound;
 use review_sql_tables::fronts::Front;
@@ -53,7 +53,7 @@ impl Record for Members {
     }
 
     fn bind_key<'a>(key: &'a MemberKey) -> Result<Bound<'a>, Error> {
-        let account = account_number(key.account);
+        let account = stored_number(key.account);
         Ok(Bound::new().text(key.group.as_str()).number(account))
     }
 
@@ -86,7 +86,7 @@ impl Lookup for GroupMembers {
     }
 
     fn read(_alloc: Global, row: &Row) -> Result<Option<(AccountNo, ())>, AllocError> {
-        let Some(account) = account_at(row, 0) else {
+        let Some(account) = numbered_at(row, 0) else {
             return Ok(None);
         };
         Ok(Some((account, ())))

@@ -1,13 +1,13 @@
 //! Names and numbers, as they are read from columns.
 ghost use Rattle.std.specs.Prelude.{◌≡◌, true, Some, IfOk, nat_le, option_map, pos};
-ghost use Rattle.{sqlite_value.specs.Order.column, review_names.specs.Names.is_account_number};
-ghost use Rattle.review_words.specs.Epochs.{is_epoch};
+ghost use Rattle.{sqlite_value.specs.Order.column, review_words.specs.Epochs.is_epoch};
 ghost use Rattle.review_sql_tables.specs.Search.{number_in, text_in};
 ghost use Rattle.review_sql_records.specs.Forms.{where_is, is_small};
 
 use crate::rows::PlaceNo;
+use review_names::{Number, NumberKind};
 use review_sql_tables::columns::{number_at, text_at};
-use review_words::{AccountNo, Bad, Epoch, Form, Name};
+use review_words::{Bad, Epoch, Form, Name};
 use sqlite::Row;
 use std::alloc::{AllocError, Global};
 
@@ -25,20 +25,19 @@ pub fn name_at<F: Form>(alloc: Global, row: &Row, at: usize) -> Result<Option<Na
     }
 }
 
-/// The account whose number is in a column; none where it is no such number.
-pub fn account_at(row: &Row, at: usize) -> Option<AccountNo>
-    ensures { result ≡ where_is is_account_number (number_in (column row.now at)) }
+/// What has the number in a column; none where it is no such number.
+pub fn numbered_at<K: NumberKind>(row: &Row, at: usize) -> Option<Number<K>>
+    ensures { result ≡ where_is K.is_met (number_in (column row.now at)) }
 {
-    AccountNo::from_number(number_at(row, at)?)
+    Number::from_number(number_at(row, at)?)
 }
 
-/// The number of an account.
-#[tactic(auto, unfolding(review_names::specs::Names::is_account_number))]
-pub fn account_number(account: AccountNo) -> u32
-    ensures number { result ≡ account }
-    ensures good { is_account_number account ≡ true }
+/// A number of a kind as it is stored.
+pub fn stored_number<K: NumberKind>(number: Number<K>) -> u32
+    ensures number { result ≡ number }
+    ensures good { K.is_met number ≡ true }
 {
-    account.get()
+    number.get()
 }
 
 /// The epoch whose number is in a column; none where it is no such number.
