@@ -31,21 +31,21 @@ pub fn read_request<R: Read>(
     let mut bytes = Vec::new(alloc);
     let mut ended = false;
     let mut wanted = 0;
-    for _ in 0..4096u16 {
+    let mut reads = 0u16;
+    loop {
         match judge(alloc, paths, bytes.as_slice(), ended, wanted) {
             Ok(Look::Whole(delivery)) => return Ok(delivery),
             Ok(Look::Wants(count)) => wanted = count,
             Err(fault) => return Err(fault),
         }
+        if reads == 4096 {
+            return Err(RequestFault::Reads);
+        }
+        reads += 1;
         match read_more(reader, &mut bytes) {
             Ok(came) => ended = !came,
             Err(Stop::Read) => return Err(RequestFault::Read),
             Err(Stop::Memory) => return Err(RequestFault::Memory),
         }
-    }
-    match judge(alloc, paths, bytes.as_slice(), ended, wanted) {
-        Ok(Look::Whole(delivery)) => Ok(delivery),
-        Ok(Look::Wants(_)) => Err(RequestFault::Reads),
-        Err(fault) => Err(fault),
     }
 }
