@@ -59,10 +59,6 @@ still_left {R = R} exact Holds q key rest is other there = by (is_at (R q) key) 
 
 -- ==== places without a row
 
--- where no place is spare, only those of any keys are
-pub none_spare : {K X : Type 0} (R : K → K → Ordering) (test : K → Bool) (t : List (K × Option X)) → HasNoEmptyPlace R t → HasEmptyOnly R test t
-none_spare R test t full q empty = absurd (full q empty)
-
 -- a table without rows
 pub none_empty : {K X : Type 0} (R : K → K → Ordering) (t : List (K × Option X)) → t ≡ [] → HasNoEmptyPlace R t
 none_empty R t none q empty = let bad : None ≡ Some None = ap (λ xs. place_at R xs q) (sym none) ∙ empty in absurd (cc)

@@ -1,21 +1,22 @@
 -- Rows of changes in memory.
 use Rattle.std.specs.{Cmp.Lexicographic.slice_cmp, List.All, Ordering.nat_cmp, Ordering.ordering_then}
-use Rattle.std.specs.Prelude.{ℕ, Bool, true, false, ◌&&◌, ◌==◌, ◌<◌, ◌≤◌, ◌≡◌, ◌++◌, List, [], ◌∷◌, Option, Some, None, option_map, option_to_list, flat_map, if◌then◌else◌}
+use Rattle.std.specs.Prelude.{ℕ, Bool, true, false, ◌&&◌, ◌==◌, ◌<◌, ◌≤◌, ◌≡◌, ◌++◌, List, [], ◌∷◌, Option, Some, None, option_map, option_to_list, flat_map, unwrap_or, IsSome, if◌then◌else◌}
 use Rattle.std.specs.{Str.bytes_eq, declared.cmp.Ordering.Ordering}
 use Rattle.review_names.specs.Forms.{most_changes, most_patches}
-use Rattle.review_table.specs.Rows.{after_row_edit, is_named, row_in, rows_of, HasEmptyOnly, HasNoEmptyPlace, HavePlaces}
+use Rattle.review_table.specs.Rows.{after_row_edit, changed, is_named, row_in, rows_of, HasEmptyOnly, HasNoEmptyPlace, HavePlaces}
 use Rattle.review_table.specs.declared.table.RowEdit.{RowEdit}
 use Rattle.review_words.specs.declared.shown.{JoinedChange.JoinedChange, State.TheVariants.Merged}
 use Rattle.review_core_rules.specs.Change.{Change as ChangeSeen}
 use Rattle.review_core_rules.specs.Parts.{Part, TheHeader, PatchOf, PartRow, AHeader, APatch}
 use Rattle.review_core_rules.specs.declared.rows.{Header.Header, PatchRow.PatchRow}
 use Rattle.review_machine_rows.specs.Known.{HasChange, IsJoinedAt, IsSender, IsSentBy}
-use Rattle.review_machine_rows.specs.Rows.{Key, PartKey, Row, APart, branch_cmp, part_change}
+use Rattle.review_machine_rows.specs.Rows.{Key, PartKey, Row, APart, branch_cmp, edited, part_change}
 use Rattle.review_machine_rows.specs.declared.rows.{Base.Base, BranchKey.BranchKey as Branch, ChangeEdit.ChangeEdit}
 use Rattle.review_machine_change_rows.specs.{Tables.part_in, declared.loading.ChangeFault.ChangeFault}
 use Rattle.review_machine_change_rows.specs.declared.loading.ChangeFault.TheVariants.{Memory, Gap}
 use Rattle.review_machine_change_rows.specs.declared.tables.ChangeTables.{ChangeTables}
-use Rattle.review_memory_rows.specs.declared.{kept.Prepared.Prepared, kept.SentKey.SentKey, places.PlaceKey.PlaceKey}
+use Rattle.review_memory_rows.specs.declared.{edits.NewTables.NewTables, kept.Prepared.Prepared, kept.SentKey.SentKey}
+use Rattle.review_memory_rows.specs.declared.places.PlaceKey.{PlaceKey}
 
 -- the row of a change, where it has tables
 abbrev pub part_where : Option ChangeTables → Part → Option PartRow
@@ -40,18 +41,46 @@ IsUnread kept n Gap = (c : Option ChangeSeen) → HasChange (row_of kept) n c �
 abbrev pub AreEdited : (Part → Option PartRow) → ChangeEdit → ChangeTables → Type 0
 AreEdited old e t = (part : Part) → part_in t part ≡ after_row_edit (part_change e part) (old part)
 
--- the change puts the tables of a change that an edit changes
-pub record PutsEdited (kept : List (ℕ × ChangeTables)) (e : ChangeEdit) (c : RowEdit ℕ ChangeTables) : Type 0 where
-  pub key : c.key ≡ e.change
-  pub tables : ChangeTables
-  pub row : c.row ≡ Some tables
-  pub edited : AreEdited (part_at kept e.change) e tables
+-- the tables of a change with what an edit makes of them
+abbrev pub renewed : ChangeTables → NewTables → ChangeTables
+renewed old new = record {
+  header = new.header;
+  patches = unwrap_or new.patches old.patches;
+  votes = unwrap_or new.votes old.votes;
+  roles = unwrap_or new.roles old.roles;
+  comments = unwrap_or new.comments old.comments;
+  attention = unwrap_or new.attention old.attention;
+}
 
--- each change puts the tables of a change that the edit at its place changes
-abbrev pub PutAllEdited : List (ℕ × ChangeTables) → List ChangeEdit → List (RowEdit ℕ ChangeTables) → Type 0
-PutAllEdited kept [] [] = Unit {0}
-PutAllEdited kept (e ∷ es) (c ∷ cs) = PutsEdited kept e c × PutAllEdited kept es cs
-PutAllEdited kept es cs = ⊥
+-- the same where an edit makes something of them
+abbrev pub renewed_by : Option NewTables → ChangeTables → ChangeTables
+renewed_by None old = old
+renewed_by (Some new) old = renewed old new
+
+-- the tables of the change of a number, where it is there, with what is made of it: by the first that names it
+abbrev pub renewed_at : List (ℕ × NewTables) → ℕ → Option ChangeTables → Option ChangeTables
+renewed_at changes n was = option_map (renewed_by (row_in nat_cmp changes n)) was
+
+-- the tables of the change of a number once what was prepared is made
+abbrev pub made : Prepared → ℕ → Option ChangeTables → Option ChangeTables
+made p n was = renewed_at p.renewed.items n (changed nat_cmp p.begun.items n was)
+
+-- what an edit makes of its change is listed: its tables, where it wasn't there
+pub record Begins (e : ChangeEdit) (old new : List (RowEdit ℕ ChangeTables)) : Type 0 where
+  pub tables : ChangeTables
+  pub edited : AreEdited (λ part. None) e tables
+  pub listed : new ≡ old ++ record { key = e.change; row = Some tables } ∷ []
+
+-- or what it makes of the tables that were there
+pub record Renews (t : ChangeTables) (e : ChangeEdit) (old new : List (ℕ × NewTables)) : Type 0 where
+  pub tables : NewTables
+  pub edited : AreEdited (part_in t) e (renewed t tables)
+  pub listed : new ≡ old ++ (e.change, tables) ∷ []
+
+-- what an edit makes of its change is listed, where it had these tables or none
+abbrev pub IsPrepared : Option ChangeTables → ChangeEdit → List (RowEdit ℕ ChangeTables) → List (RowEdit ℕ ChangeTables) → List (ℕ × NewTables) → List (ℕ × NewTables) → Type 0
+IsPrepared None e begun begun_then renewed renewed_then = Begins e begun begun_then × (renewed_then ≡ renewed)
+IsPrepared (Some t) e begun begun_then renewed renewed_then = Renews t e renewed renewed_then × (begun_then ≡ begun)
 
 -- by commit, then by change, then by patch set
 abbrev pub sent_cmp : SentKey → SentKey → Ordering
@@ -179,7 +208,8 @@ pub record KeptView : Type 0 where
 
 -- what edits make of changes was prepared
 pub record ArePrepared (kept : List (ℕ × ChangeTables)) (edits : List ChangeEdit) (p : Prepared) : Type 0 where
-  pub tables : PutAllEdited kept edits p.tables.items
+  pub tables : (n : ℕ) (part : Part) → part_where (made p n (row_in nat_cmp kept n)) part ≡ after_row_edit (edited edits n part) (part_at kept n part)
+  pub begun : All (λ c. IsSome c.row) p.begun.items
   pub keys : p.keys.items ≡ sent_by edits
   pub numbered : AreNumbered p.keys.items
   pub places : p.places.items ≡ flat_map placed_in edits
@@ -191,7 +221,7 @@ IsReady kept p = (edits : List ChangeEdit) × ArePrepared kept edits p
 
 -- there is a place for each row that changes
 pub record HasRoomFor (p : Prepared) (v : KeptView) : Type 0 where
-  pub tables : HavePlaces nat_cmp v.kept p.tables.items
+  pub begun : HavePlaces nat_cmp v.kept p.begun.items
   pub keys : HavePlaces sent_cmp v.sent p.keys.items
   pub places : HavePlaces place_cmp v.placed p.places.items
 
@@ -203,6 +233,6 @@ pub record IsFull (v : KeptView) : Type 0 where
 
 -- every place has a row, but for those of rows that change
 pub record IsFullBut (p : Prepared) (v : KeptView) : Type 0 where
-  pub kept : HasEmptyOnly nat_cmp (is_named nat_cmp p.tables.items) v.kept
+  pub kept : HasEmptyOnly nat_cmp (is_named nat_cmp p.begun.items) v.kept
   pub sent : HasEmptyOnly sent_cmp (is_named sent_cmp p.keys.items) v.sent
   pub placed : HasEmptyOnly place_cmp (is_named place_cmp p.places.items) v.placed

@@ -1,60 +1,55 @@
 //! What an edit makes of the tables of one change.
 ghost use Rattle.std.specs.{BTreeMap.is_at, Ordering.nat_cmp};
-ghost use Rattle.std.specs.Prelude.{◌≡◌, ℕ, [], IfOk, OnOk, None, if◌then◌else◌};
-ghost use Rattle.review_table.specs.Rows.{changed, row_in, rows_of};
-ghost use Rattle.review_core_rules.specs.{Seen.vote_cmp, declared.rows.VoteKey.VoteKey};
-ghost use Rattle.{review_machine_change_rows.specs.Tables.part_in, review_memory_rows.specs.Kept.AreEdited};
+ghost use Rattle.std.specs.Prelude.{◌≡◌, ℕ, [], ◌∷◌, ◌++◌, IfOk, OnOk, None, is_some, unwrap_or, if◌then◌else◌};
+ghost use Rattle.review_table.specs.Rows.{changed, row_in, rows_of, HasNoEmptyPlace};
+ghost use Rattle.review_machine_change_rows.specs.Tables.{part_in};
+ghost use Rattle.review_memory_rows.specs.Kept.{AreEdited, renewed, renewed_at};
 
-use review_machine_change_rows::copies::Marks;
+use review_core_rules::{AttentionEntry, Comment, Header, PatchRow, Vote, VoteKey};
 use review_machine_change_rows::{ChangeTables, Copied, copied_header, copied_table};
 use review_machine_rows::ChangeEdit;
 use review_table::{Key, RowEdit, Table};
+use review_words::{AccountNo, ChangeNo, CommentNo, PatchNo, Role};
 use std::alloc::{AllocError, Global};
 
-/// The tables of a change that an edit changes. An error where there was no memory for them.
-pub fn edited(
-    alloc: Global,
-    old: &ChangeTables,
-    edit: &ChangeEdit,
-) -> Result<ChangeTables, AllocError>
-    ensures { IfOk result (AreEdited (part_in old.now) edit.now) }
-{
-    let marks = edited_marks(alloc, old, edit)?;
-    let header = copied_header(&edit.header)?;
-    let patches = changed_table(alloc, &old.patches, &edit.patches)?;
-    let comments = changed_table(alloc, &old.comments, &edit.comments)?;
-    Ok(ChangeTables {
-        header,
-        patches,
-        votes: marks.votes,
-        roles: marks.roles,
-        comments,
-        attention: marks.attention,
-    })
+/// What an edit makes of the tables of one change: its header, and those tables of which it changes a row. The others stay as they are.
+#[derive(Drop)]
+pub struct NewTables {
+    header: Header,
+    patches: Option<Table<PatchNo, PatchRow>>,
+    votes: Option<Table<VoteKey, Vote>>,
+    roles: Option<Table<AccountNo, Role>>,
+    comments: Option<Table<CommentNo, Comment>>,
+    attention: Option<Table<AccountNo, AttentionEntry>>,
 }
 
-// The votes, roles and attention set that an edit changes.
-fn edited_marks(alloc: Global, old: &ChangeTables, edit: &ChangeEdit) -> Result<Marks, AllocError>
-    ensures votes { IfOk result (λ m. (q : VoteKey) → row_in vote_cmp (rows_of m.votes) q ≡ changed vote_cmp edit.now.votes.items q (row_in vote_cmp (rows_of old.now.votes) q)) }
-    ensures roles { IfOk result (λ m. (u : ℕ) → row_in nat_cmp (rows_of m.roles) u ≡ changed nat_cmp edit.now.roles.items u (row_in nat_cmp (rows_of old.now.roles) u)) }
-    ensures attention { IfOk result (λ m. (u : ℕ) → row_in nat_cmp (rows_of m.attention) u ≡ changed nat_cmp edit.now.attention.items u (row_in nat_cmp (rows_of old.now.attention) u)) }
+/// What an edit makes of the tables of a change. An error where there was no memory for it.
+pub fn edited(alloc: Global, old: &ChangeTables, edit: &ChangeEdit) -> Result<NewTables, AllocError>
+    ensures { IfOk result (λ new. AreEdited (part_in old.now) edit.now (renewed old.now new)) }
 {
+    let header = copied_header(&edit.header)?;
+    let patches = changed_table(alloc, &old.patches, &edit.patches)?;
     let votes = changed_table(alloc, &old.votes, &edit.votes)?;
     let roles = changed_table(alloc, &old.roles, &edit.roles)?;
+    let comments = changed_table(alloc, &old.comments, &edit.comments)?;
     let attention = changed_table(alloc, &old.attention, &edit.attention)?;
-    Ok(Marks {
+    Ok(NewTables {
+        header,
+        patches,
         votes,
         roles,
+        comments,
         attention,
     })
 }
 
 /// The tables of a change that an edit makes where there was none. An error where there was no memory for them.
-pub fn begun(alloc: Global, edit: &ChangeEdit) -> Result<ChangeTables, AllocError>
+pub fn first_tables(alloc: Global, edit: &ChangeEdit) -> Result<ChangeTables, AllocError>
     ensures { IfOk result (AreEdited (λ part. None) edit.now) }
 {
     let bare = bare_tables(alloc, edit)?;
-    edited(alloc, &bare, edit)
+    let new = edited(alloc, &bare, edit)?;
+    Ok(renewed(bare, new))
 }
 
 // Tables with an edit's header alone.
@@ -77,18 +72,78 @@ fn bare_tables(alloc: Global, edit: &ChangeEdit) -> Result<ChangeTables, AllocEr
     })
 }
 
-/// A table once more, with changes made. An error where there was no memory for it.
-pub fn changed_table<K: Key, V: Copied>(
+// The tables of a change with what an edit makes of them.
+fn renewed(old: ChangeTables, new: NewTables) -> ChangeTables
+    ensures { result ≡ renewed old new }
+{
+    ChangeTables {
+        header: new.header,
+        patches: new.patches.unwrap_or(old.patches),
+        votes: new.votes.unwrap_or(old.votes),
+        roles: new.roles.unwrap_or(old.roles),
+        comments: new.comments.unwrap_or(old.comments),
+        attention: new.attention.unwrap_or(old.attention),
+    }
+}
+
+/// Puts what edits make of changes in the place of what they had, which takes no memory. The first of a change decides; one that isn't there stays so.
+pub fn renew_all(kept: &mut Table<ChangeNo, ChangeTables>, changes: Vec<(ChangeNo, NewTables)>)
+    ensures rows { (n : ℕ) → row_in nat_cmp (rows_of kept.new) n ≡ renewed_at changes.items n (row_in nat_cmp (rows_of kept.old) n) }
+    ensures full { HasNoEmptyPlace nat_cmp kept.old → HasNoEmptyPlace nat_cmp kept.new }
+{
+    let mut left = changes;
+    while let Some(change) = left.pop() {
+        renew(kept, &left, change.0, change.1);
+    }
+}
+
+// Does so for a change, unless an earlier edit names it.
+fn renew(
+    kept: &mut Table<ChangeNo, ChangeTables>,
+    earlier: &[(ChangeNo, NewTables)],
+    number: ChangeNo,
+    tables: NewTables,
+)
+    ensures rows { (n : ℕ) → renewed_at earlier.now n (row_in nat_cmp (rows_of kept.new) n) ≡ renewed_at (earlier.now ++ (number, tables) ∷ []) n (row_in nat_cmp (rows_of kept.old) n) }
+    ensures full { HasNoEmptyPlace nat_cmp kept.old → HasNoEmptyPlace nat_cmp kept.new }
+{
+    if is_edited(earlier, number) {
+        return;
+    }
+    kept.once();
+    match kept.take(number) {
+        Some(old) => kept.restore(number, renewed(old, tables)),
+        None => kept.release_one(&number),
+    }
+}
+
+// Whether one of these names a change.
+fn is_edited(changes: &[(ChangeNo, NewTables)], number: ChangeNo) -> bool
+    ensures { result ≡ is_some (row_in nat_cmp changes.now number) }
+{
+    for (edited, _) in changes {
+        if edited.get() == number.get() {
+            return true;
+        }
+    }
+    false
+}
+
+// A table once more, with changes made, where there is one to make. An error where there was no memory for it.
+fn changed_table<K: Key, V: Copied>(
     alloc: Global,
     old: &Table<K, V>,
     changes: &[RowEdit<K, V>],
-) -> Result<Table<K, V>, AllocError>
-    ensures { IfOk result (λ t. (q : K) → row_in K.cmp (rows_of t) q ≡ changed K.cmp changes.now q (row_in K.cmp (rows_of old.now) q)) }
+) -> Result<Option<Table<K, V>>, AllocError>
+    ensures { IfOk result (λ t. (q : K) → row_in K.cmp (rows_of (unwrap_or t old.now)) q ≡ changed K.cmp changes.now q (row_in K.cmp (rows_of old.now) q)) }
 {
+    if changes.is_empty() {
+        return Ok(None);
+    }
     let mut table = copied_table(alloc, old)?;
     let copies = copied_changes(alloc, changes)?;
     change_all(&mut table, copies)?;
-    Ok(table)
+    Ok(Some(table))
 }
 
 // Makes all changes, the last first, so that the first of a key stands.
@@ -128,7 +183,7 @@ pub fn copied_changes<K: Key, V: Copied>(
 ) -> Result<Vec<RowEdit<K, V>>, AllocError>
     ensures { IfOk result (λ copies. copies.items ≡ changes.now) }
 {
-    let mut copies = Vec::new(alloc);
+    let mut copies = Vec::with_capacity(alloc, changes.len())?;
     for change in changes {
         copies.push(copied_one(alloc, change)?)?;
     }

@@ -1,16 +1,14 @@
 //! The rows of all changes in memory, with an index by commit and one by place.
 ghost use Rattle.std.specs.Ordering.{nat_cmp};
 ghost use Rattle.std.specs.Prelude.{◌≡◌, Some, ◌++◌, [], ℕ, IfErr, IfOk, MatchBool, OnOk, OnErr, option_map};
-ghost use Rattle.review_table.specs.Rows.{changed, row_in, rows_of};
-ghost use Rattle.review_core_rules.specs.Seen.{seen};
+ghost use Rattle.{review_table.specs.Rows.row_in, review_table.specs.Rows.rows_of, review_core_rules.specs.Seen.seen};
 ghost use Rattle.review_machine_rows.specs.Known.{HasChange, IsLast, IsMergedWith, IsSentBy, header_key};
-ghost use Rattle.review_machine_change_rows.specs.Tables.{HaveFault, Show};
-ghost use Rattle.review_memory_rows.specs.Kept.{is_sent, row_of, sent_by, sent_in, with_sent, AreNumbered, ArePrepared, HasRoomFor, IsFoundSent, IsFull, IsFullBut, IsLastOf, IsReady, IsSentAs, IsSentIn, IsUnread, PutsEdited, PutAllEdited};
+ghost use Rattle.review_memory_rows.specs.Kept.{is_sent, row_of, sent_by, sent_in, with_sent, AreNumbered, ArePrepared, made, HasRoomFor, IsFoundSent, IsFull, IsFullBut, IsLastOf, IsPrepared, IsReady, IsSentAs, IsSentIn, IsUnread};
 
-use crate::edits::{begun, edited};
+use crate::edits::{NewTables, edited, first_tables, renew_all};
 use crate::places::{PlaceKey, placed_by};
 use review_core_rules::{ChangeRows, PatchRow};
-use review_machine_change_rows::{ChangeFault, ChangeTables, change_rows, copied_tables};
+use review_machine_change_rows::{ChangeFault, ChangeTables, copied_change};
 use review_machine_rows::{Base, ChangeEdit};
 use review_table::{Key, RowEdit, Table};
 use review_words::{ChangeNo, CommitName, PatchNo, State};
@@ -35,10 +33,11 @@ impl Key for SentKey {
     }
 }
 
-/// What edits make of changes, in copies of its own: only room is wanted to make it so.
+/// What edits make of changes, in copies of its own: only room is wanted to make it so. Of a change that is there it has the tables that change.
 #[derive(Drop)]
 pub struct Prepared {
-    tables: Vec<RowEdit<ChangeNo, ChangeTables>>,
+    begun: Vec<RowEdit<ChangeNo, ChangeTables>>,
+    renewed: Vec<(ChangeNo, NewTables)>,
     keys: Vec<RowEdit<SentKey, ()>>,
     places: Vec<RowEdit<PlaceKey, ()>>,
 }
@@ -85,7 +84,7 @@ impl KeptChanges {
         ensures fault { IfErr result (IsUnread (rows_of self.now.kept) number) }
     {
         match self.kept.get(&number) {
-            Some(tables) => Ok(Some(copied_rows(alloc, tables)?)),
+            Some(tables) => Ok(Some(copied_change(alloc, tables)?)),
             None => Ok(None),
         }
     }
@@ -162,8 +161,14 @@ impl KeptChanges {
     pub fn prepare(&self, alloc: Global, edits: &[ChangeEdit]) -> Result<Prepared, AllocError>
         ensures { IfOk result (ArePrepared (rows_of self.now.kept) edits.now) }
     {
+        let mut begun = Vec::new(alloc);
+        let mut renewed = Vec::with_capacity(alloc, edits.len())?;
+        for edit in edits {
+            prepare(alloc, &self.kept, edit, &mut begun, &mut renewed)?;
+        }
         Ok(Prepared {
-            tables: edited_all(alloc, &self.kept, edits)?,
+            begun,
+            renewed,
             keys: sent_by(alloc, edits)?,
             places: placed_by(alloc, edits)?,
         })
@@ -190,10 +195,11 @@ impl KeptChanges {
     pub fn apply(&mut self, prepared: Prepared)
         requires room { HasRoomFor prepared self.old }
         requires ready { IsReady (rows_of self.old.kept) prepared }
-        ensures done { (n : ℕ) → row_in nat_cmp (rows_of self.new.kept) n ≡ changed nat_cmp prepared.tables.items n (row_in nat_cmp (rows_of self.old.kept) n) }
+        ensures done { (n : ℕ) → row_in nat_cmp (rows_of self.new.kept) n ≡ made prepared n (row_in nat_cmp (rows_of self.old.kept) n) }
         ensures full { IsFullBut prepared self.old → IsFull self.new }
     {
-        self.kept.apply(prepared.tables);
+        self.kept.apply(prepared.begun);
+        renew_all(&mut self.kept, prepared.renewed);
         self.sent.apply(prepared.keys);
         self.placed.apply(prepared.places);
     }
@@ -203,19 +209,10 @@ impl KeptChanges {
         ensures kept { rows_of self.new.kept ≡ rows_of self.old.kept }
         ensures full { IsFullBut prepared.now self.old → IsFull self.new }
     {
-        self.kept.release(&prepared.tables);
+        self.kept.release(&prepared.begun);
         self.sent.release(&prepared.keys);
         self.placed.release(&prepared.places);
     }
-}
-
-// The change that tables show, which stay as they are, or why they show none.
-fn copied_rows(alloc: Global, tables: &ChangeTables) -> Result<Box<ChangeRows>, ChangeFault>
-    ensures shown { IfOk result (λ rows. Show tables.now (seen rows.value)) }
-    ensures fault { IfErr result (HaveFault tables.now) }
-{
-    let copy = copied_tables(alloc, tables)?;
-    change_rows(alloc, copy)
 }
 
 // Makes room for changes, which changes no row.
@@ -231,42 +228,37 @@ fn reserve(
     ensures room { OnOk result (HasRoomFor prepared.now (record { kept = kept.new; sent = sent.new; placed = placed.new })) }
     ensures spare { IsFull (record { kept = kept.old; sent = sent.old; placed = placed.old }) → IsFullBut prepared.now (record { kept = kept.new; sent = sent.new; placed = placed.new }) }
 {
-    kept.reserve_all(&prepared.tables)?;
+    kept.reserve_all(&prepared.begun)?;
     sent.reserve_all(&prepared.keys)?;
     placed.reserve_all(&prepared.places)?;
     Ok(())
 }
 
-// The tables of the changes that edits change, each edit by itself.
-fn edited_all(
-    alloc: Global,
-    kept: &Table<ChangeNo, ChangeTables>,
-    edits: &[ChangeEdit],
-) -> Result<Vec<RowEdit<ChangeNo, ChangeTables>>, AllocError>
-    ensures { IfOk result (λ changes. PutAllEdited (rows_of kept.now) edits.now changes.items) }
-{
-    let mut changes = Vec::new(alloc);
-    for edit in edits {
-        changes.push(edited_one(alloc, kept, edit)?)?;
-    }
-    Ok(changes)
-}
-
-fn edited_one(
+// What an edit makes of its change: its tables, where there was none, and otherwise those that change.
+fn prepare(
     alloc: Global,
     kept: &Table<ChangeNo, ChangeTables>,
     edit: &ChangeEdit,
-) -> Result<RowEdit<ChangeNo, ChangeTables>, AllocError>
-    ensures { IfOk result (PutsEdited (rows_of kept.now) edit.now) }
+    begun: &mut Vec<RowEdit<ChangeNo, ChangeTables>>,
+    renewed: &mut Vec<(ChangeNo, NewTables)>,
+) -> Result<(), AllocError>
+    ensures { OnOk result (IsPrepared (row_in nat_cmp (rows_of kept.now) edit.now.change) edit.now begun.old.items begun.new.items renewed.old.items renewed.new.items) }
 {
-    let tables = match kept.get(&edit.change) {
-        Some(old) => edited(alloc, old, edit)?,
-        None => begun(alloc, edit)?,
-    };
-    Ok(RowEdit {
-        key: edit.change,
-        row: Some(tables),
-    })
+    match kept.get(&edit.change) {
+        Some(old) => {
+            let tables = edited(alloc, old, edit)?;
+            renewed.push((edit.change, tables))?;
+            Ok(())
+        }
+        None => {
+            let tables = first_tables(alloc, edit)?;
+            begun.push(RowEdit {
+                key: edit.change,
+                row: Some(tables),
+            })?;
+            Ok(())
+        }
+    }
 }
 
 // The keys of the patch sets that changes get.
