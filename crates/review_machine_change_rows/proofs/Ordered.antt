@@ -6,7 +6,8 @@ use Rattle.review_machine_change_rows.specs.declared.loading.ChangeFault.{Change
 use Rattle.review_machine_change_rows.specs.declared.loading.ChangeFault.TheVariants.{Memory, Gap}
 use Rattle.review_machine_change_rows.specs.inner.Words.{AddsNext, AreInOrder, IsGap, IsNotNext, numbered}
 
-numbered_more : {X : Type 0} (k : ℕ) (xs : List X) (m : ℕ) (x : X) (rest : List (ℕ × X)) → m ≡ k + length xs + 1 → numbered k (xs ++ x ∷ []) ++ rest ≡ numbered k xs ++ (m, x) ∷ rest
+-- one more row under the next number
+pub numbered_more : {X : Type 0} (k : ℕ) (xs : List X) (m : ℕ) (x : X) (rest : List (ℕ × X)) → m ≡ k + length xs + 1 → numbered k (xs ++ x ∷ []) ++ rest ≡ numbered k xs ++ (m, x) ∷ rest
 numbered_more k [] m x rest is = let e : k + 1 ≡ m = omega (arith, is) in ap (λ n. (n, x) ∷ rest) e
 numbered_more k (y ∷ xs) m x rest is = ap (λ l. (k + 1, y) ∷ l) (numbered_more (k + 1) xs m x rest (omega (arith, is)))
 
@@ -100,7 +101,7 @@ hole k (y ∷ xs) m x rest s low ne =
     }
 
 -- rows that pass over a number make no list
-gap : {X : Type 0} (rows : List (ℕ × X)) (xs : List X) (m : ℕ) (x : X) (rest : List (ℕ × X)) → IsStrictlySortedBy nat_cmp (keys_of rows) → numbered 0 xs ++ (m, x) ∷ rest ≡ rows → 1 ≤ m →
+pub gap : {X : Type 0} (rows : List (ℕ × X)) (xs : List X) (m : ℕ) (x : X) (rest : List (ℕ × X)) → IsStrictlySortedBy nat_cmp (keys_of rows) → numbered 0 xs ++ (m, x) ∷ rest ≡ rows → 1 ≤ m →
     (m ≡ length xs + 1 → ⊥) → (ys : List X) → AreInOrder rows ys → ⊥
 gap rows xs m x rest s is low ne ys order =
     let h = hole 0 xs m x rest (subst (λ r. IsStrictlySortedBy nat_cmp (keys_of r)) (sym is) s) (omega arith) (λ e. ne (omega (arith, e))) in
