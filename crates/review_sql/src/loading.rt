@@ -127,30 +127,6 @@ fn learn_group(group: &GroupName, found: Option<Table<AccountNo, ()>>, rows: &mu
     }
 }
 
-// Makes one look-up by statements.
-fn find<S: Alter>(
-    tx: &mut Transaction<'_, S>,
-    alloc: Global,
-    want: &Want,
-    counts: &mut Counts,
-    rows: &mut Rows,
-) -> Result<Ended, Error>
-    ensures same_reference { tx.new.conn.ghost_name ≡ tx.old.conn.ghost_name }
-    ensures looks { Looks (LearnsBounded want.now rows.old rows.new counts.old counts.new) (state S.Store tx.old.conn.now) (state S.Store tx.new.conn.now) result }
-    ensures learnt { IfOk result (λ e. e ≡ Ended.Learnt → HasLearnt want.now rows.old rows.new) }
-{
-    match want.group() {
-        Some(group) => {
-            let found = people::find_group(tx, alloc, group)?;
-            Ok(learn_group(group, found, rows))
-        }
-        None => {
-            let sight = see(tx, alloc, want, counts)?;
-            Ok(learn(want, sight, rows))
-        }
-    }
-}
-
 // Makes one look-up more: by what the shelf knows of counts where that tells it, and else by statements, which is noted.
 fn find_next<S: Alter>(
     tx: &mut Transaction<'_, S>,
@@ -168,7 +144,16 @@ fn find_next<S: Alter>(
         return Ok(learn(want, sight, rows));
     }
     *is_asked = true;
-    find(tx, alloc, want, counts, rows)
+    match want.group() {
+        Some(group) => {
+            let found = people::find_group(tx, alloc, group)?;
+            Ok(learn_group(group, found, rows))
+        }
+        None => {
+            let sight = see(tx, alloc, want, counts)?;
+            Ok(learn(want, sight, rows))
+        }
+    }
 }
 
 // Makes look-ups one after the other, until all have learnt, or there is no memory, or one meets damage; what the rows know counts only where all have learnt.
