@@ -8,7 +8,7 @@ ghost use Rattle.review_http.specs.Served.{IsWritten, WasServed};
 use crate::response::response_of;
 use crate::status::status_of;
 use review_http_requests::{
-    Counted, HttpFault, RequestFault, PathTable, read_request, write_and_flush,
+    Counted, HttpFault, PathTable, RequestFault, read_request, write_and_flush,
 };
 use review_machine_deliveries::{Rules, deliver};
 use review_machine_rows::Shelf;

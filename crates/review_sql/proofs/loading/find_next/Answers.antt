@@ -14,11 +14,17 @@ returns-in_ok-found-in-Some-group-clause-looks g c =
     let old = c.args.rows.now in
     let new = c.learn_group.new.rows in
     let is : w ≡ want.Group group = is_group w group c.in-Some-group.ensures in
-    inr (refl, look_on _ (LearnsBounded w old new c.args.counts.now c.args.counts.now) _ _ c.in_ok-found-in-Some-group.found (Ok c.learn_group.result) c.in_ok-found-in-Some-group.ensures.looks
-    (λ db h bounded. (subst (λ w. LearnsSeen w old new db c.learn_group.result) (sym is) (c.learn_group.ensures.told db h), bounded)))
+    inr (
+      refl,
+      look_on _ (LearnsBounded w old new c.args.counts.now c.args.counts.now) _ _ c.in_ok-found-in-Some-group.found (Ok c.learn_group.result) c.in_ok-found-in-Some-group.ensures.looks
+          (λ db h bounded. (subst (λ w. LearnsSeen w old new db c.learn_group.result) (sym is) (c.learn_group.ensures.told db h), bounded)),
+    )
 
 pub returns-in_ok-sight-in-None-clause-looks : goal.returns-in_ok-sight-in-None-clause-looks
 returns-in_ok-sight-in-None-clause-looks g c =
     let w = c.args.want.now in
-    inr (refl, look_on _ (LearnsBounded w c.args.rows.now c.learn-in-None.new.rows c.args.counts.now c.see.new.counts) _ _ c.in_ok-sight-in-None.sight (Ok c.learn-in-None.result) c.in_ok-sight-in-None.ensures.looks
-    (λ db h bounded. (c.learn-in-None.ensures.told db (h bounded).0, (h bounded).1)))
+    inr (
+      refl,
+      look_on _ (LearnsBounded w c.args.rows.now c.learn-in-None.new.rows c.args.counts.now c.see.new.counts) _ _ c.in_ok-sight-in-None.sight (Ok c.learn-in-None.result) c.in_ok-sight-in-None.ensures.looks
+          (λ db h bounded. (c.learn-in-None.ensures.told db (h bounded).0, (h bounded).1)),
+    )
