@@ -3,10 +3,10 @@ use Rattle.std.proofs.Common.{◌++◌, ◌∷◌, ◌||◌, ℕ, Bool, true, fa
 use Rattle.std.proofs.lemmas.Bool.{and_parts, and_from, cases_Bool}
 use Rattle.review_words.specs.History.{Entry, entry_of, is_closed, Identity, stored, is_same, latest, may_follow, version_of, least_open, if_done}
 use Rattle.review_words.specs.Texts.{content_text, reply_text, IsStored}
-use Rattle.review_words.specs.declared.command.Command.TheVariants.{CreateAccount, PutGroup, PutProject, RecordBase, CloseEpoch, CreateChange, OnChange, Submit}
+use Rattle.review_words.specs.declared.command.Command.TheVariants.{PutProject, CloseEpoch, OnChange, Submit}
 use Rattle.review_words.specs.declared.reply.NotTaken.{NotTaken as Cause}
-use Rattle.review_words.specs.declared.reply.NotTaken.TheVariants.{Memory, Store, Pattern, Full}
-use Rattle.review_words.specs.declared.reply.Reply.TheVariants.{Done, Refused, IdentityReused, EpochClosed, NotTaken}
+use Rattle.review_words.specs.declared.reply.NotTaken.TheVariants.{Store, Pattern, Full}
+use Rattle.review_words.specs.declared.reply.Reply.TheVariants.{Refused, IdentityReused, EpochClosed, NotTaken}
 use Rattle.review_machine_rows.proofs.Asked.{requests_are}
 use Rattle.review_machine_rows.proofs.Common.{Change, ChangeCommand, Command, Delivery, File, IsDoneOrRefused, NewPatch, Nothing, Read, Reading, Reads, Refusal, Reply, RestsOn, Write, bytes_eq-Decides, change}
 use Rattle.review_machine_rows.proofs.Readings.{closed_stays, own_open, reading_of, IsToldDone, sent_or_done}

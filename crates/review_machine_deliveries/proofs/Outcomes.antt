@@ -2,7 +2,7 @@
 use Rattle.std.proofs.Common.{◌≡◌, ◌⊎◌, ℕ, List, [], ◌∷◌, Option, Some, None, true, false, ◌+◌, ◌||◌, ◌∙◌, sym, ap, inl, inr, refl, subst, ⊎_elim}
 use Rattle.std.specs.Prelude.{nat_lt, not, MatchOption}
 use Rattle.review_words.specs.History.{Entry, is_project, project_count}
-use Rattle.review_words.specs.declared.command.Command.TheVariants.{CreateAccount, PutGroup, PutProject, RecordBase, CloseEpoch, CreateChange, OnChange, Submit}
+use Rattle.review_words.specs.declared.command.Command.TheVariants.{PutProject, CloseEpoch, OnChange, Submit}
 use Rattle.review_words.specs.declared.reply.Refusal.TheVariants.{BadFile, LabelNarrowed, Limit, NoParent, ParentDepth, ParentFixed}
 use Rattle.review_file_rules.proofs.Together.{never_both, one_refusal}
 use Rattle.review_file_rules.proofs.Trees.{covers_alike, inherit_alike, inherits_alike}

@@ -5,7 +5,7 @@ use Rattle.review_names.specs.Forms.{is_label, most_changes, most_comments, most
 use Rattle.review_words.specs.History.{Entry, is_account, account_count}
 use Rattle.review_words.specs.Texts.{IsStored, IsChangeNumber, IsCommentNumber}
 use Rattle.review_words.specs.declared.changes.Review.{Review as ReviewOf}
-use Rattle.review_words.specs.declared.command.Command.TheVariants.{CreateAccount, PutGroup, PutProject, RecordBase, CloseEpoch, CreateChange, OnChange, Submit}
+use Rattle.review_words.specs.declared.command.Command.TheVariants.{CreateAccount, PutProject, RecordBase, CloseEpoch, CreateChange, OnChange, Submit}
 use Rattle.review_words.specs.declared.faults.FileFault.TheVariants.{UnknownKey}
 use Rattle.review_words.specs.declared.reply.Answer.TheVariants.{Nothing, Reviewed}
 use Rattle.review_words.specs.declared.reply.Refusal.TheVariants.{BadFile, UnknownCaller, ChainOutdated, ChainAbandoned, ChainWip, ChainTooLong, RequirementUnsatisfied}

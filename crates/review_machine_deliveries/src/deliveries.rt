@@ -56,7 +56,15 @@ pub fn deliver<S: Shelf, R: Rules>(
     ensures { IsDelivered delivery.now result (S.state shelf.old) (S.state shelf.new) }
 {
     are_forms(delivery);
-    take_delivery(alloc, shelf, rules, delivery)
+    match delivery {
+        Delivery::Write {
+            caller,
+            epoch,
+            id,
+            command,
+        } => reply_of(write(alloc, shelf, rules, *caller, *epoch, id, command)),
+        Delivery::Read { caller, query } => reply_of(read(alloc, shelf, rules, *caller, query)),
+    }
 }
 
 // That the parts of a request's identity have their forms.
@@ -73,25 +81,6 @@ fn are_forms(delivery: &Delivery)
         let _caller = caller.get();
         let _epoch = epoch.get();
         let _id = id.as_str();
-    }
-}
-
-fn take_delivery<S: Shelf, R: Rules>(
-    alloc: Global,
-    shelf: &mut S,
-    rules: &mut R,
-    delivery: &Delivery,
-) -> Reply
-    ensures { IsReplied delivery.now result (S.state shelf.old) (S.state shelf.new) }
-{
-    match delivery {
-        Delivery::Write {
-            caller,
-            epoch,
-            id,
-            command,
-        } => reply_of(write(alloc, shelf, rules, *caller, *epoch, id, command)),
-        Delivery::Read { caller, query } => reply_of(read(alloc, shelf, rules, *caller, query)),
     }
 }
 
@@ -194,31 +183,19 @@ fn gather_and_decide<S: Shelf, R: Rules>(
     ensures cause { (S.state shelf.new).is_honest → IfErr result (WasUndecided command.now (S.state shelf.old).tables) }
 {
     let mut rows = Rows::new(alloc);
-    gather_and_decide_with(alloc, shelf, rules, &mut rows, caller, epoch, command)
-}
-
-// Decides a command, with rows of the caller's that know nothing yet: rows of its own the checker would write out at each `?`.
-fn gather_and_decide_with<S: Shelf, R: Rules>(
-    alloc: Global,
-    shelf: &mut S,
-    rules: &mut R,
-    rows: &mut Rows,
-    caller: AccountNo,
-    epoch: Epoch,
-    command: &Command,
-) -> Result<Decided, NotTaken>
-    requires nothing { (w : Want) → known rows.old w ≡ None }
-    ensures gathers { OnlyGathers result (S.state shelf.old) (S.state shelf.new) }
-    ensures decided { (S.state shelf.new).is_honest → IfOk result (WasDecided caller epoch command.now (S.state shelf.old).tables) }
-    ensures stored { IfOk result (λ decided. IsStored decided.reply) }
-    ensures cause { (S.state shelf.new).is_honest → IfErr result (WasUndecided command.now (S.state shelf.old).tables) }
-{
-    let effective = gathered(alloc, shelf, rules, rows, caller, Matter::Command(command))?;
+    let effective = gathered(
+        alloc,
+        shelf,
+        rules,
+        &mut rows,
+        caller,
+        Matter::Command(command),
+    )?;
     decide(
         alloc,
         rules,
         effective.as_ref(),
-        rows,
+        &rows,
         caller,
         epoch,
         command,

@@ -4,11 +4,10 @@ ghost use Rattle.review_machine_rows.specs.Known.{Agrees};
 ghost use Rattle.review_machine_rows.specs.Shelf.{Shows, KeepsTables, BlamesTables, AddsNoStop, CountsFaults};
 ghost use Rattle.review_machine_rows.specs.Steps.{HasComeTo, next, topic_of};
 ghost use Rattle.review_machine_deliveries.specs.Gathered.{OnlyGathers, OnlyLooks, CountsCause, IsAllAsked, IsSoFar, IsUngathered, LeavesTables, StaysKnown};
-ghost use Rattle.review_machine_deliveries.specs.inner.Words.{HasMore};
 
 use crate::rules::Rules;
 use review_file::ProjectFile;
-use review_machine_rows::{Matter, Need, Rows, Shelf, ShelfFault, Step};
+use review_machine_rows::{Matter, Rows, Shelf, ShelfFault, Step};
 use review_words::{AccountNo, NotTaken};
 use std::alloc::Global;
 
@@ -60,23 +59,9 @@ fn gather_from<S: Shelf, R: Rules>(
 {
     let mut come = from;
     while let Some(need) = rules.next_need(alloc, effective, rows, caller, matter, &mut come)? {
-        load_more(alloc, shelf, &need, rows)?;
+        let more = shelf.load(alloc, &need)?;
+        rows.add(alloc, more)?;
     }
-    Ok(())
-}
-
-// Adds to rows what the look-ups of a need find.
-fn load_more<S: Shelf>(
-    alloc: Global,
-    shelf: &mut S,
-    need: &Need,
-    rows: &mut Rows,
-) -> Result<(), ShelfFault>
-    ensures looks { OnlyLooks result (S.state shelf.old) (S.state shelf.new) }
-    ensures more { OnOk result (HasMore need.now.wants.items (S.state shelf.new).is_honest (S.state shelf.old).tables rows.old rows.new) }
-{
-    let more = shelf.load(alloc, need)?;
-    rows.add(alloc, more)?;
     Ok(())
 }
 

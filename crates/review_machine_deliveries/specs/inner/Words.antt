@@ -1,18 +1,9 @@
 -- Words that only proofs and private clauses use.
-use Rattle.std.specs.List.{All}
-use Rattle.std.specs.Prelude.{List, Option, Result, Ok, Err, ℕ, ◌≡◌, ◌⊎◌}
+use Rattle.std.specs.Prelude.{List, Result, Ok, Err, ℕ, ◌≡◌, ◌⊎◌}
 use Rattle.review_words.specs.Texts.{reply_text, IsStored}
 use Rattle.review_words.specs.declared.reply.NotTaken.{NotTaken as Cause, TheVariants.Memory, TheVariants.Damaged}
 use Rattle.review_words.specs.declared.reply.Reply.{Reply, TheVariants.NotTaken, TheVariants.IdentityReused}
-use Rattle.review_machine_rows.specs.{Known.IsKnown, Known.Agrees, Known.AreAdded, Rows.Tables, Rows.AnswerRow}
-use Rattle.review_machine_rows.specs.{Shelf.Shows, declared.rows.Rows.Rows, declared.rows.Want.Want}
-
--- the rows with what was found of these look-ups, which is so in the tables where the store was honest
-pub record HasMore (wants : List Want) (IsHonest : Type 0) (tables : Option Tables) (rows both : Rows) : Type 0 where
-  pub more : Rows
-  pub asked : All (IsKnown more) wants
-  pub added : AreAdded rows more both
-  pub found : IsHonest → Shows tables (λ t. Agrees t more)
+use Rattle.review_machine_rows.specs.Rows.{AnswerRow}
 
 -- what is told of what was taken, or why it wasn't
 abbrev pub reply_of : Result Reply Cause → Reply

@@ -16,25 +16,27 @@ loop-need-init g c = record {
 
 pub loop-need-smaller : goal.loop-need-smaller
 loop-need-smaller g c =
-    let more = c.in_ok-load_more.ensures.more in
-    step_lowers (option_copied c.args.effective) c.loop-need.rows more.more c.load_more.new.rows c.args.caller (topic_of c.args.matter) c.in-Some.need.wants.items
-    (ap wants_in (sym c.in-Some.is) ∙ c.in_ok-need.ensures.need c.loop-need.invariant.come) more.asked more.added
+    let more = c.in_ok-more in
+    step_lowers (option_copied c.args.effective) c.loop-need.rows more.more c.add.new.self c.args.caller (topic_of c.args.matter) c.in-Some.need.wants.items
+    (ap wants_in (sym c.in-Some.is) ∙ c.in_ok-need.ensures.need c.loop-need.invariant.come) more.ensures.asked.all c.in_ok-add.ensures
 
 pub loop-need-preserved : goal.loop-need-preserved
 loop-need-preserved g c =
     let l = c.loop-need in
     let i = l.invariant in
-    let x = c.in_ok-load_more.ensures in
-    let more = x.more in
+    let more = c.in_ok-more.more in
+    let x = c.in_ok-more.ensures in
+    let added = c.in_ok-add.ensures in
+    let both = c.add.new.self in
     record {
-      honest = λ h. i.honest (x.looks.honest h);
-      found = λ h so_far. so_far_added (g.S.Shelf.state c.args.shelf.now).tables l.rows more.more c.load_more.new.rows (i.found (x.looks.honest h) so_far)
-          (subst (λ t. Shows t (λ u. Agrees u more.more)) (i.tables (x.looks.honest h)) (more.found h)) more.added;
-      stays = stays_added c.args.rows.now l.rows more.more c.load_more.new.rows i.stays more.added;
-      tables = λ h. x.looks.tables h ∙ i.tables (x.looks.honest h);
-      stops = λ h t s. i.stops (x.looks.honest h) t (x.looks.stops h t s);
-      come = subst (λ n. IfSome n (λ m. ComesTo (option_copied c.args.effective) l.rows c.args.caller (topic_of c.args.matter) m.wants.items c.next_need.new.come)) c.in-Some.is (c.in_ok-need.ensures.come i.come) more.more c.load_more.new.rows more.asked more.added;
-      counted = x.looks.counted ∙ i.counted;
+      honest = λ h. i.honest (x.honest h);
+      found = λ h so_far. so_far_added (g.S.Shelf.state c.args.shelf.now).tables l.rows more both (i.found (x.honest h) so_far)
+          (subst (λ t. Shows t (λ u. Agrees u more)) (i.tables (x.honest h)) (x.found h)) added;
+      stays = stays_added c.args.rows.now l.rows more both i.stays added;
+      tables = λ h. x.tables h ∙ i.tables (x.honest h);
+      stops = λ h t s. i.stops (x.honest h) t (x.stops h t s);
+      come = subst (λ n. IfSome n (λ m. ComesTo (option_copied c.args.effective) l.rows c.args.caller (topic_of c.args.matter) m.wants.items c.next_need.new.come)) c.in-Some.is (c.in_ok-need.ensures.come i.come) more both x.asked.all added;
+      counted = x.counted ∙ i.counted;
     }
 
 pub returns-clause-found : goal.returns-clause-found
@@ -57,5 +59,8 @@ returns-clause-looks g c =
 pub returns-in_err-need-clause-looks : goal.returns-in_err-need-clause-looks
 returns-in_err-need-clause-looks g c = record { honest = search rules; tables = search rules; damaged = search rules; stops = search rules; counted = search rules }
 
-pub returns-in_err-load_more-clause-looks : goal.returns-in_err-load_more-clause-looks
-returns-in_err-load_more-clause-looks g c = record { honest = search rules; tables = search rules; damaged = search rules; stops = search rules; counted = search rules }
+pub returns-in_err-more-clause-looks : goal.returns-in_err-more-clause-looks
+returns-in_err-more-clause-looks g c = record { honest = search rules; tables = search rules; damaged = search rules; stops = search rules; counted = search rules }
+
+pub returns-in_err-add-clause-looks : goal.returns-in_err-add-clause-looks
+returns-in_err-add-clause-looks g c = record { honest = search rules; tables = search rules; damaged = search rules; stops = search rules; counted = search rules }

@@ -3,7 +3,7 @@ use Rattle.review_machine_rows.specs.Steps.{OfCommand}
 use Rattle.review_machine_deliveries.proofs.Deciding.{counts_none, leaves_alike, ungathered_undecided, was_decided, was_stored, was_undecided}
 use Rattle.review_machine_deliveries.proofs.Filed.{passed_on}
 use Rattle.review_machine_deliveries.specs.{Gathered.IsAllAsked, inner.Deciding.WasUndecided}
-use Rattle.review_machine_deliveries.proofs.deliveries.gather_and_decide_with.Goals as goal
+use Rattle.review_machine_deliveries.proofs.deliveries.gather_and_decide.Goals as goal
 
 pub returns-clause-decided : goal.returns-clause-decided
 returns-clause-decided g c = λ honest.
@@ -11,7 +11,7 @@ returns-clause-decided g c = λ honest.
     let a = c.args in
     let file = option_copied c.as_ref.result in
     let asked = subst (λ f. IsAllAsked a.caller (OfCommand a.command.now) f c.gathered.new.rows) (sym c.as_ref.ensures.value) x.enough in
-    was_decided a.caller a.epoch a.command.now (g.S.Shelf.state a.shelf.now).tables file c.gathered.new.rows c.decide.result asked (x.found honest (inl c.requires.nothing)) c.decide.ensures.decided
+    was_decided a.caller a.epoch a.command.now (g.S.Shelf.state a.shelf.now).tables file c.gathered.new.rows c.decide.result asked (x.found honest (inl c.new-rows.ensures)) c.decide.ensures.decided
 
 pub returns-clause-stored : goal.returns-clause-stored
 returns-clause-stored g c = was_stored c.args.caller c.args.epoch c.args.command.now (option_copied c.as_ref.result) c.gathered.new.rows c.decide.result c.decide.ensures.decided
@@ -22,7 +22,7 @@ returns-clause-cause g c = λ honest.
     let a = c.args in
     let file = option_copied c.as_ref.result in
     let asked = subst (λ f. IsAllAsked a.caller (OfCommand a.command.now) f c.gathered.new.rows) (sym c.as_ref.ensures.value) x.enough in
-    was_undecided a.caller a.command.now (g.S.Shelf.state a.shelf.now).tables file c.gathered.new.rows c.decide.result asked (x.found honest (inl c.requires.nothing)) c.decide.ensures.cause
+    was_undecided a.caller a.command.now (g.S.Shelf.state a.shelf.now).tables file c.gathered.new.rows c.decide.result asked (x.found honest (inl c.new-rows.ensures)) c.decide.ensures.cause
 
 pub returns-clause-gathers : goal.returns-clause-gathers
 returns-clause-gathers g c =
@@ -44,4 +44,4 @@ returns-in_err-effective-clause-cause g c = λ honest.
     let x = c.in_err-effective.ensures in
     let a = c.args in
     let old = (g.S.Shelf.state a.shelf.now).tables in
-    passed_on (WasUndecided a.command.now old) c.from_residual.result c.in_err-effective.field-0.0 c.from_residual.ensures (ungathered_undecided a.command.now old c.in_err-effective.field-0.0 (x.cause honest (inl c.requires.nothing)))
+    passed_on (WasUndecided a.command.now old) c.from_residual.result c.in_err-effective.field-0.0 c.from_residual.ensures (ungathered_undecided a.command.now old c.in_err-effective.field-0.0 (x.cause honest (inl c.new-rows.ensures)))
