@@ -13,9 +13,9 @@ use Rattle.review_machine_rows.proofs.Puts.{is_eq-then}
 use Rattle.review_machine_rows.specs.Rows.{member_cmp, Key, AccountKey, MemberKey, FileKey, BaseKey, PartKey, OddKey, Row, AccountRow, FileRow, BaseRow, APart, Count, Projects, BasesOf, ClosedEpochs, AnswerRow, Answered, Tables, member_row, member_change, account_change, after_put, count_put, place_cmp, after, count_after, kept_row, edited}
 use Rattle.review_machine_rows.specs.declared.rows.{Delta.Delta, Kept.Kept, MemberKey.MemberKey as Member}
 use Rattle.review_machine_rows.specs.declared.rows.{PlaceKey.PlaceKey, Put.Put, StoredFile.StoredFile}
-use Rattle.review_memory_rows.proofs.{Dropped.at_account, Dropped.exact_answer, Dropped.at_answer, Turned.made_by}
-use Rattle.review_memory_rows.specs.Answers.{key_of, answer_cmp}
-use Rattle.review_memory_rows.specs.{Bases.BranchesView, Bases.total_in, Kept.ArePrepared, Kept.part_at}
+use Rattle.review_memory_rows.proofs.Dropped.{at_account, exact_answer, at_answer}
+use Rattle.review_memory_rows.specs.{Answers.key_of, Answers.answer_cmp, Bases.BranchesView, Bases.total_in}
+use Rattle.review_memory_rows.specs.Kept.{ArePrepared, part_at, part_where}
 use Rattle.review_memory_rows.specs.declared.answer_keys.{AnswerKey.AnswerKey, StoredAnswer.StoredAnswer}
 use Rattle.review_memory.specs.Desk.{name_cmp, IsNumber, beside_epoch, Desk, desk_of, desk_with, tables_of, row_of, count_of, stored_row, file_changes, AddsNames, AreInUse, IsIndexed, IsNumbered, IsBounded, IsSound, IsGiven, IsHeld, IsNameOf, IsStored, IsUsed, AreIndexed, KeepsNames, AreChangesOf, AreApplied, IsWithBase, HasChanged, HasNoSpareRoom, HasRoom, HasRoomOnlyFor, PutsAnswer, with_stored}
 use Rattle.review_memory.specs.declared.{changes.Changes.Changes, keys.NameKey.NameKey}
@@ -214,7 +214,7 @@ committed delta kept changes projects answer old new copies prepared puts applie
         ∙ file_row_after delta.file project (row_in (slice_cmp nat_cmp) old.files project)
     rows (BaseKey project branch place) = base_row_after delta.base old.branches new.branches based (record { project = project; branch = branch; place = place })
     rows (PartKey n part) =
-        ap (option_map APart) (made_by old.changes old.changes new.changes delta.changes.items changes.edits.tables.items prepared.tables refl applied.edits n part)
+        ap (option_map APart) (ap (λ o. part_where o part) (applied.edits n) ∙ prepared.tables n part)
         ∙ part_after (edited delta.changes.items n part) (part_at old.changes n part)
     rows (OddKey o) = refl
 

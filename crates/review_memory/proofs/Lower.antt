@@ -150,7 +150,7 @@ file_stays (Some put) t only q empty = put_only (is_at (slice_cmp nat_cmp put.ke
 -- where no place is empty, those of edits aren't either
 pub none_spare_of_edits : (p : Prepared) (v : KeptView) → IsFull v → IsFullBut p v
 none_spare_of_edits p v full = record {
-  kept = none_spare nat_cmp (is_named nat_cmp p.tables.items) v.kept full.kept;
+  kept = none_spare nat_cmp (is_named nat_cmp p.begun.items) v.kept full.kept;
   sent = none_spare sent_cmp (is_named sent_cmp p.keys.items) v.sent full.sent;
   placed = none_spare place_cmp (is_named place_cmp p.places.items) v.placed full.placed;
 }

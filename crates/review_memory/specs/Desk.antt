@@ -12,7 +12,7 @@ use Rattle.review_machine_rows.specs.declared.rows.{PlaceKey.PlaceKey, Put.Put, 
 use Rattle.review_machine_change_rows.specs.declared.tables.ChangeTables.{ChangeTables}
 use Rattle.review_memory_rows.specs.Answers.{answer_cmp, key_of}
 use Rattle.review_memory_rows.specs.Bases.{BranchesView, IsPut, base_at, total_in}
-use Rattle.review_memory_rows.specs.Kept.{HasRoomFor, IsFull, IsFullBut, part_at}
+use Rattle.review_memory_rows.specs.Kept.{HasRoomFor, IsFull, IsFullBut, made, part_at}
 use Rattle.review_memory_rows.specs.declared.answer_keys.{AnswerKey.AnswerKey, StoredAnswer.StoredAnswer}
 use Rattle.review_memory.specs.declared.{changes.Changes.Changes, keys.NameKey.NameKey}
 use Rattle.review_memory.specs.declared.tables.MemoryTables.{MemoryTables}
@@ -231,7 +231,7 @@ pub record AreApplied (old : Desk) (changes : Changes) (projects : ℕ) (new : D
   pub accounts : (k : ℕ) → row_in nat_cmp new.accounts k ≡ changed nat_cmp changes.accounts.items k (row_in nat_cmp old.accounts k)
   pub members : (k : Member) → row_in member_cmp new.members k ≡ changed member_cmp changes.members.items k (row_in member_cmp old.members k)
   pub files : (k : List ℕ) → row_in (slice_cmp nat_cmp) new.files k ≡ changed (slice_cmp nat_cmp) changes.files.items k (row_in (slice_cmp nat_cmp) old.files k)
-  pub edits : (k : ℕ) → row_in nat_cmp new.changes k ≡ changed nat_cmp changes.edits.tables.items k (row_in nat_cmp old.changes k)
+  pub edits : (k : ℕ) → row_in nat_cmp new.changes k ≡ made changes.edits k (row_in nat_cmp old.changes k)
   pub projects_are : new.projects ≡ projects
   pub least : new.least ≡ old.least
   pub requests : new.requests ≡ old.requests + 1

@@ -45,7 +45,7 @@ fn copied_members(
     ensures copied { IfOk result (λ copies. copies.items ≡ changes.now) }
     ensures numbered { OnOk result (All (λ c. IsNumber c.key.account) changes.now) }
 {
-    let mut copies = Vec::new(alloc);
+    let mut copies = Vec::with_capacity(alloc, changes.len())?;
     for change in changes {
         copies.push(copied_member(change)?)?;
     }
@@ -126,7 +126,7 @@ pub fn names_given(
     ensures all { IfOk result (λ names. All (IsGiven names.items) changes.now) }
     ensures only { IfOk result (λ names. All (IsNameOf changes.now) names.items) }
 {
-    let mut names = Vec::new(alloc);
+    let mut names = Vec::with_capacity(alloc, changes.len())?;
     for change in changes {
         // A range over a name finds the account by its number.
         let _ = change.key.get();
