@@ -1,26 +1,24 @@
 -- Commands that are decided, and what closes epochs.
-use Rattle.std.proofs.Common.{◌≡◌, ℕ, List, refl, ◌+◌, ◌==◌, [], ◌∷◌, ◌++◌, Option, Some, None, Bool, true, false, cond, not, ◌&&◌, sym, ap, ◌∙◌, subst, ⊎_elim, length, map, nat_cmp, is_some, nat_lt, option_map, unwrap_or, MatchOption, bytes_eq, nat_le}
-use Rattle.std.{proofs.lemmas.Slice.Eq.bytes_eq-Decides, specs.List.AllByRecursion, specs.List.list_all}
-use Rattle.review_names.specs.Names.{administrators, registered_users}
+use Rattle.std.proofs.Common.{◌≡◌, ℕ, List, refl, ◌+◌, ◌==◌, [], ◌∷◌, ◌++◌, Option, Some, None, Bool, true, false, cond, ◌&&◌, sym, ap, ◌∙◌, subst, ⊎_elim, length, nat_cmp, is_some, nat_lt, option_map, unwrap_or, MatchOption, bytes_eq, nat_le}
+use Rattle.std.proofs.lemmas.Slice.Eq.{bytes_eq-Decides}
 use Rattle.review_table.specs.Rows.{row_edit_of, after_row_edit}
-use Rattle.review_words.specs.History.{Entry, entry_of, account_count, name_of, name_taken, is_account, is_admin, is_listed, listed_members, file_text, is_project, project_count, bases, base_count, least_open}
+use Rattle.review_words.specs.History.{Entry, entry_of, account_count, name_of, is_account, is_admin, is_listed, listed_members, file_text, is_project, project_count, bases, base_count, least_open}
 use Rattle.review_words.specs.Texts.{IsPlaced, IsRefusalOf}
-use Rattle.review_words.specs.declared.command.Command.TheVariants.{CreateAccount, PutGroup, PutProject, RecordBase, CreateChange, OnChange, Submit, CloseEpoch}
+use Rattle.review_words.specs.declared.command.Command.TheVariants.{CreateAccount, PutGroup, PutProject, RecordBase, CloseEpoch}
 use Rattle.review_words.specs.declared.faults.{ExprFault.ExprFault, FileFault.FileFault, FileFault.TheVariants.Expr}
-use Rattle.review_words.specs.declared.reply.Refusal.TheVariants.{UnknownCaller, NotAdmin, NoProject, NoAccount, SameState, CommitKnown, RequirementUnsatisfied, NameTaken, BadFile, Limit, EpochAhead}
-use Rattle.review_machine_rows.proofs.Asked.{all_asked}
-use Rattle.review_machine_rows.proofs.Common.{Command, Done, File, Nothing, Refusal, Refused, Reply, cases_Bool, is_at, is_eq-slice_cmp, named_parent, slice_cmp, unsigned_tied}
-use Rattle.review_machine_rows.proofs.{Joins.placed_more, Joins.place_is_free, Lined.there_is}
-use Rattle.review_machine_rows.proofs.Puts.{at_place_of, no_base, no_base_more, no_file, no_project}
+use Rattle.review_words.specs.declared.reply.Refusal.TheVariants.{UnknownCaller, NotAdmin, SameState, RequirementUnsatisfied, BadFile, EpochAhead}
+use Rattle.review_machine_rows.proofs.Common.{Answer, Command, Done, File, Nothing, Refusal, Refused, Reply, cases_Bool, is_at, is_eq-slice_cmp, named_parent, slice_cmp, unsigned_tied}
+use Rattle.review_machine_rows.proofs.{Joins.placed_more, Joins.place_is_free, Lined.there_is, Puts.at_place_of}
 use Rattle.review_machine_rows.specs.Answer.{IsAnswerBy, IsOutcome, first_refusal, refused_by, checks, IsAnswerAt, epoch_checks, refused_or}
-use Rattle.review_machine_rows.specs.{Changes.Reading, Changes.own_of, Changes.placed, Desks.facts_of}
-use Rattle.review_machine_rows.specs.Known.{known, Agrees, IsKnown, is_so, is_there, members_of, at_place}
+use Rattle.review_machine_rows.specs.Changes.{Reading, own_of, placed}
+use Rattle.review_machine_rows.specs.{Desks.facts_of, Known.known, Known.members_of, Known.at_place}
 use Rattle.review_machine_rows.specs.Rows.{Key, AccountKey, MemberKey, FileKey, BaseKey, PartKey, OddKey, Row, AccountRow, FileRow, BaseRow, APart, Count, Projects, BasesOf, ClosedEpochs, member_cmp, account_change, member_change, edited, after, count_after, after_put, count_put, place_cmp, ChangesNothing}
-use Rattle.review_machine_rows.specs.Steps.{OfCommand, command_wants}
-use Rattle.review_machine_rows.specs.View.{view, fact, counted, AreEnough, IsDecided, IsDecidedAt}
+use Rattle.review_machine_rows.specs.Steps.{OfCommand}
+use Rattle.review_machine_rows.specs.View.{fact, counted, AreEnough, IsDecided, IsDecidedAt}
 use Rattle.review_machine_rows.specs.declared.rows.{Delta.Delta, PlaceKey.PlaceKey, Rows.Rows, StoredFile.StoredFile}
 use Rattle.review_machine_laws.proofs.{Checked.asked_beside, Told.held_told}
-use Rattle.review_machine_accounts.{proofs.Members.eq_sym, proofs.Members.members_after, specs.Decisions.IsEmpty}
+use Rattle.review_machine_accounts.proofs.Members.{eq_sym, members_after}
+use Rattle.review_machine_accounts.specs.Decisions.{DeltaView, IsDelta, IsEmpty, no_edits}
 use Rattle.review_machine_accounts.specs.inner.Words.{added, dropped, is_held, member_of}
 use Rattle.review_words.specs.declared.reply.Answer.TheVariants as made
 use Rattle.review_machine_rows.specs.declared.rows.Want.TheVariants as want
@@ -60,22 +58,54 @@ pub project_refused : (reading : Reading) (h : List Entry) (caller : ℕ) (proje
     refused_by reading h caller (PutProject project file) ≡ cond b None (Some NotAdmin)
 project_refused reading h caller project file b p q = λ i. cond (p i) (cond (q i) None (Some NotAdmin)) (Some UnknownCaller)
 
+-- the row of a key after a delta that has these, and a count
+abbrev pub row_by : DeltaView → Key → Option Row → Option Row
+row_by v (AccountKey number) was = after_row_edit (account_change (row_edit_of nat_cmp v.accounts number)) was
+row_by v (MemberKey group account) was = after_row_edit (member_change (row_edit_of member_cmp v.members (member_of group account))) was
+row_by v (FileKey project) was = after_put (slice_cmp nat_cmp) FileRow v.file project was
+row_by v (BaseKey project branch place) was = after_put place_cmp BaseRow v.base (record { project = project; branch = branch; place = place }) was
+row_by v (PartKey n part) was = after_row_edit (option_map (option_map APart) (edited v.changes n part)) was
+row_by v (OddKey o) was = was
+
+abbrev pub count_by : DeltaView → (Key → Option Row) → Count → ℕ → ℕ
+count_by v row Projects n = count_put (λ p. true) v.file (λ p. row (FileKey p)) n
+count_by v row (BasesOf project) n = count_put (λ (k : PlaceKey). bytes_eq k.project project) v.base (λ (k : PlaceKey). row (BaseKey k.project k.branch k.place)) n
+count_by v row ClosedEpochs n = unwrap_or v.epoch n
+
+pub rows_by : {v : DeltaView} {delta : Delta} → IsDelta v delta → (k : Key) (was : Option Row) → after delta k was ≡ row_by v k was
+rows_by d (AccountKey number) was = ap (λ l. after_row_edit (account_change (row_edit_of nat_cmp l number)) was) d.accounts
+rows_by d (MemberKey group account) was = ap (λ l. after_row_edit (member_change (row_edit_of member_cmp l (member_of group account))) was) d.members
+rows_by d (FileKey project) was = ap (λ o. after_put (slice_cmp nat_cmp) FileRow o project was) d.file
+rows_by d (BaseKey project branch place) was = ap (λ o. after_put place_cmp BaseRow o (record { project = project; branch = branch; place = place }) was) d.base
+rows_by d (PartKey n part) was = ap (λ es. after_row_edit (option_map (option_map APart) (edited es n part)) was) d.changes
+rows_by d (OddKey o) was = refl
+
+pub counts_by : {v : DeltaView} {delta : Delta} → IsDelta v delta → (row : Key → Option Row) (c : Count) (n : ℕ) → count_after delta row c n ≡ count_by v row c n
+counts_by d row Projects n = ap (λ o. count_put (λ p. true) o (λ p. row (FileKey p)) n) d.file
+counts_by d row (BasesOf project) n = ap (λ o. count_put (λ (k : PlaceKey). bytes_eq k.project project) o (λ (k : PlaceKey). row (BaseKey k.project k.branch k.place)) n) d.base
+counts_by d row ClosedEpochs n = ap (λ o. unwrap_or o n) d.epoch
+
+-- a command that is done is decided, where its delta makes the rows and counts of the history with it
+pub decided_by : {reading : Reading} {v : DeltaView} {delta : Delta} (h : List Entry) (caller : ℕ) (command : Command) (a : Answer) → IsDelta v delta → IsAnswerBy reading h caller command (Done a) →
+    ((k : Key) → fact reading (entry_of caller 0 [] command (Done a) ∷ h) k ≡ row_by v k (fact reading h k)) →
+    ((c : Count) → counted (entry_of caller 0 [] command (Done a) ∷ h) c ≡ count_by v (fact reading h) c (counted h c)) → IsDecided reading h caller command delta (Done a)
+decided_by {reading = reading} h caller command a d answer rows counts = record {
+  reply_is = answer;
+  row_is = λ epoch id k. rows k ∙ sym (rows_by d k (fact reading h k));
+  count_is = λ epoch id c. counts c ∙ sym (counts_by d (fact reading h) c (counted h c));
+}
+
 -- a delta without rows
 pub empty_changes : (delta : Delta) → IsEmpty delta → ChangesNothing delta
-empty_changes delta e = record { answers = e.epoch; rows = rows; counts = counts }
+empty_changes delta e = record { answers = e.epoch; rows = λ k was. rows_by e k was ∙ same k was; counts = λ row c n. counts_by e row c n ∙ same_count row c n }
   where
-    rows : (k : Key) (was : Option Row) → after delta k was ≡ was
-    rows (AccountKey number) was = ap (λ l. after_row_edit (account_change (row_edit_of nat_cmp l number)) was) e.accounts
-    rows (MemberKey group account) was = ap (λ l. after_row_edit (member_change (row_edit_of member_cmp l (member_of group account))) was) e.members
-    rows (FileKey project) was = no_file delta e.file project was
-    rows (BaseKey project branch place) was = no_base delta e.base project branch place was
-    rows (PartKey n part) was = ap (λ es. after_row_edit (option_map (option_map APart) (edited es n part)) was) e.changes
-    rows (OddKey o) was = refl
+    same : (k : Key) (was : Option Row) → row_by no_edits k was ≡ was
+    same (AccountKey number) was = refl
+    same _ was = refl
 
-    counts : (row : Key → Option Row) (c : Count) (n : ℕ) → count_after delta row c n ≡ n
-    counts row Projects n = no_project delta e.file row n
-    counts row (BasesOf project) n = no_base_more delta e.base row project n
-    counts row ClosedEpochs n = ap (λ o. unwrap_or o n) e.epoch
+    same_count : (row : Key → Option Row) (c : Count) (n : ℕ) → count_by no_edits row c n ≡ n
+    same_count row Projects n = refl
+    same_count row _ n = refl
 
 pub refused_same : (reading : Reading) (h : List Entry) (caller epoch : ℕ) (id : List ℕ) (command : Command) (refusal : Refusal) (k : Key) →
     fact reading (entry_of caller epoch id command (Refused refusal) ∷ h) k ≡ fact reading h k
@@ -109,60 +139,43 @@ account_row_after true name before = refl
 account_row_after false name before = refl
 
 -- the new account is the only new row
-pub create_decided : {reading : Reading} (h : List Entry) (caller : ℕ) (name : List ℕ) (delta : Delta) (number : ℕ) →
-    refused_by reading h caller (CreateAccount name) ≡ None → number ≡ account_count h + 1 →
-    delta.accounts.items ≡ record { key = number; row = Some name } ∷ [] → delta.members.items ≡ [] → delta.file ≡ None → delta.base ≡ None → delta.changes.items ≡ [] → delta.least_epoch ≡ None →
-    IsDecided reading h caller (CreateAccount name) delta (Done (made.Account number))
-create_decided {reading = reading} h caller name delta number passes n da dm df db dc de = record {
-  reply_is = outcome_answer reading h caller (CreateAccount name) (Done (made.Account number)) passes (ap (λ x. Done (made.Account x)) n);
-  row_is = λ epoch id k. rows k;
-  count_is = λ epoch id k. counts k;
-}
+pub create_decided : {reading : Reading} (h : List Entry) (caller : ℕ) (name : List ℕ) (delta : Delta) (number : ℕ) → refused_by reading h caller (CreateAccount name) ≡ None → number ≡ account_count h + 1 →
+    IsDelta (record no_edits { accounts = record { key = number; row = Some name } ∷ [] }) delta → IsDecided reading h caller (CreateAccount name) delta (Done (made.Account number))
+create_decided {reading = reading} h caller name delta number passes n d =
+    decided_by h caller (CreateAccount name) (made.Account number) d (outcome_answer reading h caller (CreateAccount name) (Done (made.Account number)) passes (ap (λ x. Done (made.Account x)) n)) rows counts
   where
-    counts : (k : Count) → counted (entry_of caller 0 [] (CreateAccount name) (Done (made.Account number)) ∷ h) k ≡ count_after delta (fact reading h) k (counted h k)
-    counts Projects = sym (no_project delta df (fact reading h) (project_count h))
-    counts (BasesOf project) = sym (no_base_more delta db (fact reading h) project (base_count h project))
-    counts ClosedEpochs = sym (ap (λ o. unwrap_or o (least_open h)) de)
+    v : DeltaView
+    v = record no_edits { accounts = record { key = number; row = Some name } ∷ [] }
 
     here : (m : ℕ) → is_at (nat_cmp number) m ≡ (m == account_count h + 1)
     here m = unsigned_tied number m ∙ (eq_sym number m ∙ ap (λ x. m == x) n)
 
-    rows : (k : Key) → fact reading (entry_of caller 0 [] (CreateAccount name) (Done (made.Account number)) ∷ h) k ≡ after delta k (fact reading h k)
-    rows (AccountKey m) =
-        account_row_after (m == account_count h + 1) name (name_of h m)
-        ∙ sym (ap (λ l. after_row_edit (account_change (row_edit_of nat_cmp l m)) (fact reading h (AccountKey m))) da
-        ∙ ap (λ e. after_row_edit (account_change (cond e (Some (Some name)) None)) (fact reading h (AccountKey m))) (here m))
-    rows (MemberKey g m) = sym (ap (λ l. after_row_edit (member_change (row_edit_of member_cmp l (member_of g m))) (fact reading h (MemberKey g m))) dm)
-    rows (FileKey p) = sym (no_file delta df p (fact reading h (FileKey p)))
-    rows (BaseKey p b n) = sym (no_base delta db p b n (fact reading h (BaseKey p b n)))
-    rows (PartKey m part) = sym (ap (λ es. after_row_edit (option_map (option_map APart) (edited es m part)) (fact reading h (PartKey m part))) dc)
-    rows (OddKey o) = refl
+    rows : (k : Key) → fact reading (entry_of caller 0 [] (CreateAccount name) (Done (made.Account number)) ∷ h) k ≡ row_by v k (fact reading h k)
+    rows (AccountKey m) = account_row_after (m == account_count h + 1) name (name_of h m) ∙ sym (ap (λ e. after_row_edit (account_change (cond e (Some (Some name)) None)) (fact reading h (AccountKey m))) (here m))
+    rows _ = refl
+
+    counts : (c : Count) → counted (entry_of caller 0 [] (CreateAccount name) (Done (made.Account number)) ∷ h) c ≡ count_by v (fact reading h) c (counted h c)
+    counts Projects = refl
+    counts _ = refl
 
 -- the rows of the group become those of its new members
 pub put_decided : {reading : Reading} {file : Option File} (h : List Entry) (caller : ℕ) (group members : List ℕ) (rows : Rows) (delta : Delta) → AreEnough reading h caller (OfCommand (PutGroup group members)) file rows →
     refused_by reading h caller (PutGroup group members) ≡ None →
-    delta.accounts.items ≡ [] → delta.members.items ≡ added group (members_of (known rows (want.Group group))) members ++ dropped group (members_of (known rows (want.Group group))) members → delta.file ≡ None → delta.base ≡ None → delta.changes.items ≡ [] → delta.least_epoch ≡ None →
+    IsDelta (record no_edits { members = added group (members_of (known rows (want.Group group))) members ++ dropped group (members_of (known rows (want.Group group))) members }) delta →
     IsDecided reading h caller (PutGroup group members) delta (Done made.Nothing)
-put_decided {reading = reading} h caller group members rows delta l passes da dm df db dc de = record {
-  reply_is = outcome_answer reading h caller (PutGroup group members) (Done made.Nothing) passes refl;
-  row_is = λ epoch id k. each k;
-  count_is = λ epoch id k. counts k;
-}
+put_decided {reading = reading} h caller group members rows delta l passes d =
+    decided_by h caller (PutGroup group members) made.Nothing d (outcome_answer reading h caller (PutGroup group members) (Done made.Nothing) passes refl) each counts
   where
-    counts : (k : Count) → counted (entry_of caller 0 [] (PutGroup group members) (Done made.Nothing) ∷ h) k ≡ count_after delta (fact reading h) k (counted h k)
-    counts Projects = sym (no_project delta df (fact reading h) (project_count h))
-    counts (BasesOf project) = sym (no_base_more delta db (fact reading h) project (base_count h project))
-    counts ClosedEpochs = sym (ap (λ o. unwrap_or o (least_open h)) de)
+    v : DeltaView
+    v = record no_edits { members = added group (members_of (known rows (want.Group group))) members ++ dropped group (members_of (known rows (want.Group group))) members }
 
-    each : (k : Key) → fact reading (entry_of caller 0 [] (PutGroup group members) (Done made.Nothing) ∷ h) k ≡ after delta k (fact reading h k)
-    each (AccountKey m) = sym (ap (λ l. after_row_edit (account_change (row_edit_of nat_cmp l m)) (fact reading h (AccountKey m))) da)
-    each (MemberKey g m) =
-        members_after group members (listed_members h g) (members_of (known rows (want.Group group))) g m (held_before h caller group members rows l g m)
-        ∙ sym (ap (λ l. after_row_edit (member_change (row_edit_of member_cmp l (member_of g m))) (fact reading h (MemberKey g m))) dm)
-    each (FileKey p) = sym (no_file delta df p (fact reading h (FileKey p)))
-    each (BaseKey p b n) = sym (no_base delta db p b n (fact reading h (BaseKey p b n)))
-    each (PartKey m part) = sym (ap (λ es. after_row_edit (option_map (option_map APart) (edited es m part)) (fact reading h (PartKey m part))) dc)
-    each (OddKey o) = refl
+    each : (k : Key) → fact reading (entry_of caller 0 [] (PutGroup group members) (Done made.Nothing) ∷ h) k ≡ row_by v k (fact reading h k)
+    each (MemberKey g m) = members_after group members (listed_members h g) (members_of (known rows (want.Group group))) g m (held_before h caller group members rows l g m)
+    each _ = refl
+
+    counts : (c : Count) → counted (entry_of caller 0 [] (PutGroup group members) (Done made.Nothing) ∷ h) c ≡ count_by v (fact reading h) c (counted h c)
+    counts Projects = refl
+    counts _ = refl
 
 -- whether a project is there
 pub project_is : (reading : Reading) (h : List Entry) (project : List ℕ) → is_some (fact reading h (FileKey project)) ≡ is_project h project
@@ -201,66 +214,48 @@ base_rows h project branch commit place p b n is = ⊎_elim
 
 -- the base is the last of its branch
 pub base_decided : {reading : Reading} (h : List Entry) (caller : ℕ) (project branch commit : List ℕ) (place : ℕ) (delta : Delta) → place ≡ length (bases h project branch) + 1 →
-    refused_by reading h caller (RecordBase project branch commit) ≡ None →
-    delta.accounts.items ≡ [] → delta.members.items ≡ [] → delta.file ≡ None → delta.base ≡ Some (record { key = record { project = project; branch = branch; place = place }; row = commit }) → delta.changes.items ≡ [] → delta.least_epoch ≡ None →
+    refused_by reading h caller (RecordBase project branch commit) ≡ None → IsDelta (record no_edits { base = Some (record { key = record { project = project; branch = branch; place = place }; row = commit }) }) delta →
     IsDecided reading h caller (RecordBase project branch commit) delta (Done made.Nothing)
-base_decided {reading = reading} h caller project branch commit place delta is passes da dm df db dc de = record {
-  reply_is = outcome_answer reading h caller (RecordBase project branch commit) (Done made.Nothing) passes refl;
-  row_is = λ epoch id k. rows k;
-  count_is = λ epoch id k. counts k;
-}
+base_decided {reading = reading} h caller project branch commit place delta is passes d =
+    decided_by h caller (RecordBase project branch commit) made.Nothing d (outcome_answer reading h caller (RecordBase project branch commit) (Done made.Nothing) passes refl) rows counts
   where
+    v : DeltaView
+    v = record no_edits { base = Some (record { key = record { project = project; branch = branch; place = place }; row = commit }) }
+
     free : is_some (fact reading h (BaseKey project branch place)) ≡ false
     free = ap (λ n. is_some (option_map BaseRow (at_place (bases h project branch) n))) is ∙ ap (λ o. is_some (option_map BaseRow o)) (place_is_free (bases h project branch))
 
-    counts : (k : Count) → counted (entry_of caller 0 [] (RecordBase project branch commit) (Done made.Nothing) ∷ h) k ≡ count_after delta (fact reading h) k (counted h k)
-    counts Projects = sym (no_project delta df (fact reading h) (project_count h))
-    counts (BasesOf p) =
-        sym (ap (λ t. cond (bytes_eq project p) (cond t (base_count h p) (base_count h p + 1)) (base_count h p)) free)
-        ∙ sym (ap (λ o. count_put (λ (k : PlaceKey). bytes_eq k.project p) o (λ (k : PlaceKey). fact reading h (BaseKey k.project k.branch k.place)) (base_count h p)) db)
-    counts ClosedEpochs = sym (ap (λ o. unwrap_or o (least_open h)) de)
-
-    rows : (k : Key) → fact reading (entry_of caller 0 [] (RecordBase project branch commit) (Done made.Nothing) ∷ h) k ≡ after delta k (fact reading h k)
-    rows (AccountKey m) = sym (ap (λ l. after_row_edit (account_change (row_edit_of nat_cmp l m)) (fact reading h (AccountKey m))) da)
-    rows (MemberKey g m) = sym (ap (λ l. after_row_edit (member_change (row_edit_of member_cmp l (member_of g m))) (fact reading h (MemberKey g m))) dm)
-    rows (FileKey p) = sym (no_file delta df p (fact reading h (FileKey p)))
+    rows : (k : Key) → fact reading (entry_of caller 0 [] (RecordBase project branch commit) (Done made.Nothing) ∷ h) k ≡ row_by v k (fact reading h k)
     rows (BaseKey p b n) =
         base_rows h project branch commit place p b n is
-        ∙ sym (ap (λ o. after_put place_cmp BaseRow o (record { project = p; branch = b; place = n }) (fact reading h (BaseKey p b n))) db
-        ∙ ap (λ t. cond t (Some (BaseRow commit)) (fact reading h (BaseKey p b n))) (at_place_of (record { project = project; branch = branch; place = place }) p b n))
-    rows (PartKey m part) = sym (ap (λ es. after_row_edit (option_map (option_map APart) (edited es m part)) (fact reading h (PartKey m part))) dc)
-    rows (OddKey o) = refl
+        ∙ sym (ap (λ t. cond t (Some (BaseRow commit)) (fact reading h (BaseKey p b n))) (at_place_of (record { project = project; branch = branch; place = place }) p b n))
+    rows _ = refl
+
+    counts : (c : Count) → counted (entry_of caller 0 [] (RecordBase project branch commit) (Done made.Nothing) ∷ h) c ≡ count_by v (fact reading h) c (counted h c)
+    counts (BasesOf p) = sym (ap (λ t. cond (bytes_eq project p) (cond t (base_count h p) (base_count h p + 1)) (base_count h p)) free)
+    counts _ = refl
 
 -- the project has the file that is put
-pub file_decided : {reading : Reading} (h : List Entry) (caller : ℕ) (project text : List ℕ) (delta : Delta) →
-    IsAnswerBy reading h caller (PutProject project text) (Done made.Nothing) →
-    delta.accounts.items ≡ [] → delta.members.items ≡ [] → delta.file ≡ Some (record { key = project; row = record { text = text; parent = named_parent text } }) → delta.base ≡ None → delta.changes.items ≡ [] → delta.least_epoch ≡ None →
-    IsDecided reading h caller (PutProject project text) delta (Done made.Nothing)
-file_decided {reading = reading} h caller project text delta is da dm df db dc de = record {
-  reply_is = is;
-  row_is = λ epoch id k. rows k;
-  count_is = λ epoch id k. counts k;
-}
+pub file_decided : {reading : Reading} (h : List Entry) (caller : ℕ) (project text : List ℕ) (delta : Delta) → IsAnswerBy reading h caller (PutProject project text) (Done made.Nothing) →
+    IsDelta (record no_edits { file = Some (record { key = project; row = record { text = text; parent = named_parent text } }) }) delta → IsDecided reading h caller (PutProject project text) delta (Done made.Nothing)
+file_decided {reading = reading} h caller project text delta is d = decided_by h caller (PutProject project text) made.Nothing d is rows counts
   where
-    counts : (k : Count) → counted (entry_of caller 0 [] (PutProject project text) (Done made.Nothing) ∷ h) k ≡ count_after delta (fact reading h) k (counted h k)
-    counts Projects = ap (λ b. cond b (project_count h) (project_count h + 1)) (sym (project_is reading h project)) ∙ sym (ap (λ o. count_put (λ p. true) o (λ p. fact reading h (FileKey p)) (project_count h)) df)
-    counts (BasesOf p) = sym (no_base_more delta db (fact reading h) p (base_count h p))
-    counts ClosedEpochs = sym (ap (λ o. unwrap_or o (least_open h)) de)
+    v : DeltaView
+    v = record no_edits { file = Some (record { key = project; row = record { text = text; parent = named_parent text } }) }
 
     file_where : (b : Bool) (o : Option (List ℕ)) → option_map FileRow (placed (cond b (Some text) o)) ≡ cond b (Some (FileRow (record { text = text; parent = named_parent text }))) (option_map FileRow (placed o))
     file_where true o = refl
     file_where false o = refl
 
-    rows : (k : Key) → fact reading (entry_of caller 0 [] (PutProject project text) (Done made.Nothing) ∷ h) k ≡ after delta k (fact reading h k)
-    rows (AccountKey m) = sym (ap (λ l. after_row_edit (account_change (row_edit_of nat_cmp l m)) (fact reading h (AccountKey m))) da)
-    rows (MemberKey g m) = sym (ap (λ l. after_row_edit (member_change (row_edit_of member_cmp l (member_of g m))) (fact reading h (MemberKey g m))) dm)
+    rows : (k : Key) → fact reading (entry_of caller 0 [] (PutProject project text) (Done made.Nothing) ∷ h) k ≡ row_by v k (fact reading h k)
     rows (FileKey p) =
         file_where (bytes_eq project p) (file_text h p)
-        ∙ sym (ap (λ o. after_put (slice_cmp nat_cmp) FileRow o p (fact reading h (FileKey p))) df
-        ∙ ap (λ t. cond t (Some (FileRow (record { text = text; parent = named_parent text }))) (fact reading h (FileKey p))) (is_eq-slice_cmp project p))
-    rows (BaseKey p b n) = sym (no_base delta db p b n (fact reading h (BaseKey p b n)))
-    rows (PartKey m part) = sym (ap (λ es. after_row_edit (option_map (option_map APart) (edited es m part)) (fact reading h (PartKey m part))) dc)
-    rows (OddKey o) = refl
+        ∙ sym (ap (λ t. cond t (Some (FileRow (record { text = text; parent = named_parent text }))) (fact reading h (FileKey p))) (is_eq-slice_cmp project p))
+    rows _ = refl
+
+    counts : (c : Count) → counted (entry_of caller 0 [] (PutProject project text) (Done made.Nothing) ∷ h) c ≡ count_by v (fact reading h) c (counted h c)
+    counts Projects = ap (λ b. cond b (project_count h) (project_count h + 1)) (sym (project_is reading h project))
+    counts _ = refl
 
 -- ==== what closes epochs, and what is told of it
 
@@ -284,38 +279,32 @@ close_answer reading h caller epoch least reply a b c d p q r s is =
     subst (λ (x : Bool × Bool × Bool × Bool). Told x.0 x.1 x.2 x.3 reply) (λ i. (sym p i, sym q i, sym r i, sym s i)) (told a b c d reply is)
 
 -- a refusal changes nothing
-pub close_refused : {reading : Reading} (h : List Entry) (caller epoch least : ℕ) (r : Delta × Reply) (refusal : Refusal) → IsEmpty r.0 → r.1 ≡ Refused refusal →
-    IsAnswerAt reading h caller epoch (CloseEpoch least) (Refused refusal) → IsDecidedAt reading h caller epoch (CloseEpoch least) r.0 r.1
-close_refused {reading = reading} h caller epoch least r refusal e is answer =
+pub refused_at : {reading : Reading} (h : List Entry) (caller epoch : ℕ) (command : Command) (r : Delta × Reply) (refusal : Refusal) → IsEmpty r.0 → r.1 ≡ Refused refusal →
+    IsAnswerAt reading h caller epoch command (Refused refusal) → IsDecidedAt reading h caller epoch command r.0 r.1
+refused_at {reading = reading} h caller epoch command r refusal e is answer =
     let none = empty_changes r.0 e in
-    subst (λ reply. IsDecidedAt reading h caller epoch (CloseEpoch least) r.0 reply) (sym is) (record {
+    subst (λ reply. IsDecidedAt reading h caller epoch command r.0 reply) (sym is) (record {
       reply_is = answer;
-      row_is = λ id k. refused_same reading h caller epoch id (CloseEpoch least) refusal k ∙ sym (none.rows k (fact reading h k));
-      count_is = λ id c. refused_count h caller epoch id (CloseEpoch least) refusal c ∙ sym (none.counts (fact reading h) c (counted h c));
+      row_is = λ id k. refused_same reading h caller epoch id command refusal k ∙ sym (none.rows k (fact reading h k));
+      count_is = λ id c. refused_count h caller epoch id command refusal c ∙ sym (none.counts (fact reading h) c (counted h c));
     })
 
 -- the least open epoch is all that changes
 pub close_decided : {reading : Reading} (h : List Entry) (caller epoch least : ℕ) (delta : Delta) → is_account h caller ≡ true → is_admin h caller ≡ true → nat_le least epoch ≡ true →
-    nat_lt (least_open h) least ≡ true → delta.accounts.items ≡ [] → delta.members.items ≡ [] → delta.file ≡ None → delta.base ≡ None → delta.changes.items ≡ [] → delta.least_epoch ≡ Some least →
-    IsDecidedAt reading h caller epoch (CloseEpoch least) delta (Done Nothing)
-close_decided {reading = reading} h caller epoch least delta a b c d da dm df db dc de = record {
+    nat_lt (least_open h) least ≡ true → IsDelta (record no_edits { epoch = Some least }) delta → IsDecidedAt reading h caller epoch (CloseEpoch least) delta (Done Nothing)
+close_decided {reading = reading} h caller epoch least delta a b c d has = record {
   reply_is = close_answer reading h caller epoch least (Done Nothing) true true true true a b c d refl;
-  row_is = λ id k. rows k;
-  count_is = λ id k. counts k;
+  row_is = λ id k. rows k ∙ sym (rows_by has k (fact reading h k));
+  count_is = λ id k. counts k ∙ sym (counts_by has (fact reading h) k (counted h k));
 }
   where
-    counts : (k : Count) → counted (entry_of caller epoch [] (CloseEpoch least) (Done Nothing) ∷ h) k ≡ count_after delta (fact reading h) k (counted h k)
-    counts Projects = sym (no_project delta df (fact reading h) (project_count h))
-    counts (BasesOf project) = sym (no_base_more delta db (fact reading h) project (base_count h project))
-    counts ClosedEpochs = ap (λ t. cond t least (least_open h)) d ∙ sym (ap (λ o. unwrap_or o (least_open h)) de)
+    rows : (k : Key) → fact reading (entry_of caller epoch [] (CloseEpoch least) (Done Nothing) ∷ h) k ≡ row_by (record no_edits { epoch = Some least }) k (fact reading h k)
+    rows (AccountKey m) = refl
+    rows _ = refl
 
-    rows : (k : Key) → fact reading (entry_of caller epoch [] (CloseEpoch least) (Done Nothing) ∷ h) k ≡ after delta k (fact reading h k)
-    rows (AccountKey m) = sym (ap (λ l. after_row_edit (account_change (row_edit_of nat_cmp l m)) (fact reading h (AccountKey m))) da)
-    rows (MemberKey g m) = sym (ap (λ l. after_row_edit (member_change (row_edit_of member_cmp l (member_of g m))) (fact reading h (MemberKey g m))) dm)
-    rows (FileKey p) = sym (no_file delta df p (fact reading h (FileKey p)))
-    rows (BaseKey p b n) = sym (no_base delta db p b n (fact reading h (BaseKey p b n)))
-    rows (PartKey m part) = sym (ap (λ es. after_row_edit (option_map (option_map APart) (edited es m part)) (fact reading h (PartKey m part))) dc)
-    rows (OddKey o) = refl
+    counts : (k : Count) → counted (entry_of caller epoch [] (CloseEpoch least) (Done Nothing) ∷ h) k ≡ count_by (record no_edits { epoch = Some least }) (fact reading h) k (counted h k)
+    counts ClosedEpochs = ap (λ t. cond t least (least_open h)) d
+    counts _ = refl
 
 -- what refuses any command, whatever its epoch
 pub refused_in : (reading : Reading) (h : List Entry) (caller epoch : ℕ) (command : Command) (refusal : Refusal) → refused_by reading h caller command ≡ Some refusal → IsAnswerAt reading h caller epoch command (Refused refusal)
@@ -325,13 +314,7 @@ refused_in reading h caller epoch command refusal is = refused_answer reading h 
 
 pub refused_pair_in : {reading : Reading} (h : List Entry) (caller epoch : ℕ) (command : Command) (r : Delta × Reply) (refusal : Refusal) →
     IsEmpty r.0 → r.1 ≡ Refused refusal → refused_by reading h caller command ≡ Some refusal → IsDecidedAt reading h caller epoch command r.0 r.1
-refused_pair_in {reading = reading} h caller epoch command r refusal e is by =
-    let none = empty_changes r.0 e in
-    subst (λ reply. IsDecidedAt reading h caller epoch command r.0 reply) (sym is) (record {
-      reply_is = refused_in reading h caller epoch command refusal by;
-      row_is = λ id k. refused_same reading h caller epoch id command refusal k ∙ sym (none.rows k (fact reading h k));
-      count_is = λ id c. refused_count h caller epoch id command refusal c ∙ sym (none.counts (fact reading h) c (counted h c));
-    })
+refused_pair_in {reading = reading} h caller epoch command r refusal e is by = refused_at h caller epoch command r refusal e is (refused_in reading h caller epoch command refusal by)
 
 -- what is decided without an epoch is so in a request of any
 pub decided_in : {reading : Reading} {h : List Entry} {caller : ℕ} (epoch : ℕ) {command : Command} {delta : Delta} {reply : Reply} →

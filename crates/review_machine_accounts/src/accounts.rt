@@ -10,6 +10,7 @@ ghost use Rattle.review_machine_rows.specs.{Changes.Reading, Decisions.NamesEach
 ghost use Rattle.review_machine_rows.specs.Known.{known, is_there, members_of};
 ghost use Rattle.review_machine_rows.specs.{Limits.most_accounts, Rows.HasNoEffect, Rows.member_cmp, Steps.OfCommand};
 ghost use Rattle.review_machine_rows.specs.View.{AreEnough, IsDecided};
+ghost use Rattle.review_machine_accounts.specs.Decisions.{IsDelta, no_edits};
 ghost use Rattle.review_machine_accounts.specs.inner.Words.{added, dropped, member_of};
 ghost use Rattle.review_machine_rows.specs.declared.rows.Want.TheVariants as want;
 
@@ -81,12 +82,7 @@ fn next_account(last: u64) -> AccountNo
 
 // The delta that gives an account a name.
 fn account_delta(alloc: Global, number: AccountNo, name: &AccountName) -> Result<Delta, AllocError>
-    ensures accounts { IfOk result (λ delta. delta.accounts.items ≡ record { key = number; row = Some name.now } ∷ []) }
-    ensures members { IfOk result (λ delta. delta.members.items ≡ []) }
-    ensures file { IfOk result (λ delta. delta.file ≡ None) }
-    ensures base { IfOk result (λ delta. delta.base ≡ None) }
-    ensures changes { IfOk result (λ delta. delta.changes.items ≡ []) }
-    ensures epoch { IfOk result (λ delta. delta.least_epoch ≡ None) }
+    ensures delta { IfOk result (IsDelta (record no_edits { accounts = record { key = number; row = Some name.now } ∷ [] })) }
     ensures once { IfOk result NamesEachOnce }
 {
     let name = name.copy()?;

@@ -1,5 +1,5 @@
 //! The answers to commands on accounts, groups, epochs and the bases of branches, from the rows that decide them; and what all decisions
-//! share: who asks, and the delta that changes nothing.
+//! share: who asks, whether a project's file judges a request, and the delta that changes nothing.
 //!
 //! `CreateAccount` with a name that is taken gives the reply `NameTaken` and a delta without a row.
 //!
@@ -7,7 +7,7 @@
 //!   entry.
 //! - **Assumed**: nothing beyond the kit.
 //! - **Only tested**: `scripts/desk.txt`.
-//! - **Must not know**: project files, shelves, or that a request may come twice.
+//! - **Must not know**: what project files say, shelves, or that a request may come twice.
 #![tactic(auto)]
 
 pub mod accounts;
@@ -26,4 +26,4 @@ pub use commits::is_known;
 pub use deltas::{nothing, refused};
 pub use epochs::close_epoch;
 pub use keys::{base_of, branch_of};
-pub use projects::is_project;
+pub use projects::{is_project, needs_file};

@@ -1,8 +1,8 @@
 -- What a command on a change that is done makes of the rows.
-use Rattle.std.proofs.Common.{ℕ, Result, IfOk, refl, sym, subst, nat_cmp, ◌≡◌, zero, suc, ◌+◌, ◌==◌, ◌≤◌, ◌<◌, List, [], ◌∷◌, ◌++◌, Option, Some, None, Bool, true, false, cond, ap, ◌∙◌, ⊎_elim, arith, is_some, nat_le, nat_lt, option_map, min, length, eqb-true, unwrap_or}
+use Rattle.std.proofs.Common.{ℕ, refl, sym, subst, nat_cmp, ◌≡◌, zero, suc, ◌+◌, ◌==◌, ◌≤◌, ◌<◌, List, [], ◌∷◌, ◌++◌, Option, Some, None, Bool, true, false, cond, ap, ◌∙◌, ⊎_elim, arith, is_some, nat_le, nat_lt, option_map, min, length, eqb-true}
 use Rattle.review_names.specs.Forms.{is_within, most_changes, most_comments, most_patches}
-use Rattle.review_table.specs.Rows.{NamesOnce, after_row_edit, row_edit_of}
-use Rattle.review_words.specs.History.{Entry, entry_of, base_count, project_count, least_open}
+use Rattle.review_table.specs.Rows.{NamesOnce, after_row_edit}
+use Rattle.review_words.specs.History.{Entry, entry_of}
 use Rattle.review_words.specs.declared.{changes.Review.Review as ReviewOf, command.ChangeCommand.ChangeCommand}
 use Rattle.review_words.specs.declared.command.ChangeCommand.TheVariants.{Review as ReviewCommand, Upload as UploadCommand}
 use Rattle.review_words.specs.declared.reply.Answer.TheVariants.{Patch, Reviewed}
@@ -11,34 +11,31 @@ use Rattle.review_core_rules.specs.Change.{Change, after_copying, after_plain, c
 use Rattle.review_core_rules.specs.EditedChanges.{Makes, after_edits}
 use Rattle.review_core_rules.specs.{Parts.Part, Parts.part_row, declared.edited_change.EditedChange.EditedChange}
 use Rattle.review_machine_rows.proofs.Asked.{requests_are}
-use Rattle.review_machine_rows.proofs.Common.{AllocError, Answer, AreMany, ChangeRows, Command, Done, File, IfOk-weaker, IsSound, NewPatch, OfCommand, OnChange, Refusal, Reply, cases_Bool, nat_tests, seen, voted}
-use Rattle.review_machine_rows.proofs.Puts.{no_base, no_base_more, no_file, no_project}
+use Rattle.review_machine_rows.proofs.Common.{Answer, AreMany, ChangeRows, Command, Done, File, IsSound, NewPatch, OfCommand, OnChange, Refusal, Reply, cases_Bool, nat_tests, seen, voted}
 use Rattle.review_machine_rows.specs.Answer.{first_refusal, IsAnswerBy, IsOf, IsUploadAnswer, comment_numbers, most_requests, numbers_after, refused_by}
 use Rattle.review_machine_rows.specs.Changes.{Reading, change, setting_of}
 use Rattle.review_machine_rows.specs.Decisions.{NamesChangesOnce, NamesEachOnce, NamesRowsOnce}
 use Rattle.review_machine_rows.specs.Known.{part_of, known, number_of}
-use Rattle.review_machine_rows.specs.Rows.{member_cmp, APart, edited, part_change, Key, Row, AccountKey, MemberKey, FileKey, BaseKey, PartKey, OddKey, Count, Projects, BasesOf, ClosedEpochs, account_change, member_change, after, count_after}
+use Rattle.review_machine_rows.specs.Rows.{member_cmp, APart, edited, part_change, Key, PartKey, Count, Projects}
 use Rattle.review_machine_rows.specs.View.{AreEnough, IsDecided, counted, fact, view}
 use Rattle.review_machine_rows.specs.declared.rows.{ChangeEdit.ChangeEdit, Delta.Delta, Rows.Rows}
 use Rattle.review_machine_change_rows.proofs.Edited.{after_mapped}
-use Rattle.review_machine_accounts.{proofs.Decided.outcome_answer, specs.Decisions.EditsChanges}
-use Rattle.review_machine_changes.specs.Facts.{MakesChange, next_request, setting_in}
-use Rattle.review_machine_changes.specs.inner.Facts.{next_numbers, IsReviewed, IsUploaded}
+use Rattle.review_machine_accounts.proofs.Decided.{count_by, decided_by, outcome_answer, row_by}
+use Rattle.review_machine_accounts.specs.Decisions.{EditsChanges, no_edits}
+use Rattle.review_machine_changes.specs.Deltas.{MakesChange, next_request, setting_in}
+use Rattle.review_machine_changes.specs.inner.Done.{next_numbers, IsReviewed, IsUploaded}
 use Rattle.review_machine_rows.specs.declared.rows.Want.TheVariants as want
 
 -- ==== what a command makes of a change, as an edit
 
 -- what an edited change makes is sound
-pub draft_sound : (rows : ChangeRows) (new : Change) (d : EditedChange) → Makes rows new d → IsSound (after_edits d)
-draft_sound rows new d m = subst IsSound (sym m.made) m.sound
+pub draft_sound : {rows : ChangeRows} {new : Change} {d : EditedChange} → Makes rows new d → IsSound (after_edits d)
+draft_sound m = subst IsSound (sym m.made) m.sound
 
 -- the delta of an edited change makes of the rows that it is over what it is said to make
-pub made_of : (n : ℕ) (rows : ChangeRows) (new : Change) (d : EditedChange) (delta : Delta) → Makes rows new d → MakesChange n (seen d.rows.now) (after_edits d) delta → MakesChange n (seen rows) new delta
-made_of n rows new d delta m made =
+pub made_of : {rows : ChangeRows} {new : Change} {d : EditedChange} (n : ℕ) (delta : Delta) → Makes rows new d → MakesChange n (seen d.rows.now) (after_edits d) delta → MakesChange n (seen rows) new delta
+made_of {new = new} {d = d} n delta m made =
     subst (λ (x : ChangeRows). MakesChange n (seen x) new delta) m.over (subst (λ (y : Change). MakesChange n (seen d.rows.now) y delta) m.made made)
-
-pub makes : (n : ℕ) (rows : ChangeRows) (new : Change) (d : EditedChange) (r : Result Delta AllocError) → Makes rows new d → IfOk r (MakesChange n (seen d.rows.now) (after_edits d)) → IfOk r (MakesChange n (seen rows) new)
-makes n rows new d r m made = IfOk-weaker r (MakesChange n (seen d.rows.now) (after_edits d)) (MakesChange n (seen rows) new) (λ delta. made_of n rows new d delta m) made
 
 -- a delta of one edit names each key once, where the edit does
 pub one_edit_once : (e : ChangeEdit) (delta : Delta) → EditsChanges (e ∷ []) delta → NamesRowsOnce e → NamesEachOnce delta
@@ -123,65 +120,31 @@ request_is reading h caller command effective rows room l =
     let least : min (length h + 1) 18446744073709551615 ≡ length h + 1 = omega arith in
     ap (λ k. min (k + 1) 18446744073709551615) many ∙ least
 
--- the rows of a history, once a change of it is another
-abbrev fact_with : Reading → List Entry → ℕ → Change → Key → Option Row
-fact_with reading h n new (PartKey k part) = option_map APart (part_of (cond (n == k) (Some new) (change reading h k)) part)
-fact_with reading h n new key = fact reading h key
-
 -- the change of a number is there where it is looked for
 here : (reading : Reading) (h : List Entry) (n k : ℕ) (c : Change) → change reading h n ≡ Some c → (n == k) ≡ true → change reading h k ≡ Some c
 here reading h n k c told t = ap (change reading h) (sym (eqb-true n k t)) ∙ told
-
-rows_made : (reading : Reading) (h : List Entry) (n : ℕ) (c new : Change) (delta : Delta) → change reading h n ≡ Some c → MakesChange n c new delta → (k : Key) → fact_with reading h n new k ≡ after delta k (fact reading h k)
-rows_made reading h n c new delta told m (AccountKey a) = sym (ap (λ l. after_row_edit (account_change (row_edit_of nat_cmp l a)) (fact reading h (AccountKey a))) m.edits.accounts)
-rows_made reading h n c new delta told m (MemberKey g a) =
-    sym (ap (λ l. after_row_edit (member_change (row_edit_of member_cmp l (record { group = g; account = a }))) (fact reading h (MemberKey g a))) m.edits.members)
-rows_made reading h n c new delta told m (FileKey q) = sym (no_file delta m.edits.file q (fact reading h (FileKey q)))
-rows_made reading h n c new delta told m (BaseKey q b a) = sym (no_base delta m.edits.base q b a (fact reading h (BaseKey q b a)))
-rows_made reading h n c new delta told m (PartKey k part) =
-    edit_turns m.edit k part (change reading h k) new (n == k) (ap (λ x. x == k) m.named)
-    (λ t. ap (λ o. after_row_edit (part_change m.edit part) (part_of o part)) (here reading h n k c told t) ∙ m.becomes part)
-    ∙ sym (ap (λ es. after_row_edit (option_map (option_map APart) (edited es k part)) (fact reading h (PartKey k part))) m.edits.changes)
-rows_made reading h n c new delta told m (OddKey o) = refl
-
-counts_made : (reading : Reading) (h : List Entry) (n : ℕ) (c new : Change) (delta : Delta) → MakesChange n c new delta → (k : Count) → counted h k ≡ count_after delta (fact reading h) k (counted h k)
-counts_made reading h n c new delta m Projects = sym (no_project delta m.edits.file (fact reading h) (project_count h))
-counts_made reading h n c new delta m (BasesOf q) = sym (no_base_more delta m.edits.base (fact reading h) q (base_count h q))
-counts_made reading h n c new delta m ClosedEpochs = sym (ap (λ o. unwrap_or o (least_open h)) m.edits.epoch)
-
--- a command that makes of a change another is decided
-change_decided : (reading : Reading) (h : List Entry) (caller n : ℕ) (command : Command) (a : Answer) (c new : Change) (delta : Delta) → change reading h n ≡ Some c → MakesChange n c new delta →
-    IsAnswerBy reading h caller command (Done a) → ((k : Key) → fact reading (entry_of caller 0 [] command (Done a) ∷ h) k ≡ fact_with reading h n new k) →
-    ((k : Count) → counted (entry_of caller 0 [] command (Done a) ∷ h) k ≡ counted h k) → IsDecided reading h caller command delta (Done a)
-change_decided reading h caller n command a c new delta told m answer turned same = record {
-  reply_is = answer;
-  row_is = λ epoch id k. turned k ∙ rows_made reading h n c new delta told m k;
-  count_is = λ epoch id k. same k ∙ counts_made reading h n c new delta m k;
-}
 
 -- the change of a number becomes another, where it is there
 put_at : (f : Change → Change) (c : Change) (o : Option Change) (b : Bool) → (b ≡ true → o ≡ Some c) → cond b (option_map f o) o ≡ cond b (Some (f c)) o
 put_at f c o true is = ap (option_map f) (is refl)
 put_at f c o false is = refl
 
--- the rows of the history with a request on a change that is done
-pub request_turns : (reading : Reading) (h : List Entry) (caller n : ℕ) (request : ChangeCommand) (a : Answer) (c : Change) → change reading h n ≡ Some c → (k : Key) →
-    fact reading (entry_of caller 0 [] (OnChange n request) (Done a) ∷ h) k ≡ fact_with reading h n (change_after_request (setting_of reading h c.project) request caller (length h + 1) c) k
-request_turns reading h caller n request a c told (PartKey k part) =
-    ap (λ o. option_map APart (part_of o part))
-    (put_at (λ x. change_after_request (setting_of reading h x.project) request caller (length h + 1) x) c (change reading h k) (n == k) (here reading h n k c told))
-request_turns reading h caller n request a c told _ = refl
-
-request_counts : (h : List Entry) (caller n : ℕ) (request : ChangeCommand) (a : Answer) (k : Count) → counted (entry_of caller 0 [] (OnChange n request) (Done a) ∷ h) k ≡ counted h k
-request_counts h caller n request a Projects = refl
-request_counts h caller n request a _ = refl
-
 -- a request that makes of a change what the history says is decided
 pub request_decided : (reading : Reading) (h : List Entry) (caller n : ℕ) (request : ChangeCommand) (a : Answer) (c : Change) (delta : Delta) → change reading h n ≡ Some c →
     MakesChange n c (change_after_request (setting_of reading h c.project) request caller (length h + 1) c) delta → IsAnswerBy reading h caller (OnChange n request) (Done a) → IsDecided reading h caller (OnChange n request) delta (Done a)
-request_decided reading h caller n request a c delta told made answer =
-    change_decided reading h caller n (OnChange n request) a c (change_after_request (setting_of reading h c.project) request caller (length h + 1) c) delta told made answer
-    (request_turns reading h caller n request a c told) (request_counts h caller n request a)
+request_decided reading h caller n request a c delta told made answer = decided_by h caller (OnChange n request) a made.edits answer rows counts
+  where
+    rows : (k : Key) → fact reading (entry_of caller 0 [] (OnChange n request) (Done a) ∷ h) k ≡ row_by (record no_edits { changes = made.edit ∷ [] }) k (fact reading h k)
+    rows (PartKey k part) =
+        ap (λ o. option_map APart (part_of o part))
+        (put_at (λ x. change_after_request (setting_of reading h x.project) request caller (length h + 1) x) c (change reading h k) (n == k) (here reading h n k c told))
+        ∙ edit_turns made.edit k part (change reading h k) (change_after_request (setting_of reading h c.project) request caller (length h + 1) c) (n == k) (ap (λ x. x == k) made.named)
+        (λ t. ap (λ o. after_row_edit (part_change made.edit part) (part_of o part)) (here reading h n k c told t) ∙ made.becomes part)
+    rows _ = refl
+
+    counts : (k : Count) → counted (entry_of caller 0 [] (OnChange n request) (Done a) ∷ h) k ≡ count_by (record no_edits { changes = made.edit ∷ [] }) (fact reading h) k (counted h k)
+    counts Projects = refl
+    counts _ = refl
 
 -- the review is done
 pub review_decided : (reading : Reading) (h : List Entry) (caller n : ℕ) (r : ReviewOf) (rows : Rows) (c : Change) (delta : Delta) (reply : Reply) → refused_by reading h caller (OnChange n (ReviewCommand r)) ≡ None →

@@ -1,5 +1,5 @@
 -- Requests on a change.
-use Rattle.std.proofs.Common.{◌≡◌, ℕ, List, [], ◌∷◌, ◌++◌, Option, Some, None, Bool, true, false, cond, ◌||◌, refl, sym, ap, ◌∙◌, subst, map, find, bytes_eq, ℤ, option_map, zero, suc, ◌+◌, ◌≤◌, ◌<◌, length, arith, nat_le, nat_cmp, unwrap_or}
+use Rattle.std.proofs.Common.{◌≡◌, ℕ, List, [], ◌∷◌, Option, Some, None, Bool, true, false, cond, ◌||◌, refl, sym, ap, ◌∙◌, subst, map, find, bytes_eq, ℤ, option_map, zero, suc, ◌+◌, ◌≤◌, ◌<◌, length, arith, nat_le, nat_cmp, unwrap_or}
 use Rattle.std.{proofs.lemmas.Bool.and_parts, specs.List.AllByRecursion}
 use Rattle.review_names.specs.{Forms.most_comments, Groups.GroupList, Names.registered_users}
 use Rattle.review_words.specs.History.{Entry, is_account}
@@ -14,7 +14,7 @@ use Rattle.review_core_rules.specs.Change.{Change, Setting, condition_holds, cop
 use Rattle.review_core_rules.specs.Sound.{fits}
 use Rattle.review_core_tables.{proofs.Accounts.in_table, proofs.Accounts.is_listed, specs.Copies.group_list}
 use Rattle.review_machine_rows.proofs.Asked.{judged_asked}
-use Rattle.review_machine_rows.proofs.Common.{ChangeCommand, Damaged, Done, Expr, File, Given, IsUndecided, LabelView, NewPatch, Nothing, OnChange, Refusal, Reply, nat_tests, option_map_or, row_in, rows_of, slice_cmp}
+use Rattle.review_machine_rows.proofs.Common.{ChangeCommand, Damaged, Done, Expr, File, Given, IsUndecided, LabelView, NewPatch, Nothing, OnChange, Reply, nat_tests, option_map_or, row_in, rows_of, slice_cmp}
 use Rattle.review_machine_rows.specs.Answer.{IsRequestOutcome, first_refusal, given_checks, most_requests, of_change, refused_by, request_checks}
 use Rattle.review_machine_rows.specs.Changes.{Reading, file_of, groups_of, setting_of, change}
 use Rattle.review_machine_rows.specs.Desks.{facts_by}
@@ -27,9 +27,8 @@ use Rattle.review_machine_laws.proofs.Told.{Agree, held_told}
 use Rattle.review_machine_accounts.{proofs.Decided.outcome_answer, specs.inner.Words.is_held}
 use Rattle.review_machine_changes.proofs.Made.{request_decided, request_is, review_decided, upload_decided}
 use Rattle.review_machine_changes.proofs.Told.{change_is}
-use Rattle.review_machine_changes.specs.Facts.{setting_in, MakesChange, next_request}
-use Rattle.review_machine_changes.specs.inner.Facts.{next_numbers}
-use Rattle.review_machine_changes.specs.inner.Words.{IsDone, IsPlainlyDone, is_plain, lacks_file}
+use Rattle.review_machine_changes.specs.Deltas.{setting_in, MakesChange, next_request}
+use Rattle.review_machine_changes.specs.inner.Done.{next_numbers, IsDone, IsPlainlyDone, is_plain, lacks_file}
 use Rattle.review_machine_rows.specs.declared.rows.Want.TheVariants as want
 use Rattle.review_expr.specs.declared.expr.Expr.TheVariants as expr
 use Rattle.review_expr.specs.declared.expr.Facts.TheVariants as facts

@@ -1,21 +1,21 @@
 -- A new change that is made, and a command on a change that isn't decided.
-use Rattle.std.proofs.Common.{◌≡◌, ℕ, List, [], ◌∷◌, Some, refl, sym, ap, ◌∙◌, ◌+◌, ◌==◌, length, Option, None, Bool, true, false, subst, eqb-true, arith, is_some, nat_lt, nat_cmp, option_map, unwrap_or, ◌⊎◌, ⊎_elim, IfErr, Result, IsErr, IsErrAnd}
-use Rattle.std.proofs.lemmas.Result.{err_from_is_err_and}
-use Rattle.review_table.specs.Rows.{after_row_edit, row_edit_of}
-use Rattle.review_words.specs.History.{Entry, base_count, entry_of, least_open, project_count}
+use Rattle.std.proofs.Common.{◌≡◌, ℕ, List, [], ◌∷◌, Some, refl, sym, ap, ◌∙◌, ◌+◌, ◌==◌, length, Option, None, true, false, subst, eqb-true, arith, is_some, nat_lt, ◌⊎◌, ⊎_elim, IfErr, Result, IsErr, IsErrAnd}
+use Rattle.{std.proofs.lemmas.Result.err_from_is_err_and, review_table.specs.Rows.after_row_edit}
+use Rattle.review_words.specs.History.{Entry, entry_of}
 use Rattle.review_words.specs.declared.command.Command.TheVariants.{CreateChange, OnChange}
 use Rattle.review_words.specs.declared.reply.NotTaken.{NotTaken as Cause, TheVariants.Damaged, TheVariants.Memory}
 use Rattle.review_machine_rows.proofs.Common.{Change, ChangeCommand, Done, File, IsSound, IsUndecided, NewChange, Part, begun, most_changes, nat_tests, part_row}
-use Rattle.review_machine_rows.proofs.Puts.{no_base, no_base_more, no_file, no_project}
 use Rattle.review_machine_rows.specs.Answer.{IsHistory, checks, first_refusal, refused_by}
 use Rattle.review_machine_rows.specs.Changes.{Reading, Reads, change, change_count}
 use Rattle.review_machine_rows.specs.{Desks.facts_by, Known.change_in, Known.known, Known.number_of, Known.part_of}
-use Rattle.review_machine_rows.specs.Rows.{Key, AccountKey, MemberKey, FileKey, BaseKey, PartKey, OddKey, APart, Count, Projects, BasesOf, ClosedEpochs, account_change, member_change, edited, after, count_after, part_change, member_cmp}
+use Rattle.review_machine_rows.specs.Rows.{Key, PartKey, Count, Projects, part_change}
 use Rattle.review_machine_rows.specs.{Steps.OfCommand, View.AreEnough, View.IsDecided, View.counted, View.fact}
 use Rattle.review_machine_rows.specs.declared.rows.{ChangeEdit.ChangeEdit, Delta.Delta, Rows.Rows}
 use Rattle.review_machine_laws.proofs.Changes.{all_pass, change_there, is_up_to}
 use Rattle.review_machine_laws.proofs.{Checked.asked_beside, Told.change_told}
-use Rattle.{review_machine_accounts.proofs.Decided.outcome_answer, review_machine_changes.proofs.Made.edit_turns}
+use Rattle.review_machine_accounts.proofs.Decided.{count_by, decided_by, outcome_answer, row_by}
+use Rattle.review_machine_accounts.specs.Decisions.{EditsChanges, no_edits}
+use Rattle.review_machine_changes.proofs.Made.{edit_turns}
 use Rattle.review_words.specs.declared.reply.Answer.TheVariants as made
 use Rattle.review_machine_rows.specs.declared.rows.Want.TheVariants as want
 
@@ -39,34 +39,21 @@ none_yet reading h = at (change reading h (change_count h + 1)) (change_there re
 
 -- the change is made
 pub create_decided : (reading : Reading) (h : List Entry) (caller : ℕ) (new : NewChange) (number patch : ℕ) (c : Change) (e : ChangeEdit) (delta : Delta) → refused_by reading h caller (CreateChange new) ≡ None →
-    number ≡ change_count h + 1 → patch ≡ 1 → c ≡ begun new caller (length h + 1) → e.change ≡ number → ((part : Part) → after_row_edit (part_change e part) None ≡ part_row c part) →
-    delta.accounts.items ≡ [] → delta.members.items ≡ [] → delta.file ≡ None → delta.base ≡ None → delta.changes.items ≡ e ∷ [] → delta.least_epoch ≡ None →
+    number ≡ change_count h + 1 → patch ≡ 1 → c ≡ begun new caller (length h + 1) → e.change ≡ number → ((part : Part) → after_row_edit (part_change e part) None ≡ part_row c part) → EditsChanges (e ∷ []) delta →
     IsDecided reading h caller (CreateChange new) delta (Done (made.Change number patch))
-create_decided reading h caller new number patch c e delta passes n p made_is of turns da dm df db dc de = record {
-  reply_is = outcome_answer reading h caller (CreateChange new) (Done (made.Change number patch)) passes (λ i. Done (made.Change (n i) (p i)));
-  row_is = λ epoch id k. rows k;
-  count_is = λ epoch id k. counts k;
-}
+create_decided reading h caller new number patch c e delta passes n p made_is of turns edits =
+    decided_by h caller (CreateChange new) (made.Change number patch) edits (outcome_answer reading h caller (CreateChange new) (Done (made.Change number patch)) passes (λ i. Done (made.Change (n i) (p i)))) rows counts
   where
-    counts : (k : Count) → counted (entry_of caller 0 [] (CreateChange new) (Done (made.Change number patch)) ∷ h) k ≡ count_after delta (fact reading h) k (counted h k)
-    counts Projects = sym (no_project delta df (fact reading h) (project_count h))
-    counts (BasesOf q) = sym (no_base_more delta db (fact reading h) q (base_count h q))
-    counts ClosedEpochs = sym (ap (λ o. unwrap_or o (least_open h)) de)
-
-    here : (m : ℕ) → (e.change == m) ≡ (change_count h + 1 == m)
-    here m = ap (λ x. x == m) (of ∙ n)
-
-    rows : (k : Key) → fact reading (entry_of caller 0 [] (CreateChange new) (Done (made.Change number patch)) ∷ h) k ≡ after delta k (fact reading h k)
-    rows (AccountKey m) = sym (ap (λ l. after_row_edit (account_change (row_edit_of nat_cmp l m)) (fact reading h (AccountKey m))) da)
-    rows (MemberKey g m) = sym (ap (λ l. after_row_edit (member_change (row_edit_of member_cmp l (record { group = g; account = m }))) (fact reading h (MemberKey g m))) dm)
-    rows (FileKey q) = sym (no_file delta df q (fact reading h (FileKey q)))
-    rows (BaseKey q b m) = sym (no_base delta db q b m (fact reading h (BaseKey q b m)))
+    rows : (k : Key) → fact reading (entry_of caller 0 [] (CreateChange new) (Done (made.Change number patch)) ∷ h) k ≡ row_by (record no_edits { changes = e ∷ [] }) k (fact reading h k)
     rows (PartKey m part) =
-        edit_turns e m part (change reading h m) (begun new caller (length h + 1)) (change_count h + 1 == m) (here m)
+        edit_turns e m part (change reading h m) (begun new caller (length h + 1)) (change_count h + 1 == m) (ap (λ x. x == m) (of ∙ n))
         (λ t. ap (λ o. after_row_edit (part_change e part) (part_of o part)) (ap (change reading h) (sym (eqb-true (change_count h + 1) m t)) ∙ none_yet reading h)
         ∙ (turns part ∙ ap (λ x. part_row x part) made_is))
-        ∙ sym (ap (λ es. after_row_edit (option_map (option_map APart) (edited es m part)) (fact reading h (PartKey m part))) dc)
-    rows (OddKey o) = refl
+    rows _ = refl
+
+    counts : (k : Count) → counted (entry_of caller 0 [] (CreateChange new) (Done (made.Change number patch)) ∷ h) k ≡ count_by (record no_edits { changes = e ∷ [] }) (fact reading h) k (counted h k)
+    counts Projects = refl
+    counts _ = refl
 
 -- ==== a command on a change that isn't decided
 

@@ -1,2 +1,2 @@
-pub mod Facts
+pub mod Deltas
 pub mod inner

@@ -1,3 +1,2 @@
 -- Words that only proofs and private clauses use.
-pub mod Facts
-pub mod Words
+pub mod Done

@@ -13,7 +13,7 @@ ghost use Rattle.review_machine_rows.specs.{Steps.OfCommand, View.AreEnough, Vie
 ghost use Rattle.review_machine_rows.specs.declared.rows.Want.TheVariants as want;
 
 use crate::edits::delta_of;
-use crate::facts::has_right;
+use crate::facts::{has_right, next_request};
 use review_core::begun;
 use review_file::{ProjectFile, Right};
 use review_file_rules::one_effective_file;
@@ -124,7 +124,7 @@ pub fn create_change(
         return Ok(refused(alloc, refusal));
     }
     let change = next_change(rows.number(&Want::LastChange));
-    let request = rows.number(&Want::Requests).saturating_add(1);
+    let request = next_request(rows);
     let edit = begun_edit(alloc, change, new, caller, request)?;
     let delta = delta_of(alloc, edit)?;
     let patch = patch_of(1);

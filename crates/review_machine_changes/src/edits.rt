@@ -4,14 +4,14 @@ ghost use Rattle.review_words.specs.declared.reply.NotTaken.TheVariants.{Damaged
 ghost use Rattle.review_core_rules.specs.{EditedChanges.after_edits, Seen.seen, Sound.IsSound};
 ghost use Rattle.review_machine_rows.specs.Decisions.{NamesEachOnce, NamesRowsOnce};
 ghost use Rattle.review_machine_accounts.specs.Decisions.{EditsChanges};
-ghost use Rattle.review_machine_changes.specs.Facts.{IsChecked, MakesChange};
+ghost use Rattle.review_machine_changes.specs.Deltas.{MakesChange};
 
 use review_core::{ChangeFile, RowsFault};
 use review_core_rules::{ChangeRows, EditedChange};
 use review_machine_accounts::nothing;
 use review_machine_change_rows::edit_of;
 use review_machine_rows::{ChangeEdit, Delta};
-use review_words::{ChangeNo, NotTaken, Refusal};
+use review_words::{ChangeNo, NotTaken};
 use std::alloc::{AllocError, Global};
 
 /// The change of rows that were loaded. Damaged only where they don't fit together.
@@ -34,25 +34,6 @@ fn told_sound<'r>(file: ChangeFile<'r>) -> ChangeFile<'r>
 {
     let _rows = file.rows();
     file
-}
-
-/// What the checks of a request come to.
-#[derive(Drop)]
-pub enum Checked<'r> {
-    /// None fails, and the change is this.
-    Passes(ChangeFile<'r>),
-    /// The first that fails refuses so.
-    Fails(Refusal),
-}
-
-/// What checks come to, by the refusal of the first that fails.
-pub fn checked_by<'r>(file: ChangeFile<'r>, refusal: Option<Refusal>) -> Checked<'r>
-    ensures { IsChecked refusal (seen file.entry.rows.now) result }
-{
-    match refusal {
-        Some(refusal) => Checked::Fails(refusal),
-        None => Checked::Passes(file),
-    }
 }
 
 /// The delta of one edit.

@@ -2,6 +2,7 @@
 ghost use Rattle.std.specs.{List.list_any, Prelude.◌≡◌, Prelude.IfOk};
 ghost use Rattle.review_core_rules.specs.Change.{is_open};
 ghost use Rattle.review_machine_rows.specs.{Answer.has_right, Desks.facts_in, Desks.in_rows};
+ghost use Rattle.review_machine_changes.specs.Deltas.{next_request};
 
 use review_file::{ProjectFile, Right};
 use review_machine_rows::{MemberKey, Rows, Want};
@@ -43,6 +44,13 @@ pub fn has_right(
     ensures { IfOk result (λ b. b ≡ has_right (facts_in rows.now) file.now right account) }
 {
     is_in_any(rows, account, file.groups(right))
+}
+
+/// The number that a request gets: one more than were ever stored.
+pub fn next_request(rows: &Rows) -> u64
+    ensures { result ≡ next_request rows.now }
+{
+    rows.number(&Want::Requests).saturating_add(1)
 }
 
 /// Whether a state is open.

@@ -4,7 +4,7 @@ ghost use Rattle.review_words.specs.declared.reply.Refusal.TheVariants.{SameStat
 ghost use Rattle.{review_file_rules.specs.Inherited.no_file, review_core_rules.specs.Seen.seen};
 ghost use Rattle.review_machine_rows.specs.Answer.{abandon_checks, call_checks, first_refusal, flag_checks, has_right, has_role, is_merged, leave_checks, may_abandon, removal_checks, request_checks, restore_checks, role_checks, runs};
 ghost use Rattle.review_machine_rows.specs.Desks.{facts_by, facts_in};
-ghost use Rattle.review_machine_changes.specs.inner.Words.{lacks_file};
+ghost use Rattle.review_machine_changes.specs.inner.Done.{lacks_file};
 ghost use Rattle.review_file_rules.specs.declared.parts.Right.TheVariants as right;
 
 use crate::facts::{has_right, is_open};

@@ -7,12 +7,12 @@ ghost use Rattle.review_core_rules.specs.{Change.after_plain, EditedChanges.Make
 ghost use Rattle.review_core_rules.specs.Sound.{IsSound, fits};
 ghost use Rattle.review_machine_rows.specs.Answer.{first_refusal, most_requests, request_checks};
 ghost use Rattle.review_machine_rows.specs.{Changes.Reading, Decisions.IsUndecided, Decisions.NamesEachOnce};
-ghost use Rattle.review_machine_rows.specs.{Desks.facts_by, Rows.HasNoEffect, Steps.needs_file, Steps.OfCommand};
+ghost use Rattle.review_machine_rows.specs.{Desks.facts_by, Rows.HasNoEffect, Steps.OfCommand};
 ghost use Rattle.review_machine_rows.specs.View.{AreEnough, IsDecided};
-ghost use Rattle.review_machine_changes.specs.Facts.{IsChecked, MakesChange};
-ghost use Rattle.review_machine_changes.specs.inner.Words.{IsDone, IsPlainlyDone, is_plain, lacks_file};
+ghost use Rattle.review_machine_changes.specs.inner.Done.{IsDone, IsPlainlyDone, is_plain, lacks_file};
 
-use crate::edits::{Checked, change_file, checked_by, turned};
+use crate::edits::{change_file, turned};
+use crate::facts::next_request;
 use crate::refusing::request_refusal;
 use crate::reviewing::reviewed;
 use crate::uploading::uploaded;
@@ -20,9 +20,9 @@ use review_core::ChangeFile;
 use review_core_rules::{ChangeRows, EditedChange};
 use review_file::ProjectFile;
 use review_file_rules::{groups_suffice, one_effective_file};
-use review_machine_accounts::refused;
+use review_machine_accounts::{needs_file, refused};
 use review_machine_laws::changes_are_sound;
-use review_machine_rows::{Delta, Rows, Want};
+use review_machine_rows::{Delta, Rows};
 use review_words::{AccountNo, Answer, ChangeCommand, ChangeNo, NotTaken, Refusal, Reply};
 use std::alloc::{AllocError, Global};
 
@@ -52,24 +52,12 @@ pub fn on_change(
     if lacks_file(effective, command) {
         return Err(NotTaken::Damaged);
     }
-    let checked = check(alloc, effective, rows, caller, command, found)?;
-    match checked {
-        Checked::Passes(file) => {
-            Ok(done(alloc, effective, rows, caller, change, &file, command)?)
-        }
-        Checked::Fails(refusal) => Ok(refused(alloc, refusal)),
+    let file = change_file(alloc, found)?;
+    let refusal = request_refusal(alloc, effective, rows, caller, command, &file)?;
+    if let Some(refusal) = refusal {
+        return Ok(refused(alloc, refusal));
     }
-}
-
-/// Whether a request is judged by the file of its project.
-fn needs_file(command: &ChangeCommand) -> bool
-    ensures { result ≡ needs_file command.now }
-{
-    match command {
-        ChangeCommand::Upload(_) | ChangeCommand::Abandon | ChangeCommand::Restore => true,
-        ChangeCommand::Review(review) => !review.labels.as_slice().is_empty(),
-        _ => false,
-    }
+    Ok(done(alloc, effective, rows, caller, change, &file, command)?)
 }
 
 /// Whether a request is judged by the project's file, and there is none.
@@ -80,24 +68,6 @@ fn lacks_file(effective: Option<&ProjectFile>, command: &ChangeCommand) -> bool
         Some(_) => false,
         None => needs_file(command),
     }
-}
-
-/// What the checks of a request on a change come to. Damaged only where the change isn't sound.
-fn check<'r>(
-    alloc: Global,
-    effective: Option<&ProjectFile>,
-    rows: &Rows,
-    caller: AccountNo,
-    command: &ChangeCommand,
-    found: &'r ChangeRows,
-) -> Result<Checked<'r>, NotTaken>
-    requires { lacks_file (option_copied effective) command.now ≡ false }
-    ensures checked { IfOk result (IsChecked (first_refusal (request_checks (facts_by rows.now (option_copied effective.entry)) caller command.now (seen found.now))) (seen found.now)) }
-    ensures cause { IfErr result (λ e. (e ≡ Memory) ⊎ ((e ≡ Damaged) × (IsSound (seen found.now) → ⊥))) }
-{
-    let file = change_file(alloc, found)?;
-    let refusal = request_refusal(alloc, effective, rows, caller, command, &file)?;
-    Ok(checked_by(file, refusal))
 }
 
 /// The answer to a request that no check refuses, and what it changes.
@@ -162,24 +132,6 @@ fn applied<'r>(
     }
 }
 
-/// The delta of what a request makes of a change.
-fn delta_by(
-    alloc: Global,
-    change: ChangeNo,
-    file: &ChangeFile,
-    command: &ChangeCommand,
-    caller: AccountNo,
-    request: u64,
-) -> Result<Delta, AllocError>
-    requires plain { is_plain command.now ≡ true }
-    requires fits { fits command.now (seen file.now.rows.now) ≡ true }
-    ensures made { IfOk result (MakesChange change (seen file.now.rows.now) (after_plain command.now caller request (seen file.now.rows.now))) }
-    ensures once { IfOk result NamesEachOnce }
-{
-    let edited = applied(alloc, file, command, caller, request)?;
-    turned(alloc, change, edited)
-}
-
 /// The answer to a request that is neither a patch set nor a review, where no check refuses it, and what it changes.
 fn plainly_done(
     alloc: Global,
@@ -197,7 +149,7 @@ fn plainly_done(
     ensures epoch { IfOk result (λ r. r.0.least_epoch ≡ None) }
     ensures once { IfOk result (λ r. NamesEachOnce r.0) }
 {
-    let request = rows.number(&Want::Requests).saturating_add(1);
-    let delta = delta_by(alloc, change, file, command, caller, request)?;
+    let edited = applied(alloc, file, command, caller, next_request(rows))?;
+    let delta = turned(alloc, change, edited)?;
     Ok((delta, Reply::Done(Answer::Nothing)))
 }

@@ -8,16 +8,16 @@ ghost use Rattle.review_core_rules.specs.Change.{after_plain, current, reviewed,
 ghost use Rattle.review_core_rules.specs.{Seen.seen, Sound.answer_stored, Sound.fits};
 ghost use Rattle.review_machine_rows.specs.Answer.{first_refusal, given_checks, review_checks};
 ghost use Rattle.review_machine_rows.specs.{Decisions.NamesEachOnce, Desks.facts_by, Rows.HasNoEffect};
-ghost use Rattle.review_machine_changes.specs.Facts.{MakesChange};
-ghost use Rattle.review_machine_changes.specs.inner.{Facts.IsReviewed, Facts.next_numbers, Words.lacks_file};
+ghost use Rattle.review_machine_changes.specs.Deltas.{MakesChange};
+ghost use Rattle.review_machine_changes.specs.inner.Done.{IsReviewed, lacks_file, next_numbers};
 
 use crate::edits::turned;
-use crate::facts::is_open;
+use crate::facts::{is_open, next_request};
 use crate::ranges::{are_in_range, has_labels, has_values};
 use review_core::ChangeFile;
 use review_core_rules::ChangeRows;
 use review_file::ProjectFile;
-use review_machine_rows::{Delta, Rows, Want};
+use review_machine_rows::{Delta, Rows};
 use review_words::{
     AccountNo, Answer, ChangeNo, CommentNo, CommentNumbers, NewComment, Refusal, Reply, Review,
 };
@@ -197,23 +197,6 @@ fn comment_of(number: usize) -> CommentNo
     }
 }
 
-/// The delta of what a review makes of a change.
-fn with_review(
-    alloc: Global,
-    change: ChangeNo,
-    file: &ChangeFile,
-    review: &Review,
-    caller: AccountNo,
-    request: u64,
-) -> Result<Delta, AllocError>
-    requires { fits (ReviewOf review.now) (seen file.now.rows.now) ≡ true }
-    ensures made { IfOk result (MakesChange change (seen file.now.rows.now) (after_plain (ReviewOf review.now) caller request (seen file.now.rows.now))) }
-    ensures once { IfOk result NamesEachOnce }
-{
-    let edited = file.with_review(alloc, review, caller, request)?;
-    turned(alloc, change, edited)
-}
-
 /// The answer to a review that no check refuses, and what it changes: a message, values on labels, comments.
 pub fn reviewed(
     alloc: Global,
@@ -232,7 +215,7 @@ pub fn reviewed(
 {
     let stored = file.rows().comments.len();
     let numbers = new_numbers(alloc, stored, said_count(review))?;
-    let request = rows.number(&Want::Requests).saturating_add(1);
-    let delta = with_review(alloc, change, file, review, caller, request)?;
+    let edited = file.with_review(alloc, review, caller, next_request(rows))?;
+    let delta = turned(alloc, change, edited)?;
     Ok((delta, Reply::Done(Answer::Reviewed(numbers))))
 }

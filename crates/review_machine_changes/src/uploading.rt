@@ -8,17 +8,17 @@ ghost use Rattle.review_core_rules.specs.Change.{after, carried, copying, curren
 ghost use Rattle.review_core_rules.specs.{Counts.AreMany, EditedChanges.Makes, Seen.seen, Sound.fits, Votes.voted};
 ghost use Rattle.review_machine_rows.specs.Answer.{first_refusal, has_right, upload_checks};
 ghost use Rattle.review_machine_rows.specs.{Decisions.NamesEachOnce, Desks.facts_by, Desks.facts_in, Rows.HasNoEffect};
-ghost use Rattle.review_machine_changes.specs.{Facts.setting_in, inner.Facts.IsUploaded};
+ghost use Rattle.review_machine_changes.specs.{Deltas.setting_in, inner.Done.IsUploaded};
 ghost use Rattle.review_file_rules.specs.declared.parts.Right.TheVariants as right;
 
 use crate::edits::turned;
-use crate::facts::{has_right, is_open};
+use crate::facts::{has_right, is_open, next_request};
 use review_core::{ChangeFile, Copied};
 use review_core_rules::{ChangeRows, EditedChange, Header};
 use review_file::{ProjectFile, Right};
 use review_machine_accounts::is_known;
 use review_machine_change_rows::copied_patch;
-use review_machine_rows::{Delta, Rows, Want};
+use review_machine_rows::{Delta, Rows};
 use review_words::{AccountNo, Answer, ChangeNo, NewPatch, PatchNo, Refusal, Reply};
 use std::alloc::{AllocError, Global};
 
@@ -130,7 +130,7 @@ pub fn uploaded(
     ensures epoch { IfOk result (λ r. r.0.least_epoch ≡ None) }
     ensures once { IfOk result (λ r. NamesEachOnce r.0) }
 {
-    let request = rows.number(&Want::Requests).saturating_add(1);
+    let request = next_request(rows);
     let (edited, counts) = with_patch(alloc, project, rows, caller, file, patch, request)?;
     let next = next_patch(file.rows().patches.len());
     let delta = turned(alloc, change, edited)?;

@@ -1,11 +1,12 @@
 //! The project by whose file a command or a question is judged.
 ghost use Rattle.std.specs.Prelude.{◌≡◌, option_copied};
 ghost use Rattle.review_machine_rows.specs.Known.{known, change_in};
-ghost use Rattle.review_machine_rows.specs.Steps.{asks_file, needs_file, project_for, project_of, topic_of};
+ghost use Rattle.review_machine_rows.specs.Steps.{asks_file, project_for, project_of, topic_of};
 ghost use Rattle.review_machine_rows.specs.declared.rows.Want.TheVariants as want;
 
+use review_machine_accounts::needs_file;
 use review_machine_rows::{Matter, Rows};
-use review_words::{ChangeCommand, ChangeNo, ChangeQuery, Command, ProjectName, Query};
+use review_words::{ChangeNo, ChangeQuery, Command, ProjectName, Query};
 
 /// The project by whose file a command or a question is judged, where one is needed.
 pub fn project_of<'r>(rows: &'r Rows, matter: Matter<'r>) -> Option<&'r ProjectName>
@@ -22,17 +23,6 @@ pub fn project_of<'r>(rows: &'r Rows, matter: Matter<'r>) -> Option<&'r ProjectN
             project_for(asks_file(*query), rows, *change)
         }
         _ => None,
-    }
-}
-
-// Whether a request on a change is judged by the file of its project.
-fn needs_file(command: &ChangeCommand) -> bool
-    ensures { result ≡ needs_file command.now }
-{
-    match command {
-        ChangeCommand::Upload(_) | ChangeCommand::Abandon | ChangeCommand::Restore => true,
-        ChangeCommand::Review(review) => !review.labels.as_slice().is_empty(),
-        _ => false,
     }
 }
 

@@ -5,13 +5,13 @@ ghost use Rattle.review_words.specs.{History.Entry, History.is_account, Texts.Is
 ghost use Rattle.review_words.specs.declared.{command.Command.TheVariants.PutProject, reply.Answer.TheVariants.Nothing};
 ghost use Rattle.review_words.specs.declared.reply.{NotTaken.TheVariants.Memory, Refusal.TheVariants.BadFile};
 ghost use Rattle.review_words.specs.declared.reply.Reply.TheVariants.{Done, Refused};
-ghost use Rattle.review_file_rules.specs.{Rights.covers, declared.fault.ReadFault.TheVariants.File};
-ghost use Rattle.review_machine_rows.specs.{Answer.is_same_parent, Changes.Reading};
+ghost use Rattle.review_file_rules.specs.declared.fault.ReadFault.TheVariants.{File};
+ghost use Rattle.review_machine_rows.specs.{Answer.first_refusal, Answer.is_same_parent, Changes.Reading};
 ghost use Rattle.review_machine_rows.specs.Decisions.{IsUndecided, IsUnread, NamesEachOnce};
 ghost use Rattle.review_machine_rows.specs.{Rows.HasNoEffect, Steps.OfCommand, Steps.own_in, Steps.texts_in};
 ghost use Rattle.review_machine_rows.specs.View.{AreEnough, IsDecided};
 ghost use Rattle.review_machine_accounts.specs.Decisions.{IsEmpty};
-ghost use Rattle.review_machine_needs.specs.inner.Files.{file_refused, has_unknown, heir, keeps_parent, parent_refused, room_in, IsFilePut, IsPut, IsPutBelow, IsReadCause, PutsFile};
+ghost use Rattle.review_machine_needs.specs.inner.Files.{has_unknown, heir, keeps_parent, kept_checks, parent_checks, room_in, IsFilePut, IsPut, IsPutBelow, IsReadCause, PutsFile};
 
 use crate::lines::own_file;
 use crate::reading::read_line;
@@ -169,7 +169,7 @@ fn depth_of(line: Option<&ReadLine>) -> usize
 
 // What refuses a parent, by whether one is named, and how many projects its line has.
 fn parent_refused(is_named: bool, depth: usize) -> Option<Refusal>
-    ensures refusal { result ≡ parent_refused is_named depth }
+    ensures refusal { result ≡ first_refusal (parent_checks is_named depth) }
     ensures stored { IfSome result (λ r. IsStored (Refused r)) }
 {
     if is_named && depth == 0 {
@@ -202,40 +202,38 @@ fn put_line(
     put: Put<ProjectName, StoredFile>,
     line: ReadLine,
 ) -> Result<(Delta, Reply), NotTaken>
-    ensures put { IfOk result (λ r. IsFilePut (file_refused (option_map (λ f. covers f line.file) (option_copied effective.entry)) (room_in rows.now)) put.key put.row r.0 r.1) }
+    ensures put { IfOk result (λ r. IsFilePut (first_refusal (kept_checks (option_copied effective.entry) (room_in rows.now) line.file)) put.key put.row r.0 r.1) }
     ensures cause { IfErr result (λ cause. cause ≡ Memory) }
     ensures stored { IfOk result (λ r. IsStored r.1) }
     ensures refused { IfOk result (λ r. HasNoEffect r.1 r.0) }
     ensures epoch { IfOk result (λ r. r.0.least_epoch ≡ None) }
     ensures once { IfOk result (λ r. NamesEachOnce r.0) }
 {
-    let covered = is_covered(effective, line.file());
     let has_room = rows.is_so(&Want::Room(Counted::Projects));
-    if let Some(refusal) = refusal_by(covered, has_room) {
+    if let Some(refusal) = kept_refused(effective, has_room, line.file()) {
         return Ok(refused(alloc, refusal));
     }
     let _ = memo.keep(&put.key, line);
     Ok(put_row(alloc, put))
 }
 
-// Whether the file that a project has, if any, is covered by a new one.
-fn is_covered(effective: Option<&ProjectFile>, new: &ProjectFile) -> Option<bool>
-    ensures { result ≡ option_map (λ f. covers f new.now) (option_copied effective.entry) }
-{
-    match effective {
-        Some(old) => Some(covers(old, new)),
-        None => None,
-    }
-}
-
-// What refuses a file, by whether it covers the one that the project has, where it has one, and whether there is room for one more project.
-fn refusal_by(covered: Option<bool>, has_room: bool) -> Option<Refusal>
-    ensures refusal { result ≡ file_refused covered has_room }
+// What refuses a new effective file, by the one that the project has, if any, and whether there is room for one more project.
+fn kept_refused(
+    effective: Option<&ProjectFile>,
+    has_room: bool,
+    new: &ProjectFile,
+) -> Option<Refusal>
+    ensures refusal { result ≡ first_refusal (kept_checks (option_copied effective.entry) has_room new.now) }
     ensures stored { IfSome result (λ r. IsStored (Refused r)) }
 {
-    match covered {
-        Some(true) => None,
-        Some(false) => Some(Refusal::LabelNarrowed),
+    match effective {
+        Some(old) => {
+            if covers(old, new) {
+                None
+            } else {
+                Some(Refusal::LabelNarrowed)
+            }
+        }
         None => { if has_room { None } else { Some(Refusal::Limit) } }
     }
 }

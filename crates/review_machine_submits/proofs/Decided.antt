@@ -1,11 +1,11 @@
 -- A submit: the members of its chain, what it makes of the rows, and how it is decided.
-use Rattle.std.proofs.Common.{◌≡◌, ◌⊎◌, ℕ, List, [], ◌∷◌, Option, Some, None, IsSome, Bool, true, false, cond, ◌&&◌, refl, sym, ap, ◌∙◌, subst, ⊎_elim, map, All, bytes_eq, ◌==◌, arith, nat_cmp, find, ◌+◌, length, eqb-true, option_map, unwrap_or, inl, inr, is_some, not, option_and_then, option_to_list, MatchOption, if◌then◌else◌, ◌<◌, ◌≤◌, ◌^◌}
+use Rattle.std.proofs.Common.{◌≡◌, ◌⊎◌, ℕ, List, [], ◌∷◌, Option, Some, None, IsSome, Bool, true, false, cond, ◌&&◌, refl, sym, ap, ◌∙◌, subst, ⊎_elim, map, All, bytes_eq, ◌==◌, arith, nat_cmp, find, ◌+◌, length, eqb-true, option_map, inl, inr, is_some, not, option_to_list, MatchOption, if◌then◌else◌, ◌<◌, ◌≤◌, ◌^◌}
 use Rattle.std.specs.List.{AllByRecursion, IsDistinct}
-use Rattle.review_table.specs.Rows.{NamesOnce, after_row_edit, row_edit_of}
-use Rattle.review_words.specs.History.{Entry, entry_of, base_count, project_count, least_open, is_account}
+use Rattle.review_table.specs.Rows.{NamesOnce, after_row_edit}
+use Rattle.review_words.specs.History.{Entry, entry_of, is_account}
 use Rattle.review_words.specs.declared.reply.NotTaken.{NotTaken as Cause}
 use Rattle.review_words.specs.declared.reply.NotTaken.TheVariants.{Memory, Damaged, Pattern}
-use Rattle.review_words.specs.declared.reply.Refusal.TheVariants.{UnknownCaller, NoChange, NotAllowed, Closed, WorkInProgress, RequirementUnsatisfied}
+use Rattle.review_words.specs.declared.reply.Refusal.TheVariants.{NoChange, RequirementUnsatisfied}
 use Rattle.review_chain.proofs.Parting.{bad_kept, whole_sound, Says, wanted_says, chain_kept}
 use Rattle.review_chain.proofs.Walking.{chain_ready, one_end, wanted_meets}
 use Rattle.review_chain.specs.Branches.{Branch, IsWhole}
@@ -15,27 +15,26 @@ use Rattle.review_chain.specs.declared.walks.ChainFault.TheVariants.{Outdated, A
 use Rattle.review_core_rules.specs.Change.{Change, joined_at, Setting, is_open}
 use Rattle.review_core_rules.specs.Facts.{AreStanding, IsFirstUnsatisfied, unsatisfied_in}
 use Rattle.review_core_rules.specs.Parts.{Part, PartRow, part_row}
-use Rattle.review_machine_rows.proofs.Asked.{all_made, change_asked, each_known, file_asked, line_asked, found_of}
-use Rattle.review_machine_rows.proofs.Common.{All-head, All-tail, ChainFault, Done, File, Link, Refusal, Refused, Reply, ShownRequirement, Submit, Submitted, and_parts, bytes_eq-Decides, file_trees, most_depth}
-use Rattle.review_machine_rows.proofs.{Lined.texts_told, Puts.no_base, Puts.no_base_more, Puts.no_file, Puts.no_project}
+use Rattle.review_machine_rows.proofs.Asked.{all_made, each_known, file_asked, found_of}
+use Rattle.review_machine_rows.proofs.Common.{All-head, All-tail, ChainFault, Done, File, Link, Refusal, Refused, Reply, ShownRequirement, Submit, Submitted, and_parts, bytes_eq-Decides, file_trees}
 use Rattle.review_machine_rows.specs.Answer.{IsAnswerBy, IsHistory, first_refusal, of_change, refused_by, submit_checks, most_requests}
-use Rattle.review_machine_rows.specs.Changes.{Reading, change, joined, joining, joining_at, place_in, Reads, file_of, setting_of, texts_of, change_count}
+use Rattle.review_machine_rows.specs.Changes.{Reading, change, joined, joining, joining_at, place_in, Reads, file_of, setting_of, change_count}
 use Rattle.review_machine_rows.specs.Decisions.{NamesChangesOnce, NamesEachOnce, NamesRowsOnce, IsUndecided}
 use Rattle.review_machine_rows.specs.Desks.{facts_by}
 use Rattle.review_machine_rows.specs.Known.{part_of, Agrees, Found, IsKnown, known, change_in, IsLastJoined, number_of}
 use Rattle.review_machine_rows.specs.Links.{is_for, link_for, link_of, links_in}
-use Rattle.review_machine_rows.specs.Rows.{member_cmp, Key, AccountKey, MemberKey, FileKey, BaseKey, PartKey, OddKey, APart, Count, Projects, BasesOf, ClosedEpochs, account_change, member_change, edited, after, count_after, part_change}
-use Rattle.review_machine_rows.specs.Steps.{HasFile, OfCommand, caller_in, chain_wants, last_wants, line_steps, look_up, known_parent, project_for, submit_wants, texts_in, unknown, wanted_for, wants_by}
+use Rattle.review_machine_rows.specs.Rows.{member_cmp, Key, PartKey, APart, Count, Projects, edited, after, part_change}
+use Rattle.review_machine_rows.specs.Steps.{OfCommand, caller_in, chain_wants, last_wants, look_up, unknown, wanted_for, wants_by}
 use Rattle.review_machine_rows.specs.Submits.{HasBadLink, refusal_of, branch_after, judged_after, IsOf, IsSubmitAnswer, checked_reply}
 use Rattle.review_machine_rows.specs.View.{IsDecided, counted, fact, AreEnough, view}
 use Rattle.review_machine_rows.specs.declared.rows.{ChangeEdit.ChangeEdit, Delta.Delta, Rows.Rows}
 use Rattle.{review_core_standing.proofs.InThreads.other_way, review_machine_laws.proofs.Changes.changes_bound}
 use Rattle.review_machine_laws.proofs.Checked.{lacks_project, same_trees, split_all, submit_asked, submit_file, submit_refused_told}
 use Rattle.review_machine_laws.proofs.{Histories.OneEffective, SoundProjects.has_project, Told.change_told}
-use Rattle.review_machine_accounts.proofs.Decided.{outcome_answer, refused_decided}
-use Rattle.review_machine_accounts.specs.Decisions.{EditsChanges, IsEmpty}
+use Rattle.review_machine_accounts.proofs.Decided.{count_by, decided_by, outcome_answer, refused_decided, row_by}
+use Rattle.review_machine_accounts.specs.Decisions.{EditsChanges, IsEmpty, no_edits}
 use Rattle.review_machine_changes.proofs.{Made.request_is, Told.ChangesAreSound}
-use Rattle.review_machine_changes.specs.Facts.{setting_in, next_request}
+use Rattle.review_machine_changes.specs.Deltas.{setting_in, next_request}
 use Rattle.review_machine_submits.proofs.Loaded.{GroupsSuffice, standing_told}
 use Rattle.review_machine_submits.specs.Submits.{IsThere, change_at, AreJoinEdits, IsJoinEdit, HasUnsound, judged_in, JoinsChain, Makes, last_in}
 use Rattle.review_machine_submits.specs.inner.Words.{IsUnchained, IsUnlinked, IsSubmitted}
@@ -201,36 +200,21 @@ joining_is reading h rows project branch chain last k all many known = by (place
         ∙ (ap (λ n. Some (joined_at (n + j) (length h + 1) m.of)) count
         ∙ (sym (ap (λ c. joining_at h (Some j) c) there) ∙ sym (ap (λ o. joining_at h o (change reading h k)) some))))
 
-rows_turn : (reading : Reading) (h : List Entry) (caller n : ℕ) (rows : Rows) (project branch : List ℕ) (chain : List ℕ) (last : ℕ) (edits : List ChangeEdit) (delta : Delta) →
-    AllByRecursion (IsMember rows project branch) chain → last ≡ length (joined h project branch) → AreJoinEdits rows (length h + 1) (places_from (last + 1) chain) edits → EditsChanges edits delta →
-    ((k : ℕ) (x : Change) → change_at rows k ≡ Some x → change reading h k ≡ Some x) → (epoch : ℕ) (id : List ℕ) (k : Key) → fact reading (entry_of caller epoch id (Submit n) (Done (Submitted chain)) ∷ h) k ≡ after delta k (fact reading h k)
-rows_turn reading h caller n rows project branch chain last edits delta all many are only known epoch id (AccountKey a) =
-    sym (ap (λ l. after_row_edit (account_change (row_edit_of nat_cmp l a)) (fact reading h (AccountKey a))) only.accounts)
-rows_turn reading h caller n rows project branch chain last edits delta all many are only known epoch id (MemberKey g a) =
-    sym (ap (λ l. after_row_edit (member_change (row_edit_of member_cmp l (record { group = g; account = a }))) (fact reading h (MemberKey g a))) only.members)
-rows_turn reading h caller n rows project branch chain last edits delta all many are only known epoch id (FileKey q) = sym (no_file delta only.file q (fact reading h (FileKey q)))
-rows_turn reading h caller n rows project branch chain last edits delta all many are only known epoch id (BaseKey q b a) = sym (no_base delta only.base q b a (fact reading h (BaseKey q b a)))
-rows_turn reading h caller n rows project branch chain last edits delta all many are only known epoch id (PartKey k part) =
-    ap (λ o. option_map APart (part_of o part)) (sym (joining_is reading h rows project branch chain last k all many (known k)))
-    ∙ (sym (edits_turn rows (length h + 1) chain last k part edits (change reading h k) are (known k))
-    ∙ sym (ap (λ es. after_row_edit (option_map (option_map APart) (edited es k part)) (fact reading h (PartKey k part))) only.changes))
-rows_turn reading h caller n rows project branch chain last edits delta all many are only known epoch id (OddKey o) = refl
-
-counts_turn : (reading : Reading) (h : List Entry) (caller n : ℕ) (chain : List ℕ) (edits : List ChangeEdit) (delta : Delta) → EditsChanges edits delta →
-    (epoch : ℕ) (id : List ℕ) (k : Count) → counted (entry_of caller epoch id (Submit n) (Done (Submitted chain)) ∷ h) k ≡ count_after delta (fact reading h) k (counted h k)
-counts_turn reading h caller n chain edits delta only epoch id Projects = sym (no_project delta only.file (fact reading h) (project_count h))
-counts_turn reading h caller n chain edits delta only epoch id (BasesOf q) = sym (no_base_more delta only.base (fact reading h) q (base_count h q))
-counts_turn reading h caller n chain edits delta only epoch id ClosedEpochs = sym (ap (λ o. unwrap_or o (least_open h)) only.epoch)
-
 -- a submit of a chain that joins is decided
 pub joined_decided : (reading : Reading) (h : List Entry) (caller n : ℕ) (rows : Rows) (project branch : List ℕ) (chain : List ℕ) (last : ℕ) (edits : List ChangeEdit) (delta : Delta) →
     AllByRecursion (IsMember rows project branch) chain → last ≡ length (joined h project branch) → AreJoinEdits rows (length h + 1) (places_from (last + 1) chain) edits → EditsChanges edits delta →
     ((k : ℕ) (x : Change) → change_at rows k ≡ Some x → change reading h k ≡ Some x) → IsAnswerBy reading h caller (Submit n) (Done (Submitted chain)) → IsDecided reading h caller (Submit n) delta (Done (Submitted chain))
-joined_decided reading h caller n rows project branch chain last edits delta all many are only known answer = record {
-  reply_is = answer;
-  row_is = rows_turn reading h caller n rows project branch chain last edits delta all many are only known;
-  count_is = counts_turn reading h caller n chain edits delta only;
-}
+joined_decided reading h caller n rows project branch chain last edits delta all many are only known answer = decided_by h caller (Submit n) (Submitted chain) only answer each counts
+  where
+    each : (k : Key) → fact reading (entry_of caller 0 [] (Submit n) (Done (Submitted chain)) ∷ h) k ≡ row_by (record no_edits { changes = edits }) k (fact reading h k)
+    each (PartKey k part) =
+        ap (λ o. option_map APart (part_of o part)) (sym (joining_is reading h rows project branch chain last k all many (known k)))
+        ∙ sym (edits_turn rows (length h + 1) chain last k part edits (change reading h k) are (known k))
+    each _ = refl
+
+    counts : (c : Count) → counted (entry_of caller 0 [] (Submit n) (Done (Submitted chain)) ∷ h) c ≡ count_by (record no_edits { changes = edits }) (fact reading h) c (counted h c)
+    counts Projects = refl
+    counts _ = refl
 
 -- ==== what the rows of a submit tell of the history
 

@@ -1,5 +1,5 @@
 -- What loaded rows tell for a question, and its answer.
-use Rattle.std.proofs.Common.{◌≡◌, ◌⊎◌, inl, inr, ℕ, List, [], ◌∷◌, Option, Some, None, true, false, refl, sym, ap, ◌∙◌, subst, ⊎_elim, is_some, option_and_then, ◌≤◌, arith, length, Bool, cond, map, nat_le, ◌++◌, not, nat_cmp, find, flat_map, option_map, if◌then◌else◌, bytes_eq, ℤ, ◌&&◌, ◌==◌, eqb-true, slice_get, ◌-◌, filter}
+use Rattle.std.proofs.Common.{◌≡◌, ◌⊎◌, ℕ, List, [], ◌∷◌, Option, Some, None, true, false, refl, sym, ap, ◌∙◌, subst, ⊎_elim, is_some, option_and_then, ◌≤◌, arith, length, Bool, cond, map, nat_le, ◌++◌, not, nat_cmp, find, flat_map, option_map, if◌then◌else◌, bytes_eq, ℤ, ◌&&◌, ◌==◌, eqb-true, slice_get, ◌-◌, filter}
 use Rattle.std.{proofs.lemmas.Map.Entries.option_filter, specs.List.Sorted.IsStrictlySortedBy}
 use Rattle.review_names.specs.Forms.{is_within, most_patches}
 use Rattle.review_table.specs.Rows.{row_in, rows_of}
@@ -24,19 +24,19 @@ use Rattle.review_core_rules.specs.Shown.{AreVotes, shown_vote, IsToldOf}
 use Rattle.review_core_tables.proofs.{Accounts.accounts_tell, Accounts.has_row, Copied.vote_key, Copied.votes_tell}
 use Rattle.review_machine_rows.proofs.Asked.{all_asked, change_asked, found_of, line_asked, file_asked}
 use Rattle.review_machine_rows.proofs.Common.{AllByRecursion, Answer, ChangeRows, Done, Expr, File, GroupList, IsSound, PatchRow, Refusal, Refused, Role, VoteKey, keys_of, nat_tests, option_map_or, voted, within_parts}
-use Rattle.review_machine_rows.proofs.Lined.{texts_told, there_is}
+use Rattle.review_machine_rows.proofs.Lined.{texts_told}
 use Rattle.review_machine_rows.specs.Answer.{IsHistory, has_role, IsOf, first_refusal}
-use Rattle.review_machine_rows.specs.Changes.{Reading, change, file_of, own_of, texts_of, joined, groups_of, setting_of}
+use Rattle.review_machine_rows.specs.Changes.{Reading, change, file_of, texts_of, joined, groups_of, setting_of}
 use Rattle.review_machine_rows.specs.Decisions.{IsUnshown}
 use Rattle.review_machine_rows.specs.Known.{IsKnown, change_in, known, is_so, commits_of, joined_of}
-use Rattle.review_machine_rows.specs.Lines.{line_of, most_depth, with_above}
+use Rattle.review_machine_rows.specs.Lines.{most_depth}
 use Rattle.review_machine_rows.specs.Questions.{joined_change, query_refused_by, IsQueryAnswerBy}
 use Rattle.review_machine_rows.specs.Steps.{HasFile, OfQuery, line_steps, known_parent, project_for, question_wants, texts_in, unknown, wants_by}
-use Rattle.review_machine_rows.specs.View.{AreEnough, view}
-use Rattle.review_machine_rows.specs.declared.rows.{Rows.Rows, StoredFile.StoredFile}
+use Rattle.review_machine_rows.specs.{View.AreEnough, View.view, declared.rows.Rows.Rows}
 use Rattle.review_core_standing.proofs.Made.{value_kept, some_where, order_kept, row_kept}
-use Rattle.review_machine_laws.proofs.{Checked.no_text, Checked.same_trees, Checked.split_all, Histories.OneEffective}
-use Rattle.review_machine_laws.proofs.{Rows.rows_tell, Rows.joined_rows, SoundProjects.has_project}
+use Rattle.review_machine_laws.proofs.Checked.{lacks_project, same_trees, split_all}
+use Rattle.review_machine_laws.proofs.{Histories.OneEffective, Rows.rows_tell, Rows.joined_rows}
+use Rattle.review_machine_laws.proofs.SoundProjects.{has_project}
 use Rattle.review_machine_laws.proofs.Told.{project_told, bases_told, Agree, refused_question, told_question}
 use Rattle.review_machine_changes.proofs.{Requested.same_in_all, Told.ChangesAreSound}
 use Rattle.review_machine_submits.specs.inner.Told.{LacksFile, setting_by, is_on, IsToldBy}
@@ -54,14 +54,6 @@ change_told reading h caller n query effective rows l =
     let r = found_of (view reading h) rows (want.Change n) l.agree (all_asked effective rows caller (OfQuery (asked.OnChange n query)) l.nothing_left).1.0 in
     ap change_in (r.1 ∙ ap Some r.2.1) ∙ rows_tell r.2.0 (change reading h n) (λ part. sym (r.2.2 part))
 
--- no rows of a history show a change that isn't sound
-pub unsound_unshown : ChangesAreSound → (caller n : ℕ) (query : ChangeQuery) (effective : Option File) (rows : Rows) (c : Change) (e : Cause) → change_in (known rows (want.Change n)) ≡ Some c →
-    (e ≡ Memory) ⊎ ((e ≡ Damaged) × (IsSound c → ⊥)) → IsUnshown caller (asked.OnChange n query) effective rows e
-unsound_unshown law caller n query effective rows c e found =
-    ⊎_elim (λ m. subst (λ x. IsUnshown caller (asked.OnChange n query) effective rows x) (sym m) tt)
-    (λ d. subst (λ x. IsUnshown caller (asked.OnChange n query) effective rows x) (sym d.0)
-    (λ reading h history l. d.1 (law reading h n c history l.reads (sym (change_told reading h caller n query effective rows l) ∙ found))))
-
 -- the file that was read is that of the change's project
 pub has_file : (reading : Reading) (h : List Entry) (caller n : ℕ) (effective : Option File) (rows : Rows) (c : Change) → change_in (known rows (want.Change n)) ≡ Some c → AreEnough reading h caller (OfQuery (asked.OnChange n Requirements)) effective rows →
     HasFile (texts_of h c.project) effective
@@ -74,36 +66,26 @@ has_file reading h caller n effective rows c found l =
     (ap (texts_in rows) start
     ∙ texts_told reading h rows l.agree c.project there (subst (λ o. AllByRecursion (λ s. unknown rows s ≡ []) (line_steps rows most_depth (option_and_then (known_parent rows) o))) start line)) l.file_is
 
--- a project that is there has texts
-some_texts : (h : List Entry) (project : List ℕ) → is_project h project ≡ true → texts_of h project ≡ [] → ⊥
-some_texts h project is = by (own_of h project) (sym (there_is h project) ∙ is)
-  where
-    by : (o : Option StoredFile) → is_some o ≡ true → with_above o (line_of (own_of h) 7) ≡ [] → ⊥
-    by None some none = let e : false ≡ true = some in absurd (cc)
-    by (Some f) some none = absurd (cc)
-
 -- no change of a history is of a project without a file
 lacks_file : (caller n : ℕ) (query : ChangeQuery) (effective : Option File) (rows : Rows) (c : Change) → change_in (known rows (want.Change n)) ≡ Some c → LacksFile effective query →
     (reading : Reading) (h : List Entry) → IsHistory h → AreEnough reading h caller (OfQuery (asked.OnChange n query)) effective rows → ⊥
 lacks_file caller n Requirements None rows c found lacks reading h history l =
-    some_texts h c.project (has_project reading h n c history l.reads (sym (change_told reading h caller n Requirements None rows l) ∙ found))
-    (no_text (texts_of h c.project) (has_file reading h caller n None rows c found l))
+    let none = lacks_project h c.project (has_file reading h caller n None rows c found l) in
+    let some = has_project reading h n c history l.reads (sym (change_told reading h caller n Requirements None rows l) ∙ found) in
+    let bad : false ≡ true = sym none ∙ some in
+    absurd (cc)
 lacks_file caller n Requirements (Some f) rows c found lacks reading h history l = lacks
 lacks_file caller n _ (Some f) rows c found lacks reading h history l = lacks
 lacks_file caller n _ None rows c found lacks reading h history l = lacks
 
-pub missing_unshown : (caller n : ℕ) (query : ChangeQuery) (effective : Option File) (rows : Rows) (c : Change) (e : Cause) → change_in (known rows (want.Change n)) ≡ Some c →
-    (e ≡ Memory) ⊎ ((e ≡ Damaged) × LacksFile effective query) → IsUnshown caller (asked.OnChange n query) effective rows e
-missing_unshown caller n query effective rows c e found =
-    ⊎_elim (λ m. subst (λ x. IsUnshown caller (asked.OnChange n query) effective rows x) (sym m) tt)
-    (λ d. subst (λ x. IsUnshown caller (asked.OnChange n query) effective rows x) (sym d.0) (lacks_file caller n query effective rows c found d.1))
-
--- and so is a question that is told nothing for either
+-- no rows of a history show a change that isn't sound, or whose project has no file
 pub untold : ChangesAreSound → (caller n : ℕ) (query : ChangeQuery) (effective : Option File) (rows : Rows) (c : Change) (e : Cause) → change_in (known rows (want.Change n)) ≡ Some c →
     (e ≡ Memory) ⊎ ((e ≡ Damaged) × ((IsSound c → ⊥) ⊎ LacksFile effective query)) → IsUnshown caller (asked.OnChange n query) effective rows e
 untold law caller n query effective rows c e found =
-    ⊎_elim (λ m. unsound_unshown law caller n query effective rows c e found (inl m))
-    (λ d. ⊎_elim (λ u. unsound_unshown law caller n query effective rows c e found (inr (d.0, u))) (λ l. missing_unshown caller n query effective rows c e found (inr (d.0, l))) d.1)
+    ⊎_elim (λ m. subst (λ x. IsUnshown caller (asked.OnChange n query) effective rows x) (sym m) tt)
+    (λ d. subst (λ x. IsUnshown caller (asked.OnChange n query) effective rows x) (sym d.0)
+    (λ reading h history l. ⊎_elim (λ (unsound : IsSound c → ⊥). unsound (law reading h n c history l.reads (sym (change_told reading h caller n query effective rows l) ∙ found)))
+    (λ (lacks : LacksFile effective query). lacks_file caller n query effective rows c found lacks reading h history l) d.1))
 
 -- ==== what the loaded rows tell of the history, for a question about a branch
 

@@ -8,7 +8,7 @@ use Rattle.review_machine_rows.specs.{Files.File, Known.known, Known.change_in, 
 use Rattle.review_machine_rows.specs.{Rows.part_change, Submits.checked_reply}
 use Rattle.review_machine_rows.specs.declared.rows.{ChangeEdit.ChangeEdit, Delta.Delta, Rows.Rows}
 use Rattle.review_machine_accounts.specs.Decisions.{EditsChanges, IsEmpty}
-use Rattle.review_machine_changes.specs.Facts.{setting_in, next_request}
+use Rattle.review_machine_changes.specs.Deltas.{setting_in, next_request}
 use Rattle.review_machine_rows.specs.declared.rows.Want.TheVariants as want
 
 -- the change of a number, as rows know it

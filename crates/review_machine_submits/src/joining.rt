@@ -13,6 +13,7 @@ use review_core_rules::ChangeRows;
 use review_machine_accounts::{branch_of, nothing};
 use review_machine_change_rows::edit_of;
 use review_machine_changes::edits::change_file;
+use review_machine_changes::facts::next_request;
 use review_machine_rows::{ChangeEdit, Delta, Rows, Want};
 use review_words::{ChangeNo, NotTaken};
 use std::alloc::{AllocError, Global};
@@ -97,7 +98,7 @@ pub fn join_chain(
 {
     let last = last_joined(rows, found)?;
     let joined = joins(alloc, chain, last)?;
-    let request = rows.number(&Want::Requests).saturating_add(1);
+    let request = next_request(rows);
     let edits = join_edits(alloc, rows, &joined, request)?;
     let mut delta = nothing(alloc);
     delta.changes = edits;

@@ -1,6 +1,6 @@
 -- What is done with the files of projects.
 use Rattle.std.specs.{Bool.MatchBool, Option.option_map_or}
-use Rattle.std.specs.Prelude.{[], Bool, ◌≡◌, ℕ, List, Some, None, Option, true, ◌∷◌, nat_lt, not, ◌||◌, false, if◌then◌else◌, option_map, is_some, length, MatchOption}
+use Rattle.std.specs.Prelude.{[], Bool, ◌≡◌, ℕ, List, Some, None, Option, true, ◌∷◌, ◌++◌, nat_lt, not, ◌||◌, false, is_some, length}
 use Rattle.review_words.specs.declared.faults.FileFault.TheVariants.{UnknownLabel}
 use Rattle.review_words.specs.declared.reply.{Answer.TheVariants.Nothing, NotTaken.NotTaken as Cause}
 use Rattle.review_words.specs.declared.reply.NotTaken.TheVariants.{Memory, Pattern, Damaged}
@@ -12,7 +12,7 @@ use Rattle.review_file_rules.specs.{Rights.covers, declared.fault.ReadFault.Read
 use Rattle.review_machine_rows.specs.{Answer.is_same_parent, Answer.first_refusal, Files.File, Known.known, Known.is_so}
 use Rattle.review_machine_rows.specs.{Lines.most_depth, Steps.HasFile, Steps.texts_in, Steps.own_in}
 use Rattle.review_machine_rows.specs.declared.rows.{Delta.Delta, Rows.Rows, StoredFile.StoredFile}
-use Rattle.review_machine_accounts.specs.Decisions.{IsEmpty}
+use Rattle.review_machine_accounts.specs.Decisions.{IsDelta, IsEmpty, no_edits}
 use Rattle.review_machine_rows.specs.declared.rows.Want.TheVariants as want
 use Rattle.review_machine_rows.specs.declared.rows.Counted.TheVariants as counted
 use Rattle.review_file_rules.specs.declared.fault.ReadFault.TheVariants as read
@@ -34,21 +34,16 @@ IsReadCause fault Pattern = fault ≡ read.Pattern
 IsReadCause fault _ = ⊥
 
 -- the file of this project is put, and nothing else is done
-pub record PutsFile (project : List ℕ) (file : StoredFile) (delta : Delta) : Type 0 where
-  pub accounts : delta.accounts.items ≡ []
-  pub members : delta.members.items ≡ []
-  pub file_is : delta.file ≡ Some (record { key = project; row = file })
-  pub base : delta.base ≡ None
-  pub changes : delta.changes.items ≡ []
-  pub epoch : delta.least_epoch ≡ None
+abbrev pub PutsFile : List ℕ → StoredFile → Delta → Type 0
+PutsFile project file delta = IsDelta (record no_edits { file = Some (record { key = project; row = file }) }) delta
 
 -- whether a project has this parent, as rows know its file: one that has no file yet may have any
 abbrev pub keeps_parent : Option StoredFile → Option (List ℕ) → Bool
 keeps_parent effective parent = option_map_or (λ f. is_same_parent f.parent parent) effective true
 
--- what refuses a parent, by whether one is named, and how many texts its line has
-abbrev pub parent_refused : Bool → ℕ → Option Refusal
-parent_refused named depth = first_refusal ((not named || nat_lt 0 depth, NoParent) ∷ (nat_lt depth most_depth, ParentDepth) ∷ [])
+-- the checks of the parent that a file names, by whether it names one, and how many texts its line has
+abbrev pub parent_checks : Bool → ℕ → List (Bool × Refusal)
+parent_checks named depth = (not named || nat_lt 0 depth, NoParent) ∷ (nat_lt depth most_depth, ParentDepth) ∷ []
 
 -- the effective file of a project that gets this own file, by that of its parent, if it has one
 abbrev pub heir : Option File → File → File
@@ -58,15 +53,13 @@ heir above own = option_map_or (λ parent. inherit parent own) above own
 abbrev pub has_unknown : Option File → File → Bool
 has_unknown above own = option_map_or (λ parent. inherits_unknown_label parent own) above false
 
--- what refuses a file, by whether it covers the one that the project has, and whether there is room for one more project
-abbrev pub file_refused : Option Bool → Bool → Option Refusal
-file_refused (Some true) room = None
-file_refused (Some false) room = Some LabelNarrowed
-file_refused None room = if room then None else Some Limit
+-- the checks of a new effective file by the one that the project has, if any, and whether there is room for one more project
+abbrev pub kept_checks : Option File → Bool → File → List (Bool × Refusal)
+kept_checks effective room new = (option_map_or (λ f. covers f new) effective true, LabelNarrowed) ∷ (is_some effective || room, Limit) ∷ []
 
--- what refuses a file that keeps the parent, by the effective files of its parent and of the project as it was
-abbrev pub heir_refused : Option File → File → Option File → Bool → Option Refusal
-heir_refused above own effective room = if has_unknown above own then Some (BadFile UnknownLabel) else file_refused (option_map (λ f. covers f (heir above own)) effective) room
+-- the checks of an own file that keeps the project's parent, by the line of the parent and its effective file
+abbrev pub heir_checks : Bool → ℕ → Option File → File → Option File → Bool → List (Bool × Refusal)
+heir_checks named depth above own effective room = parent_checks named depth ++ (not (has_unknown above own), BadFile UnknownLabel) ∷ kept_checks effective room (heir above own)
 
 -- the file is put, or refused
 abbrev pub IsFilePut : Option Refusal → List ℕ → StoredFile → Delta → Reply → Type 0
@@ -76,9 +69,8 @@ IsFilePut (Some refusal) project file delta reply = (reply ≡ Refused refusal) 
 -- a file with this parent is put or refused, by the line of the parent as rows know it
 abbrev pub IsPutBelow : Rows → Option File → List ℕ → StoredFile → File → Delta → Reply → Type 0
 IsPutBelow rows effective project file own delta reply =
-    MatchOption (parent_refused (is_some file.parent) (length (texts_in rows file.parent)))
-    ((above : Option File) × HasFile (texts_in rows file.parent) above × IsFilePut (heir_refused above own effective (room_in rows)) project file delta reply)
-    (λ refusal. IsFilePut (Some refusal) project file delta reply)
+    (above : Option File) × HasFile (texts_in rows file.parent) above
+    × IsFilePut (first_refusal (heir_checks (is_some file.parent) (length (texts_in rows file.parent)) above own effective (room_in rows))) project file delta reply
 
 -- a file is put or refused, by what rows know
 abbrev pub IsPut : Rows → Option File → List ℕ → StoredFile → File → Delta → Reply → Type 0

@@ -19,8 +19,7 @@ next_account-number-requires c =
 pub returns-clause-decided : goal.returns-clause-decided
 returns-clause-decided c = λ reading effective h account l.
     let a = c.args in
-    let made = c.in_ok-delta.ensures in
     create_decided h a.caller a.name.now c.in_ok-delta.delta c.next_account-number.result
     (create_account_told reading h a.caller effective a.rows.now a.name.now account l ∙ (sym c.in_ok-refusal.ensures ∙ c.in_default.is))
     (c.next_account-number.ensures ∙ ap (λ k. k + 1) (c.number.ensures ∙ last_told reading h a.rows.now l.agree (asked_beside h a.caller (CreateAccount a.name.now) a.rows.now l).1.0))
-    made.accounts made.members made.file made.base made.changes made.epoch
+    c.in_ok-delta.ensures.delta

@@ -13,7 +13,6 @@ pub returns-clause-decided : goal.returns-clause-decided
 returns-clause-decided c = λ reading effective h account l.
     let a = c.args in
     let empty = c.nothing-delta.ensures in
-    put_decided h a.caller a.group.now a.members.now a.rows.now
-    (record { accounts = c.nothing-delta.result.accounts; members = c.in_ok-delta.field-0; file = c.nothing-delta.result.file; base = c.nothing-delta.result.base; changes = c.nothing-delta.result.changes; least_epoch = c.nothing-delta.result.least_epoch }) l
+    put_decided h a.caller a.group.now a.members.now a.rows.now _ l
     (put_group_told reading h a.caller effective a.rows.now a.group.now a.members.now account l ∙ (sym c.in_ok-refusal.ensures ∙ c.in_default.is))
-    empty.accounts c.in_ok-delta.ensures.changes empty.file empty.base empty.changes empty.epoch
+    (record { accounts = empty.accounts; members = c.in_ok-delta.ensures.changes; file = empty.file; base = empty.base; changes = empty.changes; epoch = empty.epoch })

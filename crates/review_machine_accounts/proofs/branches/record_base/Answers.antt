@@ -28,8 +28,14 @@ returns-clause-decided c = λ reading effective h account l.
     let place : c.saturating_add-place.result ≡ length (bases h a.project.now a.branch.now) + 1 = let e = c.saturating_add-place.ensures in omega arith in
     let empty = c.nothing-delta.ensures in
     base_decided h a.caller a.project.now a.branch.now a.commit.now c.saturating_add-place.result _ place
-    (record_base_told reading h a.caller effective a.rows.now a.project.now a.branch.now a.commit.now account l ∙ none) empty.accounts empty.members empty.file
-    (λ i. Some (record {
-      key = record { project = (c.in_ok-base.ensures i).project; branch = (c.in_ok-base.ensures i).branch; place = c.saturating_add-place.result };
-      row = (c.in_ok-base.ensures i).commit;
-    })) empty.changes empty.epoch
+    (record_base_told reading h a.caller effective a.rows.now a.project.now a.branch.now a.commit.now account l ∙ none) (record {
+      accounts = empty.accounts;
+      members = empty.members;
+      file = empty.file;
+      base = λ i. Some (record {
+        key = record { project = (c.in_ok-base.ensures i).project; branch = (c.in_ok-base.ensures i).branch; place = c.saturating_add-place.result };
+        row = (c.in_ok-base.ensures i).commit;
+      });
+      changes = empty.changes;
+      epoch = empty.epoch;
+    })

@@ -1,9 +1,9 @@
-use Rattle.std.proofs.Common.{◌≡◌, ◌+◌, ◌∙◌, ap, sym, subst, length, true, arith, option_copied}
+use Rattle.std.proofs.Common.{◌≡◌, ◌+◌, ◌∙◌, ap, sym, subst, length, true, option_copied}
 use Rattle.review_names.specs.Forms.{is_within, most_changes}
-use Rattle.review_machine_rows.proofs.{Asked.requests_are, Common.CreateChange, Common.begun, Common.view}
+use Rattle.review_machine_rows.proofs.Common.{CreateChange, begun}
 use Rattle.review_machine_laws.proofs.{Checked.asked_beside, Checked.create_change_told, Told.last_change_told}
 use Rattle.review_machine_accounts.proofs.Decided.{refused_pair}
-use Rattle.review_machine_changes.proofs.Made.{change_within, first_within, stored_numbers}
+use Rattle.review_machine_changes.proofs.Made.{change_within, first_within, request_is, stored_numbers}
 use Rattle.review_machine_changes.proofs.Told.{create_decided, number_left}
 use Rattle.review_machine_changes.proofs.creating.create_change.Goals as goal
 
@@ -25,12 +25,10 @@ returns-clause-decided c = λ reading h room known l.
     let command = CreateChange a.new.now in
     let passes = create_change_told reading h a.caller (option_copied a.effective) a.rows.now c.one_effective_file.ensures a.new.now known l ∙ (sym c.in_ok-refusal.ensures ∙ c.in_default.is) in
     let number = c.next_change-change.ensures ∙ ap (λ k. k + 1) (c.number.ensures ∙ last_change_told reading h a.rows.now l.agree (asked_beside h a.caller command a.rows.now l).1.0) in
-    let many : c.number-2.result ≡ length h = c.number-2.ensures ∙ requests_are (view reading h) (option_copied a.effective) a.rows.now a.caller command l.agree l.nothing_left in
-    let request : c.saturating_add-request.result ≡ length h + 1 = let e = c.saturating_add-request.ensures in omega arith in
-    let m = c.in_ok-delta.ensures.edits in
-    create_decided reading h a.caller a.new.now c.next_change-change.result c.patch_of-patch.result (begun a.new.now a.caller c.saturating_add-request.result) c.in_ok-edit.edit c.in_ok-delta.delta
+    let request : c.next_request-request.result ≡ length h + 1 = c.next_request-request.ensures ∙ request_is reading h a.caller command (option_copied a.effective) a.rows.now room l in
+    create_decided reading h a.caller a.new.now c.next_change-change.result c.patch_of-patch.result (begun a.new.now a.caller c.next_request-request.result) c.in_ok-edit.edit c.in_ok-delta.delta
     passes number c.patch_of-patch.ensures (λ i. begun a.new.now a.caller (request i)) c.in_ok-edit.ensures.change c.in_ok-edit.ensures.becomes
-    m.accounts m.members m.file m.base m.changes m.epoch
+    c.in_ok-delta.ensures.edits
 
 pub returns-clause-once : goal.returns-clause-once
 returns-clause-once c = c.in_ok-delta.ensures.once c.in_ok-edit.ensures.once

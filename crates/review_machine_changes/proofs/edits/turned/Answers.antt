@@ -1,6 +1,6 @@
 use Rattle.std.proofs.Common.{[], ◌∷◌}
 use Rattle.review_machine_rows.proofs.Common.{IfOk-weaker, NamesEachOnce, NamesRowsOnce, after_edits, seen}
-use Rattle.{review_machine_accounts.specs.Decisions.EditsChanges, review_machine_changes.specs.Facts.MakesChange}
+use Rattle.{review_machine_accounts.specs.Decisions.EditsChanges, review_machine_changes.specs.Deltas.MakesChange}
 use Rattle.review_machine_changes.proofs.edits.turned.Goals as goal
 
 pub returns-clause-made : goal.returns-clause-made

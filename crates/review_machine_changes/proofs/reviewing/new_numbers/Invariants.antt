@@ -1,4 +1,4 @@
-use Rattle.{std.proofs.Common.◌≡◌, review_machine_changes.specs.inner.Facts.next_numbers}
+use Rattle.{std.proofs.Common.◌≡◌, review_machine_changes.specs.inner.Done.next_numbers}
 use Rattle.review_machine_changes.proofs.reviewing.new_numbers.Given as goal
 
 abbrev pub invariant-loop-index : goal.invariant-loop-index

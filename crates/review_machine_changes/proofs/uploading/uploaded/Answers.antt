@@ -1,26 +1,21 @@
-use Rattle.std.proofs.Common.{◌≡◌, ◌∙◌, ◌+◌, ℕ, Bor, ap, subst, length, min}
+use Rattle.std.proofs.Common.{◌≡◌, ◌∙◌, ◌+◌, ℕ, Bor, ap, subst, length}
 use Rattle.review_words.specs.declared.command.ChangeCommand.TheVariants.{Upload as UploadOf}
 use Rattle.review_machine_rows.proofs.Common.{Change, ChangeRows, Done, Patch, after, seen}
 use Rattle.review_machine_changes.proofs.Made.{draft_sound, made_of}
-use Rattle.review_machine_changes.specs.Facts.{MakesChange, next_request, setting_in}
+use Rattle.review_machine_changes.specs.Deltas.{MakesChange, setting_in}
 use Rattle.review_machine_changes.proofs.uploading.uploaded.Goals as goal
 
 pub turned-requires : goal.turned-requires
-turned-requires c =
-    let a = c.args in
-    let rows = a.file.now.rows.now in
-    draft_sound rows (after (setting_in a.project.now a.rows.now) (UploadOf a.patch.now) a.caller c.saturating_add-request.result (seen rows)) c.in_ok-edited.edited c.in_ok-edited.ensures.change
+turned-requires c = draft_sound c.in_ok-edited.ensures.change
 
 pub returns-clause-made : goal.returns-clause-made
 returns-clause-made c =
     let a = c.args in
     let rows = a.file.now.rows.now in
     let new : ℕ → Change = λ n. after (setting_in a.project.now a.rows.now) (UploadOf a.patch.now) a.caller n (seen rows) in
-    let request : c.saturating_add-request.result ≡ next_request a.rows.now = c.saturating_add-request.ensures ∙ ap (λ n. min (n + 1) 18446744073709551615) c.number.ensures in
     let count : c.len.result ≡ length rows.patches.items = c.len.ensures ∙ c.rows.result.now.patches.ok.0 ∙ ap (λ (r : Bor ChangeRows). length r.now.patches.items) c.rows.ensures.same in
     record {
-      made = subst (λ n. MakesChange a.change (seen rows) (new n) c.in_ok-delta.delta) request
-          (made_of a.change rows (new c.saturating_add-request.result) c.in_ok-edited.edited c.in_ok-delta.delta c.in_ok-edited.ensures.change c.in_ok-delta.ensures.made);
+      made = subst (λ n. MakesChange a.change (seen rows) (new n) c.in_ok-delta.delta) c.next_request-request.ensures (made_of a.change c.in_ok-delta.delta c.in_ok-edited.ensures.change c.in_ok-delta.ensures.made);
       copied = c.in_ok-edited.counts.copied;
       outdated = c.in_ok-edited.counts.outdated;
       many_copied = c.in_ok-edited.ensures.copied;

@@ -2,7 +2,7 @@ use Rattle.std.proofs.Common.{IfOk, subst}
 use Rattle.review_words.specs.declared.{changes.NewPatch.NewPatch, command.ChangeCommand.TheVariants.Upload as UploadOf}
 use Rattle.review_core_rules.specs.Change.{after, carried, copying, is_lost}
 use Rattle.review_core_rules.specs.{Counts.AreMany, EditedChanges.Makes, Seen.seen, Votes.voted}
-use Rattle.review_machine_changes.specs.Facts.{setting_in}
+use Rattle.review_machine_changes.specs.Deltas.{setting_in}
 use Rattle.review_machine_changes.proofs.uploading.with_patch.Goals as goal
 
 pub returns-clause-change : goal.returns-clause-change

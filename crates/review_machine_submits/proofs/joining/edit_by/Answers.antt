@@ -4,10 +4,7 @@ use Rattle.review_machine_changes.proofs.Made.{draft_sound}
 use Rattle.review_machine_submits.proofs.joining.edit_by.Goals as goal
 
 pub edit_of-requires : goal.edit_of-requires
-edit_of-requires c =
-    let a = c.args in
-    let rows = a.file.now.rows.now in
-    record { sound = draft_sound rows (joined_at a.place a.request (seen rows)) c.in_ok-edited.edited c.in_ok-edited.ensures }
+edit_of-requires c = record { sound = draft_sound c.in_ok-edited.ensures }
 
 pub returns-clause-becomes : goal.returns-clause-becomes
 returns-clause-becomes c =

@@ -1,12 +1,11 @@
--- What rows tell of a command on a change.
-use Rattle.std.specs.Prelude.{[], ℕ, List, ◌≡◌, ◌∷◌, None, ◌+◌, min, Option, Some}
-use Rattle.{review_table.specs.Rows.after_row_edit, review_words.specs.declared.reply.Refusal.Refusal}
-use Rattle.review_core_rules.specs.{Change.Change, Change.Setting, Parts.Part, Parts.part_row, Seen.seen}
+-- What a request on a change is judged by, and the delta that makes of the change another.
+use Rattle.std.specs.Prelude.{[], ℕ, ◌≡◌, ◌∷◌, ◌+◌, min}
+use Rattle.review_table.specs.Rows.{after_row_edit}
+use Rattle.review_core_rules.specs.{Change.Change, Change.Setting, Parts.Part, Parts.part_row}
 use Rattle.review_core_tables.specs.Copies.{group_list}
 use Rattle.review_machine_rows.specs.{Files.File, Known.known, Known.number_of, Rows.part_change}
 use Rattle.review_machine_rows.specs.declared.rows.{ChangeEdit.ChangeEdit, Delta.Delta, Rows.Rows}
 use Rattle.review_machine_accounts.specs.Decisions.{EditsChanges}
-use Rattle.review_machine_changes.specs.declared.edits.Checked.{Checked, TheVariants.Passes, TheVariants.Fails}
 use Rattle.review_machine_rows.specs.declared.rows.Want.TheVariants as want
 
 -- one more, up to the greatest value of its type
@@ -23,8 +22,3 @@ pub record MakesChange (n : ℕ) (before new : Change) (delta : Delta) : Type 0 
 -- what the requests on a project's changes are judged by: its file, and the groups that rows know
 abbrev pub setting_in : File → Rows → Setting
 setting_in file rows = record { file = file; groups = group_list rows.groups }
-
--- the checks of a request come to this, where the first that fails refuses so and its change is this one
-abbrev pub IsChecked : Option Refusal → Change → Checked → Type 0
-IsChecked why c (Passes file) = (why ≡ None) × (seen file.rows.now ≡ c)
-IsChecked why c (Fails refusal) = why ≡ Some refusal
