@@ -3,8 +3,7 @@ use Rattle.std.proofs.Common.{◌≡◌, ℕ, Option, Some, None, Result, Ok, Er
 use Rattle.review_core_rules.specs.Parts.{TheHeader, PatchOf, VoteOf, RoleOf, CommentOf, AttentionOf, AHeader, APatch, ARole, AComment, AnAttentionEntry}
 use Rattle.review_machine_rows.proofs.Common.{ChangeRows, CommentRow, PatchRow, VoteKey, of_number, row_in, rows_of, seen, vote_cmp, vote_row}
 use Rattle.review_machine_change_rows.proofs.Edited.{vote_is}
-use Rattle.review_machine_change_rows.specs.Tables.{HaveFault, Show}
-use Rattle.review_machine_change_rows.specs.declared.loading.ChangeFault.{ChangeFault}
+use Rattle.review_machine_change_rows.specs.{Tables.HaveFault, Tables.Show, declared.loading.ChangeFault.ChangeFault}
 use Rattle.review_machine_change_rows.specs.declared.loading.ChangeFault.TheVariants.{Memory, Gap}
 use Rattle.review_machine_change_rows.specs.declared.tables.ChangeTables.{ChangeTables}
 use Rattle.review_machine_change_rows.specs.inner.Words.{AreInOrder, IsGap}
