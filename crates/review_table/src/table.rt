@@ -215,12 +215,9 @@ impl<K: Key, V: Drop> Table<K, V> {
         ensures stay { (q : K) → has_place K.cmp self.new q ≡ has_place K.cmp self.old q }
         ensures each { (q : K) → place_at K.cmp self.new q ≡ option_map (λ was. if is_at (K.cmp key) q then None else was) (place_at K.cmp self.old q) }
     {
-        if !self.places.contains_key(&key) {
-            return None;
-        }
-        match self.places.insert(key, None) {
-            Ok(Some(row)) => row,
-            Ok(None) | Err(_) => None,
+        match self.places.get_mut(&key) {
+            Some(place) => place.take(),
+            None => None,
         }
     }
 
@@ -295,7 +292,7 @@ impl<K: Key, V: Drop> Table<K, V> {
     pub fn into_rows(self, alloc: Global) -> Result<Vec<(K, V)>, AllocError>
         ensures { IfOk result (λ rows. rows.items ≡ rows_of self) }
     {
-        let mut rows = Vec::new(alloc);
+        let mut rows = Vec::with_capacity(alloc, self.places.len())?;
         for (key, place) in self.places {
             if let Some(row) = place {
                 rows.push((key, row))?;
@@ -310,7 +307,7 @@ impl<K: Key, V: Drop> Table<K, V> {
         ensures sorted { IsStrictlySortedBy K.cmp (keys_of (rows_of self.now)) }
     {
         self.once();
-        let mut rows = Vec::new(alloc);
+        let mut rows = Vec::with_capacity(alloc, self.places.len())?;
         for (key, place) in &self.places {
             if let Some(row) = place {
                 rows.push((key, row))?;
@@ -402,37 +399,14 @@ impl<K: Key, V: Drop> Table<K, V> {
     }
 }
 
-/// Places that hold these rows.
-fn filled<K: Drop, V: Drop>(
-    alloc: Global,
-    rows: Vec<(K, V)>,
-) -> Result<Vec<(K, Option<V>)>, AllocError>
-    ensures { IfOk result (λ places. places.items ≡ map place_of rows.items) }
-{
-    let mut places = Vec::new(alloc);
-    for (key, row) in rows {
-        places.push((key, Some(row)))?;
-    }
-    Ok(places)
-}
-
-/// The map of these places. Of those with one key it has the last.
-fn map_from<K: Key, V: Drop>(
-    alloc: Global,
-    places: Vec<(K, Option<V>)>,
-) -> Result<BTreeMap<K, Option<V>>, AllocError>
-    ensures { IfOk result (IsFromIterResult K.cmp places.items) }
-{
-    places.into_iter().collect(alloc)
-}
-
-/// The map of the places that hold these rows.
+/// The map of the places that hold these rows. Of those with one key it has the last.
 fn map_of<K: Key, V: Drop>(
     alloc: Global,
     rows: Vec<(K, V)>,
 ) -> Result<BTreeMap<K, Option<V>>, AllocError>
     ensures { IfOk result (IsFromIterResult K.cmp (map place_of rows.items)) }
 {
-    let places = filled(alloc, rows)?;
-    map_from(alloc, places)
+    rows.into_iter()
+        .map(|(key, row)| (key, Some(row)))
+        .collect(alloc)
 }
