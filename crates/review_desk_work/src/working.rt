@@ -203,7 +203,13 @@ fn do_task<R: Read, W: Write, C: Connections, N: Notices, S: Shelf, O: Origin, D
         Task::Apply => {
             lines_outcome(apply_lines(alloc, &mut ends.input, &mut ends.output, shelf, rules))
         }
-        Task::Serve { count } => serve_on_shelf(alloc, &mut ends.connections, *count, shelf, rules),
+        Task::Serve { count } => match PathTable::new(alloc) {
+            Ok(paths) => {
+                let connections = &mut ends.connections;
+                serve_outcome(serve_connections(alloc, &paths, connections, *count, shelf, rules))
+            }
+            Err(_) => Err(ProgramFault::Memory),
+        },
         Task::Show { change } => {
             shown_outcome(show_lines(alloc, shelf, rules, *change, &mut ends.output))
         }
@@ -211,25 +217,6 @@ fn do_task<R: Read, W: Write, C: Connections, N: Notices, S: Shelf, O: Origin, D
             shown_outcome(joined_lines(alloc, shelf, rules, project, branch, &mut ends.output))
         }
     }
-}
-
-fn serve_on_shelf<C: Connections, S: Shelf, D: Rules>(
-    alloc: Global,
-    connections: &mut C,
-    count: u32,
-    shelf: &mut S,
-    rules: &mut D,
-) -> Result<Outcome, ProgramFault>
-    requires idle { C.is_idle connections.old ≡ true }
-    ensures served { let before : Peers = record { coming = C.coming connections.old; told = C.told connections.old } in
-        let after : Peers = record { coming = C.coming connections.new; told = C.told connections.new } in
-        ((result ≡ Err ProgramFault.Memory) × (shelf.new ≡ shelf.old) × (after ≡ before)) ⊎ EndsServed S.state count before after result shelf.old shelf.new }
-    ensures idle { C.is_idle connections.new ≡ true }
-{
-    let Ok(paths) = PathTable::new(alloc) else {
-        return Err(ProgramFault::Memory);
-    };
-    serve_outcome(serve_connections(alloc, &paths, connections, count, shelf, rules))
 }
 
 fn serve_outcome(served: Result<u32, ConnectionsFault>) -> Result<Outcome, ProgramFault>

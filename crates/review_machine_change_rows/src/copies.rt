@@ -107,6 +107,9 @@ pub fn copied_table<K: Key, V: Copied>(
 ) -> Result<Table<K, V>, AllocError>
     ensures { IfOk result (λ t. (q : K) → row_in K.cmp (rows_of t) q ≡ row_in K.cmp (rows_of table.now) q) }
 {
+    if table.last_key().is_none() {
+        return Ok(Table::new(alloc));
+    }
     let copies = copied_rows(alloc, table)?;
     match Table::from_vec(alloc, copies) {
         Ok(copy) => Ok(copy),

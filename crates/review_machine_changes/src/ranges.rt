@@ -1,9 +1,9 @@
 //! Values on labels.
 ghost use Rattle.std.specs.{List.list_all, List.list_any, Ordering.int_eq};
-ghost use Rattle.std.specs.Prelude.{◌≡◌, Some, ◌&&◌, IfOk, int_le, is_some, filter};
-ghost use Rattle.review_file_rules.specs.Rights.{greatest_of, least_of};
+ghost use Rattle.std.specs.Prelude.{◌≡◌, Some, ◌&&◌, IfOk, is_some};
 ghost use Rattle.review_core_rules.specs.Change.{label_in};
 ghost use Rattle.review_machine_rows.specs.{Answer.is_in_range, Answer.is_value_of, Desks.facts_by, Desks.in_rows};
+ghost use Rattle.review_machine_changes.specs.inner.Done.{reaches};
 
 use crate::facts::is_in;
 use review_file::{Grant, Label, ProjectFile, grants_of};
@@ -65,38 +65,36 @@ fn is_in_range(
 ) -> Result<bool, AllocError>
     ensures { IfOk result (λ b. b ≡ is_in_range (facts_by rows.now (Some file.now)) file.now account given.now) }
 {
-    let grants = grants_of(file, &given.label);
-    let least = least_in(rows, account, grants)?;
-    let greatest = greatest_in(rows, account, grants)?;
-    Ok(lies_within(given.value, least, greatest))
+    if given.value == 0 {
+        return Ok(true);
+    }
+    is_granted(rows, account, grants_of(file, &given.label), given.value)
 }
 
-fn lies_within(value: i8, least: i8, greatest: i8) -> bool
-    ensures { result ≡ (int_le least value && int_le value greatest) }
+// Whether the range of a grant reaches from 0 to a value.
+fn reaches(grant: &Grant, value: i8) -> bool
+    ensures { result ≡ reaches value grant.now }
 {
-    least <= value && value <= greatest
+    if value < 0 {
+        grant.least <= value
+    } else {
+        value <= grant.greatest
+    }
 }
 
-fn least_in(rows: &Rows, account: AccountNo, grants: &[Grant]) -> Result<i8, AllocError>
-    ensures { IfOk result (λ n. n ≡ least_of (filter (λ x. in_rows rows.now account x.group) grants.now)) }
+// Whether a grant to a group of an account reaches to a value.
+fn is_granted(
+    rows: &Rows,
+    account: AccountNo,
+    grants: &[Grant],
+    value: i8,
+) -> Result<bool, AllocError>
+    ensures { IfOk result (λ b. b ≡ list_any (λ g. reaches value g && in_rows rows.now account g.group) grants.now) }
 {
-    let mut least = 0;
     for grant in grants {
-        if is_in(rows, account, &grant.group)? {
-            least = least.min(grant.least);
+        if reaches(grant, value) && is_in(rows, account, &grant.group)? {
+            return Ok(true);
         }
     }
-    Ok(least)
-}
-
-fn greatest_in(rows: &Rows, account: AccountNo, grants: &[Grant]) -> Result<i8, AllocError>
-    ensures { IfOk result (λ n. n ≡ greatest_of (filter (λ x. in_rows rows.now account x.group) grants.now)) }
-{
-    let mut greatest = 0;
-    for grant in grants {
-        if is_in(rows, account, &grant.group)? {
-            greatest = greatest.max(grant.greatest);
-        }
-    }
-    Ok(greatest)
+    Ok(false)
 }

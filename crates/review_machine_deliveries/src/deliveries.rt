@@ -256,7 +256,7 @@ fn store<S: Shelf>(
     ensures counted { CountsFaults result (S.state shelf.old).faults (S.state shelf.new).faults }
 {
     let kept = kept_for(alloc, caller, epoch, id, decided, content)?;
-    shelf.commit(alloc, &decided.delta, &kept)
+    shelf.commit(alloc, &decided.delta, kept)
 }
 
 // What is stored of a request that was decided.

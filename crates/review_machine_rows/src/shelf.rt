@@ -80,14 +80,14 @@ pub trait Shelf {
         ensures counted { CountsFaults result (state self.old).faults (state self.new).faults };
 
     /// Applies the delta and stores the request, and where the delta names an epoch makes it the least open one and gives up the kept answers of lower ones; or changes nothing.
-    fn commit(&mut self, alloc: Global, delta: &Delta, kept: &Kept) -> Result<(), ShelfFault>
+    fn commit(&mut self, alloc: Global, delta: &Delta, kept: Kept) -> Result<(), ShelfFault>
         ensures honest { (state self.new).is_honest → (state self.old).is_honest }
-        ensures done { (state self.new).is_honest → OnOk result (Shows (state self.old).tables (λ t. Shows (state self.new).tables (IsCommitted t delta.now (kept_row kept.now)))) }
+        ensures done { (state self.new).is_honest → OnOk result (Shows (state self.old).tables (λ t. Shows (state self.new).tables (IsCommitted t delta.now (kept_row kept)))) }
         ensures alone { (state self.new).is_honest → OnOk result (StopLeavesOwnTables (state self.new)) }
         ensures undone { (state self.new).is_honest → LeavesUndone result (state self.old).tables (state self.new).tables }
         ensures damaged { (state self.new).is_honest → BlamesTables result (state self.old).tables }
         ensures stops { (state self.new).is_honest → (t : Tables) → (state self.new).stops t →
-            (state self.old).stops t ⊎ Shows (state self.old).tables (λ was. IsCommitted was delta.now (kept_row kept.now) t) }
+            (state self.old).stops t ⊎ Shows (state self.old).tables (λ was. IsCommitted was delta.now (kept_row kept) t) }
         ensures counted { CountsFaults result (state self.old).faults (state self.new).faults };
 
     fn faults(&self) -> u64

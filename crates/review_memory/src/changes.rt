@@ -82,20 +82,21 @@ fn copied_file(
 }
 
 /// The answer of a stored request, under its identity.
-pub fn stored(kept: &Kept) -> Result<Put<AnswerKey, StoredAnswer>, AllocError>
-    ensures { IfOk result (PutsAnswer kept.now) }
+pub fn stored(kept: Kept) -> Put<AnswerKey, StoredAnswer>
+    ensures { PutsAnswer kept result }
 {
-    let key = AnswerKey {
-        epoch: kept.epoch,
-        caller: kept.caller,
-        id: kept.id.copy()?,
-    };
-    let row = StoredAnswer {
-        request: kept.request,
-        content: kept.content.clone()?,
-        reply: kept.reply.clone()?,
-    };
-    Ok(Put { key, row })
+    Put {
+        key: AnswerKey {
+            epoch: kept.epoch,
+            caller: kept.caller,
+            id: kept.id,
+        },
+        row: StoredAnswer {
+            request: kept.request,
+            content: kept.content,
+            reply: kept.reply,
+        },
+    }
 }
 
 /// The names that accounts have before they change, each with its account.

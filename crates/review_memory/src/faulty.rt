@@ -103,14 +103,14 @@ impl<T: Shelf> Shelf for FaultyShelf<T> {
         self.inner.load(alloc, need)
     }
 
-    fn commit(&mut self, alloc: Global, delta: &Delta, kept: &Kept) -> Result<(), ShelfFault>
+    fn commit(&mut self, alloc: Global, delta: &Delta, kept: Kept) -> Result<(), ShelfFault>
         ensures honest { (faulty T.state self.new).is_honest → (faulty T.state self.old).is_honest }
-        ensures done { (faulty T.state self.new).is_honest → OnOk result (Shows (faulty T.state self.old).tables (λ t. Shows (faulty T.state self.new).tables (IsCommitted t delta.now (kept_row kept.now)))) }
+        ensures done { (faulty T.state self.new).is_honest → OnOk result (Shows (faulty T.state self.old).tables (λ t. Shows (faulty T.state self.new).tables (IsCommitted t delta.now (kept_row kept)))) }
         ensures alone { (faulty T.state self.new).is_honest → OnOk result (StopLeavesOwnTables (faulty T.state self.new)) }
         ensures undone { (faulty T.state self.new).is_honest → LeavesUndone result (faulty T.state self.old).tables (faulty T.state self.new).tables }
         ensures damaged { (faulty T.state self.new).is_honest → BlamesTables result (faulty T.state self.old).tables }
         ensures stops { (faulty T.state self.new).is_honest → (t : Tables) → (faulty T.state self.new).stops t →
-            (faulty T.state self.old).stops t ⊎ Shows (faulty T.state self.old).tables (λ was. IsCommitted was delta.now (kept_row kept.now) t) }
+            (faulty T.state self.old).stops t ⊎ Shows (faulty T.state self.old).tables (λ was. IsCommitted was delta.now (kept_row kept) t) }
         ensures counted { CountsFaults result (faulty T.state self.old).faults (faulty T.state self.new).faults }
         ensures in_turn { FailsInTurn T.state self.old result self.new }
     {

@@ -60,7 +60,7 @@ impl Shelf for MemoryShelf {
         self.tables.load(alloc, need)
     }
 
-    fn commit(&mut self, alloc: Global, delta: &Delta, kept: &Kept) -> Result<(), ShelfFault> {
+    fn commit(&mut self, alloc: Global, delta: &Delta, kept: Kept) -> Result<(), ShelfFault> {
         // No history is that long.
         if self.tables.requests == u64::MAX {
             return Err(ShelfFault::Damaged);

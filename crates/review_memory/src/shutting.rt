@@ -98,14 +98,14 @@ impl<T: Shelf> Shelf for ShuttingShelf<T> {
         }
     }
 
-    fn commit(&mut self, alloc: Global, delta: &Delta, kept: &Kept) -> Result<(), ShelfFault>
+    fn commit(&mut self, alloc: Global, delta: &Delta, kept: Kept) -> Result<(), ShelfFault>
         ensures honest { (shutting T.state self.new).is_honest → (shutting T.state self.old).is_honest }
-        ensures done { (shutting T.state self.new).is_honest → OnOk result (Shows (shutting T.state self.old).tables (λ t. Shows (shutting T.state self.new).tables (IsCommitted t delta.now (kept_row kept.now)))) }
+        ensures done { (shutting T.state self.new).is_honest → OnOk result (Shows (shutting T.state self.old).tables (λ t. Shows (shutting T.state self.new).tables (IsCommitted t delta.now (kept_row kept)))) }
         ensures alone { (shutting T.state self.new).is_honest → OnOk result (StopLeavesOwnTables (shutting T.state self.new)) }
         ensures undone { (shutting T.state self.new).is_honest → LeavesUndone result (shutting T.state self.old).tables (shutting T.state self.new).tables }
         ensures damaged { (shutting T.state self.new).is_honest → BlamesTables result (shutting T.state self.old).tables }
         ensures stops { (shutting T.state self.new).is_honest → (t : Tables) → (shutting T.state self.new).stops t →
-            (shutting T.state self.old).stops t ⊎ Shows (shutting T.state self.old).tables (λ was. IsCommitted was delta.now (kept_row kept.now) t) }
+            (shutting T.state self.old).stops t ⊎ Shows (shutting T.state self.old).tables (λ was. IsCommitted was delta.now (kept_row kept) t) }
         ensures counted { CountsFaults result (shutting T.state self.old).faults (shutting T.state self.new).faults }
         ensures in_turn { ShutsInTurn T.state self.old result (after_call self.old.turn) self.new }
     {

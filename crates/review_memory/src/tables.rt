@@ -95,14 +95,14 @@ impl MemoryTables {
     }
 
     /// Applies a delta and stores its request, or changes no row; where the delta names an epoch, what is kept of lower ones is given up then.
-    pub fn commit(&mut self, alloc: Global, delta: &Delta, kept: &Kept) -> Result<(), AllocError>
+    pub fn commit(&mut self, alloc: Global, delta: &Delta, kept: Kept) -> Result<(), AllocError>
         requires sound { IsSound self.old }
         requires room { self.old.requests < 2 ^ 64 - 1 }
         ensures sound { IsSound self.new }
-        ensures done { OnOk result (IsCommitted (tables_of (desk_of self.old)) delta.now (kept_row kept.now) (tables_of (desk_of self.new))) }
+        ensures done { OnOk result (IsCommitted (tables_of (desk_of self.old)) delta.now (kept_row kept) (tables_of (desk_of self.new))) }
         ensures same { OnErr result (tables_of (desk_of self.new) ≡ tables_of (desk_of self.old)) }
     {
-        let lower = lower_keys(alloc, &self.answers, delta.least_epoch, kept)?;
+        let lower = lower_keys(alloc, &self.answers, delta.least_epoch, &kept)?;
         self.commit_beside(alloc, delta, kept)?;
         self.give_up(delta.least_epoch, &lower);
         Ok(())
@@ -121,18 +121,18 @@ impl MemoryTables {
     }
 
     /// Applies a delta but for its epoch and stores its request, or changes no row. Places that got no row are given back.
-    fn commit_beside(&mut self, alloc: Global, delta: &Delta, kept: &Kept) -> Result<(), AllocError>
+    fn commit_beside(&mut self, alloc: Global, delta: &Delta, kept: Kept) -> Result<(), AllocError>
         requires sound { IsSound self.old }
         requires room { self.old.requests < 2 ^ 64 - 1 }
         ensures sound { IsSound self.new }
-        ensures done { OnOk result (IsCommitted (tables_of (desk_of self.old)) (beside_epoch delta.now) (kept_row kept.now) (tables_of (desk_of self.new))) }
+        ensures done { OnOk result (IsCommitted (tables_of (desk_of self.old)) (beside_epoch delta.now) (kept_row kept) (tables_of (desk_of self.new))) }
         ensures same { OnErr result (tables_of (desk_of self.new) ≡ tables_of (desk_of self.old)) }
     {
         let held = names_held(alloc, &self.accounts, &delta.accounts)?;
         let given = names_given(alloc, &delta.accounts)?;
         let changes = Changes::new(alloc, delta, &self.changes)?;
-        let answer = stored(kept)?;
         let projects = self.projects_with(&delta.file);
+        let answer = stored(kept);
         self.make(alloc, &given, changes, projects, &delta.base, answer)?;
         self.release_removed(delta);
         self.drop_given(&delta.accounts, &given);

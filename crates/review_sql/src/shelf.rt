@@ -331,13 +331,13 @@ impl<S: Alter, O: Origin> Shelf for SqlShelf<S, O> {
         }
     }
 
-    fn commit(&mut self, alloc: Global, delta: &Delta, kept: &Kept) -> Result<(), ShelfFault> {
+    fn commit(&mut self, alloc: Global, delta: &Delta, kept: Kept) -> Result<(), ShelfFault> {
         let numbers = self.numbers;
         let Some(more) = numbers.with_request(delta.least_epoch) else {
             return Err(refuse(&mut self.faults));
         };
         let _live = self.conn.schema();
-        match transact(&mut self.conn, alloc, delta, kept, &numbers) {
+        match transact(&mut self.conn, alloc, delta, &kept, &numbers) {
             Ok(()) => {
                 let _settled = self.conn.is_autocommit();
                 self.numbers = more;

@@ -1,10 +1,10 @@
 -- What a request on a change that no check refuses makes of it, and its answer: words that only proofs and private clauses use.
-use Rattle.std.specs.Prelude.{[], Bool, true, false, Option, Some, None, ℕ, List, ◌∷◌, ◌+◌, length, zero, suc, ◌≡◌, unwrap_or}
+use Rattle.std.specs.Prelude.{[], Bool, true, false, Option, Some, None, ℕ, ℤ, pos, List, ◌∷◌, ◌+◌, length, zero, suc, ◌≡◌, unwrap_or, int_le, int_lt, if◌then◌else◌}
 use Rattle.review_words.specs.declared.changes.{NewPatch.NewPatch, Review.Review as ReviewOf}
 use Rattle.review_words.specs.declared.command.ChangeCommand.{ChangeCommand, TheVariants.Review, TheVariants.Upload}
 use Rattle.review_words.specs.declared.reply.Answer.TheVariants.{Nothing, Patch, Reviewed}
 use Rattle.review_words.specs.declared.reply.Reply.{Reply, TheVariants.Done}
-use Rattle.review_file_rules.specs.Inherited.{no_file}
+use Rattle.review_file_rules.specs.{Inherited.no_file, declared.parts.Grant.Grant}
 use Rattle.review_core_rules.specs.Change.{Change, after, after_plain, carried, copying, current, is_lost, said}
 use Rattle.review_core_rules.specs.{Counts.AreMany, Votes.voted}
 use Rattle.review_machine_rows.specs.{Files.File, Steps.needs_file, declared.rows.Delta.Delta, declared.rows.Rows.Rows}
@@ -20,6 +20,10 @@ is_plain _ = true
 abbrev pub lacks_file : Option File → ChangeCommand → Bool
 lacks_file None request = needs_file request
 lacks_file (Some file) request = false
+
+-- the range of a grant reaches from 0 to a value
+abbrev pub reaches : ℤ → Grant → Bool
+reaches value g = if int_lt value (pos 0) then int_le g.least value else int_le value g.greatest
 
 -- so many numbers after one
 abbrev pub next_numbers : ℕ → ℕ → List ℕ

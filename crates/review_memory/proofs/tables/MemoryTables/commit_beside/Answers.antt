@@ -73,9 +73,9 @@ returns-clause-sound c = record {
 
 pub returns-clause-done : goal.returns-clause-done
 returns-clause-done c =
-    subst (λ d. IsCommitted (tables_of (desk_of c.args.self.now)) (beside_epoch c.args.delta.now) (kept_row c.args.kept.now) (tables_of d)) (sym (same_desk c))
-    (committed c.args.delta.now c.args.kept.now c.in_ok-changes.changes c.projects_with-projects.result c.in_ok-answer.answer (desk_of c.args.self.now) (desk_of c.make.new.self)
-    c.in_ok-changes.ensures.copied c.in_ok-changes.ensures.edits c.in_ok-answer.ensures c.in_ok-make.ensures.done c.in_ok-make.ensures.based c.in_ok-make.ensures.stored c.projects_with-projects.ensures)
+    subst (λ d. IsCommitted (tables_of (desk_of c.args.self.now)) (beside_epoch c.args.delta.now) (kept_row c.args.kept) (tables_of d)) (sym (same_desk c))
+    (committed c.args.delta.now c.args.kept c.in_ok-changes.changes c.projects_with-projects.result c.stored-answer.result (desk_of c.args.self.now) (desk_of c.make.new.self)
+    c.in_ok-changes.ensures.copied c.in_ok-changes.ensures.edits c.stored-answer.ensures c.in_ok-make.ensures.done c.in_ok-make.ensures.based c.in_ok-make.ensures.stored c.projects_with-projects.ensures)
 
 pub returns-in_err-make-clause-same : goal.returns-in_err-make-clause-same
 returns-in_err-make-clause-same c =
