@@ -10,17 +10,46 @@ ghost use Rattle.review_machine_rows.specs.declared.rows.Want.TheVariants as wan
 
 use review_file::ProjectFile;
 use review_file_lines::FileMemo;
-use review_machine_accounts::{close_epoch, create_account, put_group, record_base};
+use review_machine_accounts::{close_epoch, create_account, put_group, record_base, refused};
 use review_machine_changes::{create_change, on_change};
 use review_machine_needs::put_project;
-use review_machine_rows::{Delta, Rows};
+use review_machine_rows::{Delta, Rows, Want};
 use review_machine_submits::submit;
-use review_words::{AccountNo, Command, Epoch, NotTaken, Reply};
+use review_words::{AccountNo, Command, Epoch, NotTaken, Refusal, Reply};
 use std::alloc::Global;
 
-/// The reply to a command of an account and what it changes, by this effective file of its project. The first check that fails refuses, in the order of
-/// the command's checks; a refusal changes nothing, and each key is named once. What is said of the epoch and of errors is that of `Rules`.
-pub(crate) fn decide_for(
+/// The reply to a command and what it changes, by this effective file of its project. The first check that fails refuses, in the order of the
+/// command's checks; a refusal changes nothing, and each key is named once.
+///
+/// A least open epoch is named just where a CloseEpoch is accepted: the one that it names, which isn't beyond that of the request and is above the
+/// one that rows tell. An error is want of memory; Pattern, where the engine refuses a pattern in the file that is put or in one that it goes on
+/// from; or Damaged, where the rows are those of no history. Files that are read are remembered; no answer depends on which are.
+pub fn decide(
+    alloc: Global,
+    memo: &mut FileMemo,
+    effective: Option<&ProjectFile>,
+    rows: &Rows,
+    caller: AccountNo,
+    epoch: Epoch,
+    command: &Command,
+) -> Result<(Delta, Reply), NotTaken>
+    ensures decided { IfOk result (λ r. (reading : Reading) (h : List Entry) → length h < most_requests → RestsOn (OfCommand command.now) h → AreEnough reading h caller (OfCommand command.now) (option_copied effective.entry) rows.now → IsDecidedAt reading h caller epoch command.now r.0 r.1) }
+    ensures cause { IfErr result (IsUndecided caller command.now (option_copied effective.entry) rows.now) }
+    ensures stored { IfOk result (λ r. IsStored r.1) }
+    ensures refused { IfOk result (λ r. HasNoEffect r.1 r.0) }
+    ensures closes { IfOk result (λ r. r.0.least_epoch ≡ new_least (if_done r.1 command.now)) }
+    ensures own { IfOk result (λ r. is_below r.0.least_epoch epoch ≡ false) }
+    ensures raises { IfOk result (λ r. is_above r.0.least_epoch (number_of (known rows.now want.LeastEpoch)) ≡ true) }
+    ensures once { IfOk result (λ r. NamesEachOnce r.0) }
+{
+    if !rows.is_there(&Want::Account(caller)) {
+        return Ok(refused(alloc, Refusal::UnknownCaller));
+    }
+    decide_for(alloc, memo, effective, rows, caller, epoch, command)
+}
+
+/// The reply to a command of an account, by this file of its project.
+fn decide_for(
     alloc: Global,
     memo: &mut FileMemo,
     effective: Option<&ProjectFile>,

@@ -5,23 +5,25 @@
 //! arrival. [`apply_in_memory`] says so of an empty desk in memory, as the program calls it for `apply :memory:`, [`serve_one`] of one
 //! request over HTTP; for a desk in a file the program calls `review_desk_work` with the same rules. [`run`] takes a list of deliveries and
 //! [`deliver`] one. All are those of the crates below, with [`DeskRules`]: they ask the tables and read the file of the project by which a
-//! command is judged, by `review_machine_needs`, and decide; they remember the files that they read, and no answer depends on which.
+//! command is judged, by `review_machine_needs`, and decide by [`decide`]; they remember the files that they read, and no answer depends on
+//! which.
 //!
-//! - **Proved**: all of this; from the rows that decide them [`DeskRules`] give a command's reply and what it changes, and the answer to a
-//!   question.
+//! - **Proved**: all of this; from the rows that decide them [`decide`] gives a command's reply and what it changes, [`show`] the answer to
+//!   a question.
 //! - **Assumed**: an honest store, but in memory. `docs/proofs.md` has the premises.
 //! - **Only tested**: `scripts/desk.txt`, and a model of the desk in another language (`bench/model`).
 //! - **Must not know**: files, sockets or a command line; and its rules of where rows come from, or that a request may come twice.
 #![tactic(auto)]
 
 pub mod apply;
-mod decisions;
+pub mod decisions;
 pub mod desk;
 pub mod memory;
 pub mod rules;
 pub mod serve;
 
 pub use apply::apply_lines;
+pub use decisions::decide;
 pub use desk::{deliver, run};
 pub use memory::apply_in_memory;
 pub use review_json_lines::{Fault, Outcome};

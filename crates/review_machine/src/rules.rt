@@ -1,13 +1,12 @@
 //! The decisions as rules.
-use crate::decisions::decide_for;
+use crate::decisions::decide;
 use review_file::ProjectFile;
 use review_file_lines::FileMemo;
-use review_machine_accounts::refused;
 use review_machine_deliveries::Rules;
 use review_machine_needs::{next_need, read_file_for};
-use review_machine_rows::{Delta, Matter, Need, Rows, Step, Want};
+use review_machine_rows::{Delta, Matter, Need, Rows, Step};
 use review_machine_submits::show;
-use review_words::{AccountNo, Command, Epoch, NotTaken, Query, Refusal, Reply};
+use review_words::{AccountNo, Command, Epoch, NotTaken, Query, Reply};
 use std::alloc::{AllocError, Global};
 
 /// The desk's own rules, with the project files that were read for earlier deliveries.
@@ -56,10 +55,7 @@ impl Rules for DeskRules {
         epoch: Epoch,
         command: &Command,
     ) -> Result<(Delta, Reply), NotTaken> {
-        if !rows.is_there(&Want::Account(caller)) {
-            return Ok(refused(alloc, Refusal::UnknownCaller));
-        }
-        decide_for(
+        decide(
             alloc,
             &mut self.memo,
             effective,

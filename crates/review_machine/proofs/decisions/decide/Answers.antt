@@ -5,7 +5,7 @@ use Rattle.review_machine_rows.specs.{Answer.most_requests, Changes.Reading, Dec
 use Rattle.review_machine_rows.specs.{Steps.OfCommand, View.AreEnough, View.IsDecidedAt, declared.rows.Delta.Delta}
 use Rattle.{review_machine_rows.specs.declared.rows.Rows.Rows, review_machine_laws.proofs.Checked.caller_is}
 use Rattle.review_machine_accounts.proofs.Decided.{refused_pair_in, unknown_refused}
-use Rattle.review_machine.proofs.rules.DeskRulesRules.decide.Goals as goal
+use Rattle.review_machine.proofs.decisions.decide.Goals as goal
 
 -- what is decided for an account is decided, where rows know that the caller is one
 for_account : (result : Result (Delta × Reply) NotTaken) (caller epoch : ℕ) (command : Command) (effective : Option File) (rows : Rows) →
