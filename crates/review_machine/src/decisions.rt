@@ -1,6 +1,6 @@
 //! The answer to a command and what it changes, from the rows that decide it.
 ghost use Rattle.std.specs.Prelude.{◌≡◌, ◌<◌, List, IfOk, IfErr, length, option_copied, true, false};
-ghost use Rattle.review_words.specs.{History.Entry, History.if_done, History.is_account, Texts.IsStored};
+ghost use Rattle.review_words.specs.{History.Entry, History.if_done, Texts.IsStored};
 ghost use Rattle.review_machine_rows.specs.{Answer.most_requests, Changes.Reading};
 ghost use Rattle.review_machine_rows.specs.Decisions.{IsUndecided, NamesEachOnce, RestsOn};
 ghost use Rattle.review_machine_rows.specs.Known.{known, number_of};
@@ -45,28 +45,6 @@ pub fn decide(
     if !rows.is_there(&Want::Account(caller)) {
         return Ok(refused(alloc, Refusal::UnknownCaller));
     }
-    decide_for(alloc, memo, effective, rows, caller, epoch, command)
-}
-
-/// The reply to a command of an account, by this file of its project.
-fn decide_for(
-    alloc: Global,
-    memo: &mut FileMemo,
-    effective: Option<&ProjectFile>,
-    rows: &Rows,
-    caller: AccountNo,
-    epoch: Epoch,
-    command: &Command,
-) -> Result<(Delta, Reply), NotTaken>
-    ensures decided { IfOk result (λ r. (reading : Reading) (h : List Entry) → length h < most_requests → RestsOn (OfCommand command.now) h → is_account h caller ≡ true → AreEnough reading h caller (OfCommand command.now) (option_copied effective.entry) rows.now → IsDecidedAt reading h caller epoch command.now r.0 r.1) }
-    ensures cause { IfErr result (IsUndecided caller command.now (option_copied effective.entry) rows.now) }
-    ensures stored { IfOk result (λ r. IsStored r.1) }
-    ensures refused { IfOk result (λ r. HasNoEffect r.1 r.0) }
-    ensures closes { IfOk result (λ r. r.0.least_epoch ≡ new_least (if_done r.1 command.now)) }
-    ensures own { IfOk result (λ r. is_below r.0.least_epoch epoch ≡ false) }
-    ensures raises { IfOk result (λ r. is_above r.0.least_epoch (number_of (known rows.now want.LeastEpoch)) ≡ true) }
-    ensures once { IfOk result (λ r. NamesEachOnce r.0) }
-{
     match command {
         Command::CreateAccount { name } => create_account(alloc, rows, caller, name),
         Command::PutGroup { group, members } => put_group(alloc, rows, caller, group, members),
