@@ -2,11 +2,10 @@ use Rattle.std.proofs.Common.{IfOk, Option, Result, Ok, Err, ◌≡◌, ◌<◌,
 use Rattle.review_words.specs.{History.Entry, History.is_account, declared.command.Command.Command}
 use Rattle.review_words.specs.declared.command.Command.TheVariants.{CreateAccount, PutGroup, PutProject, RecordBase, CreateChange, OnChange, Submit, CloseEpoch}
 use Rattle.review_words.specs.declared.reply.{NotTaken.NotTaken, Refusal.TheVariants.UnknownCaller, Reply.Reply}
-use Rattle.review_machine_rows.specs.Answer.{IsAnswerBy, IsAnswerAt, most_requests}
-use Rattle.review_machine_rows.specs.{Changes.Reading, Decisions.RestsOn, Files.File, Steps.OfCommand}
+use Rattle.review_machine_rows.specs.{Answer.IsAnswerBy, Answer.IsAnswerAt, Answer.most_requests, Changes.Reading}
+use Rattle.review_machine_rows.specs.{Decisions.RestsOn, Files.File, Known.is_there, Known.known, Steps.OfCommand}
 use Rattle.review_machine_rows.specs.{View.AreEnough, View.IsDecided, View.IsDecidedAt, declared.rows.Delta.Delta}
-use Rattle.review_machine_rows.specs.{Known.is_there, Known.known, declared.rows.Rows.Rows}
-use Rattle.review_machine_laws.proofs.Checked.{caller_is}
+use Rattle.{review_machine_rows.specs.declared.rows.Rows.Rows, review_machine_laws.proofs.Checked.caller_is}
 use Rattle.review_machine_accounts.proofs.Decided.{decided_in, refused_pair_in, unknown_refused}
 use Rattle.review_machine_rows.specs.declared.rows.Want.TheVariants as want
 use Rattle.review_machine.proofs.decisions.decide.Goals as goal

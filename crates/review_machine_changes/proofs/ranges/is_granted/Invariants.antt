@@ -1,5 +1,5 @@
-use Rattle.std.proofs.Common.{◌≡◌, ◌&&◌, drop}
-use Rattle.{std.specs.List.list_any, review_machine_rows.specs.Desks.in_rows, review_machine_changes.specs.inner.Done.reaches}
+use Rattle.std.{proofs.Common.◌≡◌, proofs.Common.◌&&◌, proofs.Common.drop, specs.List.list_any}
+use Rattle.{review_machine_rows.specs.Desks.in_rows, review_machine_changes.specs.inner.Done.reaches}
 use Rattle.review_machine_changes.proofs.ranges.is_granted.Given as goal
 
 abbrev pub invariant-loop-grant : goal.invariant-loop-grant
