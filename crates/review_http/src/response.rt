@@ -2,7 +2,7 @@
 ghost use Rattle.std.specs.Prelude.{◌≡◌, ◌++◌, ◌+◌, IfOk, OnOk, codes, decimal, length, string_bytes};
 ghost use Rattle.http.specs.StatusCode.{IsStatusCode};
 ghost use Rattle.serde_json.specs.{View.view, Written.compact_text};
-ghost use Rattle.review_http.specs.Responses.{fault_data, status_line, allow_line, response, status_of};
+ghost use Rattle.review_http.specs.Responses.{fault_data, status_line, allow_line, response_with, response, status_of};
 
 use crate::status::{fault_name, status_of};
 use http::StatusCode;
@@ -62,15 +62,14 @@ fn put_allow(out: &mut Vec<u8>, told: &Result<Reply, HttpFault>) -> Result<(), A
     Ok(())
 }
 
-/// The bytes of the response that tells a reply, or a fault of the request. It fails for want of memory alone.
-#[tactic(auto, unfolding(crate::specs::Responses::response, crate::specs::Responses::response_with))]
-pub fn response_of(alloc: Global, told: &Result<Reply, HttpFault>) -> Result<Vec<u8>, AllocError>
-    ensures { IfOk result (λ v. v.items ≡ response told.now) }
+#[tactic(auto, unfolding(crate::specs::Responses::response_with))]
+fn response_with(
+    alloc: Global,
+    told: &Result<Reply, HttpFault>,
+    text: &str,
+) -> Result<Vec<u8>, AllocError>
+    ensures { IfOk result (λ v. v.items ≡ response_with told.now text.now) }
 {
-    let text = match told {
-        Ok(reply) => answer_text(alloc, reply)?,
-        Err(fault) => fault_text(alloc, *fault)?,
-    };
     let mut out = Vec::with_capacity(alloc, text.len() + HEAD_ROOM)?;
     out.extend_from_slice(b"HTTP/1.1 ")?;
     put_status(&mut out, alloc, status_of(told))?;
@@ -84,4 +83,16 @@ pub fn response_of(alloc: Global, told: &Result<Reply, HttpFault>) -> Result<Vec
     out.extend_from_slice(text.as_bytes())?;
     out.extend_from_slice(b"\n")?;
     Ok(out)
+}
+
+/// The bytes of the response that tells a reply, or a fault of the request. It fails for want of memory alone.
+#[tactic(auto, unfolding(crate::specs::Responses::response))]
+pub fn response_of(alloc: Global, told: &Result<Reply, HttpFault>) -> Result<Vec<u8>, AllocError>
+    ensures { IfOk result (λ v. v.items ≡ response told.now) }
+{
+    let text = match told {
+        Ok(reply) => answer_text(alloc, reply)?,
+        Err(fault) => fault_text(alloc, *fault)?,
+    };
+    response_with(alloc, told, text.as_str())
 }

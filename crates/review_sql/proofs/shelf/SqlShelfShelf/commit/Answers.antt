@@ -50,8 +50,8 @@ returns-in-Ok-clause-stops g c honest =
     (stops_committed g.S.Store old last g.O.Origin.IS_OURS c.self.inside.numbers c.self.invariant.0 c.args.delta.now c.args.kept c.transact.result c.transact.ensures.acts
     (λ ours was. are_single (state g.S.Store old).now (c.self.invariant.0.ready ours was).0 (c.schema-live.ensures.live was).0) honest.1 honest.0)
 
-pub returns-in-Err-clause-stops : goal.returns-in-Err-clause-stops
-returns-in-Err-clause-stops g c honest =
+pub returns-clause-stops : goal.returns-clause-stops
+returns-clause-stops g c honest =
     let old = c.self.inside.conn in
     let mid = c.transact.new.conn in
     let last = c.fault_for.new.conn in
@@ -60,8 +60,8 @@ returns-in-Err-clause-stops g c honest =
     (λ t left. stops_committed g.S.Store old mid g.O.Origin.IS_OURS c.self.inside.numbers c.self.invariant.0 c.args.delta.now c.args.kept c.transact.result c.transact.ensures.acts
     (λ ours was. are_single (state g.S.Store old).now (c.self.invariant.0.ready ours was).0 (c.schema-live.ensures.live was).0) honest.1 clean t (stops_still g.S.Store mid last c.fault_for.ensures.stays g.O.Origin.IS_OURS honest.0 t left))
 
-pub returns-in-Err-clause-undone : goal.returns-in-Err-clause-undone
-returns-in-Err-clause-undone g c honest =
+pub returns-clause-undone : goal.returns-clause-undone
+returns-clause-undone g c honest =
     let old = c.self.inside.conn in
     let last = c.fault_for.new.conn in
     let same : old ≡ c.args.self.now.conn = ap (λ (k : ShelfView _). k.conn) c.self.view_is in
