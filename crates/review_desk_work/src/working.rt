@@ -2,11 +2,11 @@
 //!
 //! Tables of the form that `create` makes are opened as ours, of which all is claimed that a shelf promises, and others as those of others, of which no more is
 //! than that a desk was there, and how refused calls are counted.
-ghost use Rattle.std.specs.Prelude.{◌≡◌, ◌⊎◌, ◌||◌, true, false, not, Err};
-ghost use Rattle.{sqlite.specs.Held.Held, review_http.specs.Peers.Peers};
+ghost use Rattle.std.specs.Prelude.{◌≡◌, ◌⊎◌, ◌||◌, true, false, not};
+ghost use Rattle.sqlite.specs.Held.{Held};
 ghost use Rattle.review_sql.specs.Shelf.{IsHandedBack, ShelfView, shown};
 ghost use Rattle.review_desk_work.specs.Faults.{lines_outcome, serve_outcome, shown_outcome};
-ghost use Rattle.review_desk_work.specs.Worked.{Does, EndsServed, HasDone, IsMigratedOrNot, IsRefusedDesk, Made, OnShelf, RunsAreOne, WasMade, WasMigrated, Worked, known};
+ghost use Rattle.review_desk_work.specs.Worked.{Does, HasDone, IsMigratedOrNot, IsRefusedDesk, Made, OnShelf, RunsAreOne, WasMade, WasMigrated, Worked, known};
 
 use crate::fault::ProgramFault;
 use crate::notices::Notices;

@@ -1,4 +1,4 @@
--- A value is in the range of what is granted where it is 0, or a grant reaches to it.
+-- A value is in the range of what is granted just where it is 0 or a grant reaches to it.
 use Rattle.std.proofs.Common.{◌≡◌, ◌∙◌, ℤ, pos, negsuc, zero, suc, Bool, true, false, cond, List, [], ◌∷◌, map, filter, fold, refl, sym, ap, ap₂, ◌&&◌, ◌||◌, int_le, int_lt, int_eq, arith}
 use Rattle.std.proofs.{Math.Bool.and-true, Math.Bool.or-false, lemmas.Int.ints, lemmas.Int.clamps}
 use Rattle.std.specs.{Int.int_min, Int.int_max, List.list_any}

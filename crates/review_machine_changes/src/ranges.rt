@@ -71,8 +71,8 @@ fn is_in_range(
     is_granted(rows, account, grants_of(file, &given.label), given.value)
 }
 
-// Whether the range of a grant reaches from 0 to a value.
-fn reaches(grant: &Grant, value: i8) -> bool
+/// Whether a value below 0 isn't below a grant's least value, and another one not above its greatest.
+fn reaches(value: i8, grant: &Grant) -> bool
     ensures { result ≡ reaches value grant.now }
 {
     if value < 0 {
@@ -82,7 +82,7 @@ fn reaches(grant: &Grant, value: i8) -> bool
     }
 }
 
-// Whether a grant to a group of an account reaches to a value.
+/// Whether a grant to a group of an account reaches to a value.
 fn is_granted(
     rows: &Rows,
     account: AccountNo,
@@ -92,7 +92,7 @@ fn is_granted(
     ensures { IfOk result (λ b. b ≡ list_any (λ g. reaches value g && in_rows rows.now account g.group) grants.now) }
 {
     for grant in grants {
-        if reaches(grant, value) && is_in(rows, account, &grant.group)? {
+        if reaches(value, grant) && is_in(rows, account, &grant.group)? {
             return Ok(true);
         }
     }

@@ -56,16 +56,37 @@ fn put(out: &mut String, digits: &mut String, piece: &Piece) -> Result<(), Alloc
     }
 }
 
-// The bytes that the fields of pieces take at most, where no text has 10^7 bytes.
+// How many digits a number has in decimal.
+fn digits_of(number: u64) -> usize {
+    match number.checked_ilog10() {
+        Some(tens) => (tens as usize).saturating_add(1),
+        None => 1,
+    }
+}
+
+// The bytes of a field before its length, a colon and a comma are put beside them.
+fn length_of(piece: &Piece) -> usize {
+    match piece {
+        Piece::Text(text) => text.len(),
+        Piece::Number(number) => digits_of(*number),
+        Piece::Signed(number) => {
+            let digits = digits_of(u64::from(number.unsigned_abs()));
+            if *number < 0 {
+                digits.saturating_add(1)
+            } else {
+                digits
+            }
+        }
+    }
+}
+
+// The bytes that the fields of pieces take. What is kept of a request is such a text, so it has no more room than it needs.
 fn room_for(pieces: &[Piece]) -> usize {
     let mut room = 0usize;
     for piece in pieces {
-        let most = match piece {
-            Piece::Text(text) => text.len(),
-            Piece::Number(_) => 20,
-            Piece::Signed(_) => 4,
-        };
-        room = room.saturating_add(most).saturating_add(9);
+        let length = length_of(piece);
+        let beside = digits_of(length as u64).saturating_add(2);
+        room = room.saturating_add(length).saturating_add(beside);
     }
     room
 }

@@ -1,4 +1,4 @@
--- What a request on a change that no check refuses makes of it, and its answer: words that only proofs and private clauses use.
+-- What a request on a change that no check refuses makes of it, its answer, and how far a grant reaches: words that only proofs and private clauses use.
 use Rattle.std.specs.Prelude.{[], Bool, true, false, Option, Some, None, ℕ, ℤ, pos, List, ◌∷◌, ◌+◌, length, zero, suc, ◌≡◌, unwrap_or, int_le, int_lt, if◌then◌else◌}
 use Rattle.review_words.specs.declared.changes.{NewPatch.NewPatch, Review.Review as ReviewOf}
 use Rattle.review_words.specs.declared.command.ChangeCommand.{ChangeCommand, TheVariants.Review, TheVariants.Upload}
@@ -21,7 +21,7 @@ abbrev pub lacks_file : Option File → ChangeCommand → Bool
 lacks_file None request = needs_file request
 lacks_file (Some file) request = false
 
--- the range of a grant reaches from 0 to a value
+-- a value below 0 isn't below a grant's least value, and another one not above its greatest
 abbrev pub reaches : ℤ → Grant → Bool
 reaches value g = if int_lt value (pos 0) then int_le g.least value else int_le value g.greatest
 
