@@ -17,7 +17,7 @@ TOLD = SERVED + " review_http::response_of"
 STACKS = {
     "common": [SERVED],
     "head": [READ + " review_http_requests::on_change review_names::read_number"],
-    "body": [READ + " review_json_routes::command_of review_json_routes::given_of review_names::Name::read review_names::Name::of_form"],
+    "body": [READ + " review_json_routes::command_of review_json_routes::labels_in review_names::Name::read"],
     "recall": [TAKEN + " review_sql::SqlShelf::recall review_sql_tables::find review_sql_tables::select"],
     "look-ups": [
         TAKEN + " review_machine_deliveries::first_arrival review_sql::SqlShelf::load review_sql_change_lookups::find_change review_sql_tables::find_parts review_sql_change_records::Votes::read review_sql_change_records::vote_at",

@@ -6,11 +6,13 @@ use Rattle.std.{proofs.lemmas.Slice.Eq.bytes_eq-Decides, specs.BTreeMap.is_at}
 use Rattle.std.specs.{Cmp.tied_then, Cmp.unsigned_tied, Cmp.Lexicographic.slice_cmp, List.AllByRecursion, List.list_any}
 use Rattle.std.specs.{List.Sorted.IsStrictlySortedBy, Map.keys_of, Map.Iter.deref_pair, Ordering.ordering_then}
 use Rattle.std.specs.declared.cmp.Ordering.{Ordering, TheVariants.Less}
-use Rattle.{review_table.specs.Rows.row_in, review_table.specs.Rows.rows_of, review_core_rules.proofs.Stays.zero_of}
-use Rattle.review_core_rules.specs.Seen.{vote_cmp, value_of, Votes, vote_in}
+use Rattle.review_table.specs.Rows.{row_in, rows_of}
+use Rattle.{review_words.specs.declared.changes.Given.Given, review_core_rules.proofs.Stays.zero_of}
+use Rattle.review_core_rules.specs.{Change.given_or, Seen.vote_cmp, Seen.value_of, Seen.Votes, Seen.vote_in}
 use Rattle.review_core_rules.specs.{Votes.voted, declared.rows.VoteKey.VoteKey}
 use Rattle.review_core_tables.specs.Copies.{Copies, has_lost, copied_rows, lost_rows, AreApart, AreMany}
-use Rattle.review_core_tables.specs.{Tables.put_in, inner.Words.or_else, inner.Words.is_vote, inner.Words.is_of}
+use Rattle.review_core_tables.specs.Tables.{put_in}
+use Rattle.review_core_tables.specs.inner.Words.{given_at, or_else, is_vote, is_of}
 
 -- ==== rows that are put one after the other
 
@@ -81,6 +83,18 @@ value_same false v w same = refl
 -- a vote that has its value already
 pub vote_stays : (k : VoteKey) (v : ℤ) (old : VoteKey → Option ℤ) → value_of (old k) ≡ v → (n : ℕ) (l : List ℕ) (a : ℕ) → value_of (old (vote_key n l a)) ≡ (if is_vote k n l a then v else value_of (old (vote_key n l a)))
 vote_stays k v old is n l a = value_same (is_vote k n l a) v (value_of (old (vote_key n l a))) (λ here. ap (λ q. value_of (old q)) (sym (votes_tell.same k (vote_key n l a) (vote_tied k n l a ∙ here))) ∙ is)
+
+-- votes after one value more that an account gives on a patch set
+pub given_more : (patch account : ℕ) (g : Given) (gs : List Given) (n : ℕ) (l : List ℕ) (a : ℕ) (old : ℤ) →
+    given_at patch account gs n l a (if is_vote (vote_key patch g.label account) n l a then g.value else old) ≡ given_at patch account (g ∷ gs) n l a old
+given_more patch account g gs n l a old = by (patch == n) (bytes_eq g.label l) (account == a)
+  where
+    by : (p q r : Bool) → (if p && r then given_or gs l (if p && (q && r) then g.value else old) else (if p && (q && r) then g.value else old)) ≡ (if p && r then given_or gs l (if q then g.value else old) else old)
+    by true true true = refl
+    by true false true = refl
+    by true true false = refl
+    by true false false = refl
+    by false q r = refl
 
 and_no : (b : Bool) → false ≡ (b && false)
 and_no true = refl

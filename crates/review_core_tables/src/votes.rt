@@ -21,22 +21,7 @@ fn has_value(vote: Option<&Vote>, value: i8) -> bool
     }
 }
 
-/// Sets a vote, where that isn't its value already; 0 takes it away.
-fn set_vote(
-    votes: &mut Edited<'_, VoteKey, Vote>,
-    key: VoteKey,
-    value: i8,
-) -> Result<(), AllocError>
-    ensures table { votes.new.rows ≡ votes.old.rows }
-    ensures votes { OnOk result ((n : ℕ) (l : List ℕ) (a : ℕ) → edited_vote votes.new n l a ≡ (if is_vote key n l a then value else edited_vote votes.old n l a)) }
-{
-    if has_value(votes.get(&key), value) {
-        return Ok(());
-    }
-    votes.set(key, Vote::from_value(value))
-}
-
-/// Gives the votes of a review.
+/// Gives the votes of a review, each where that isn't its value already; 0 takes a vote away.
 pub fn give(
     votes: &mut Edited<'_, VoteKey, Vote>,
     patch: PatchNo,
@@ -53,7 +38,10 @@ pub fn give(
             label,
             account,
         };
-        set_vote(votes, key, given.value)?;
+        if has_value(votes.get(&key), given.value) {
+            continue;
+        }
+        votes.set(key, Vote::from_value(given.value))?;
     }
     Ok(())
 }

@@ -1,7 +1,7 @@
 //! The values that a review gives on labels.
 ghost use Rattle.std.specs.Prelude.{◌≡◌};
 ghost use Rattle.{serde_json.specs.View.view, review_names.specs.Bad.Gives};
-ghost use Rattle.review_json_routes.specs.Reviews.{value_of, given_of, labels_in};
+ghost use Rattle.review_json_routes.specs.Reviews.{value_of, labels_in};
 
 use review_names::Bad;
 use review_words::{Given, LabelName, Labels};
@@ -21,18 +21,9 @@ pub fn value_of(value: &Value) -> Option<i8>
     }
 }
 
-#[tactic(auto, unfolding(crate::specs::Reviews::given_of))]
-fn given_of(alloc: Global, key: &str, value: &Value) -> Result<Given, Bad>
-    ensures { Gives result (given_of key.now (view value.now)) }
-{
-    let label = LabelName::read(alloc, key)?;
-    let value = value_of(value).ok_or(Bad::Form)?;
-    Ok(Given { label, value })
-}
-
 /// The values that a review gives: `labels`, an object from the names of labels to whole numbers
 /// from -99 to 99, which may be absent.
-#[tactic(auto, unfolding(crate::specs::Reviews::labels_in, crate::specs::Reviews::labels_of))]
+#[tactic(auto, unfolding(crate::specs::Reviews::labels_in, crate::specs::Reviews::labels_of, crate::specs::Reviews::given_of))]
 pub fn labels_in(alloc: Global, body: &Value) -> Result<Labels, Bad>
     ensures { Gives result (labels_in (view body.now)) }
 {
@@ -41,8 +32,9 @@ pub fn labels_in(alloc: Global, body: &Value) -> Result<Labels, Bad>
         return Ok(Labels::from_vec(alloc, given)?);
     };
     for (key, value) in labels.as_object().ok_or(Bad::Form)?.iter() {
-        let one = given_of(alloc, key.as_str(), value)?;
-        given.push(one)?;
+        let label = LabelName::read(alloc, key.as_str())?;
+        let value = value_of(value).ok_or(Bad::Form)?;
+        given.push(Given { label, value })?;
     }
     Ok(Labels::from_vec(alloc, given)?)
 }

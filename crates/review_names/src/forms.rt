@@ -48,10 +48,14 @@ impl<F: Form> Name<F> {
         if !F::is_met(text) {
             return Err(Bad::Form);
         }
-        Ok(Name::of_form(alloc, text)?)
+        let copied = RcStr::from_str(alloc, text)?;
+        Ok(Name {
+            text: copied,
+            form: PhantomData,
+        })
     }
 
-    /// The name that a text is which is known to be of the form. An error where there was no memory for it.
+    /// The name that a constant is, which is known to be of the form. An error where there was no memory for it.
     pub(crate) fn of_form(alloc: Global, text: &str) -> Result<Name<F>, AllocError>
         requires { IsTrue (F.is_form text.now) }
         ensures { IfOk result (λ n. n ≡ text.now) }

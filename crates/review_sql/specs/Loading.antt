@@ -30,15 +30,10 @@ learnt_by (Ok u) = ended.Learnt
 learnt_by (Err e) = ended.NoMemory
 
 -- what all found, by how the last one ended, and the rows that learnt it
-abbrev pub all_found : Rows → Ended → Loaded
-all_found rows ended.Learnt = loaded.Rows rows
-all_found rows ended.NoMemory = loaded.NoMemory
-all_found rows ended.Damaged = loaded.Damaged
-
--- the same, unless the store failed
-abbrev pub loaded_by : Rows → Result Ended Error → Result Loaded Error
-loaded_by rows (Ok e) = Ok (all_found rows e)
-loaded_by rows (Err error) = Err error
+abbrev pub loaded_by : Rows → Ended → Loaded
+loaded_by rows ended.Learnt = loaded.Rows rows
+loaded_by rows ended.NoMemory = loaded.NoMemory
+loaded_by rows ended.Damaged = loaded.Damaged
 
 -- What look-ups tell of tables: where all learnt, what the rows know is so in them; where there was no memory, nothing; and where one met damage, they are those of no history.
 abbrev pub AreSeen : Rows → Trees → Ended → Type 0

@@ -182,7 +182,7 @@ fn find_in_turn<S: Alter>(
     Ok(Ended::Learnt)
 }
 
-// The same. Where no statement was needed, the row of the desk is asked for: a store that was shut is found so, whatever is known.
+// Makes them so. Where no statement was needed, the row of the desk is asked for: a store that was shut is found so, whatever is known.
 fn find_each<S: Alter>(
     tx: &mut Transaction<'_, S>,
     alloc: Global,
@@ -203,40 +203,18 @@ fn find_each<S: Alter>(
     Ok(end)
 }
 
-// The same, in a transaction of its own.
-fn load_each<S: Alter>(
-    conn: &mut Connection<S>,
-    alloc: Global,
-    wants: &[Want],
-    counts: &mut Counts,
-    rows: &mut Rows,
-) -> Result<Ended, Error>
-    requires mode { conn.old.in_transaction ≡ false }
-    requires nothing { (w : Want) → known rows.old w ≡ None }
-    ensures mode { conn.new.in_transaction ≡ false }
-    ensures serves { Serves (WereSeen rows.new counts.old counts.new) (state S.Store conn.old) (state S.Store conn.new) result }
-    ensures asked { IfOk result (λ e. e ≡ Ended.Learnt → AreAsked wants.now rows.new) }
+// What look-ups found, by how the last one ended, and the rows that learnt it.
+fn loaded(end: Ended, rows: Rows) -> Loaded
+    ensures { result ≡ loaded_by rows end }
 {
-    let _settled = conn.is_autocommit();
-    let mut tx = conn.transaction();
-    let end = find_each(&mut tx, alloc, wants, counts, rows)?;
-    tx.commit()?;
-    Ok(end)
-}
-
-// What look-ups found, by how they ended, and the rows that learnt it.
-fn loaded(seen: Result<Ended, Error>, rows: Rows) -> Result<Loaded, Error>
-    ensures { result ≡ loaded_by rows seen }
-{
-    match seen {
-        Ok(Ended::Learnt) => Ok(Loaded::Rows(rows)),
-        Ok(Ended::NoMemory) => Ok(Loaded::NoMemory),
-        Ok(Ended::Damaged) => Ok(Loaded::Damaged),
-        Err(error) => Err(error),
+    match end {
+        Ended::Learnt => Loaded::Rows(rows),
+        Ended::NoMemory => Loaded::NoMemory,
+        Ended::Damaged => Loaded::Damaged,
     }
 }
 
-/// What look-ups find, and no others. Where the store fails, what is known of counts then is of no more use.
+/// What look-ups find, and no others, in a transaction of their own. Where the store fails, what is known of counts then is of no more use.
 pub fn load<S: Alter>(
     conn: &mut Connection<S>,
     alloc: Global,
@@ -249,6 +227,9 @@ pub fn load<S: Alter>(
     ensures asked { IfOk result (WereAsked wants.now) }
 {
     let mut rows = Rows::new(alloc);
-    let seen = load_each(conn, alloc, wants, counts, &mut rows);
-    loaded(seen, rows)
+    let _settled = conn.is_autocommit();
+    let mut tx = conn.transaction();
+    let end = find_each(&mut tx, alloc, wants, counts, &mut rows)?;
+    tx.commit()?;
+    Ok(loaded(end, rows))
 }

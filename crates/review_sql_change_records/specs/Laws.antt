@@ -304,7 +304,7 @@ votes_of_change = record {
 
 abbrev pub attention_table : Records (ℕ × ℕ) AttentionEntry
 attention_table = record {
-  writes = record { sets = Replaces; insert = texts.INSERT_ATTENTION.now; delete = texts.DELETE_ATTENTION.now };
+  writes = record { sets = PutsIn; insert = texts.INSERT_ATTENTION.now; delete = texts.DELETE_ATTENTION.now };
   search = attention_entries;
   form = attention_form;
   inserts = λ p x. insert_attention (pos p.0) (pos p.1) x.reason (pos x.request);

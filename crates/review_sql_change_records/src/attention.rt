@@ -64,7 +64,7 @@ impl Record for AttentionEntries {
     ghost table = { attention_table };
 
     fn writes() -> Writes {
-        Writes::replaces(texts::INSERT_ATTENTION, texts::DELETE_ATTENTION)
+        Writes::puts_in(texts::INSERT_ATTENTION, texts::DELETE_ATTENTION)
     }
 
     fn bind_key<'a>(key: &'a (ChangeNo, AccountNo)) -> Result<Bound<'a>, Error> {
