@@ -52,9 +52,12 @@ impl<'t, K: Key, V: Drop> Edited<'t, K, V> {
     pub fn keys(&self, alloc: Global) -> Result<Vec<&K>, AllocError>
         ensures { IfOk result (λ keys. (q : K) → IsSome (edited_row K.cmp self.now q) → list_any (is_at (K.cmp q)) (map (λ k. k.now) keys.items) ≡ true) }
     {
-        let mut keys = Vec::new(alloc);
-        for (key, _) in self.rows.rows(alloc)? {
-            keys.push(key)?;
+        let rows = self.rows;
+        let mut keys = Vec::with_capacity(alloc, rows.places.len())?;
+        for (key, place) in &rows.places {
+            if place.is_some() {
+                keys.push(key)?;
+            }
         }
         for (key, _) in &self.edits {
             keys.push(key)?;

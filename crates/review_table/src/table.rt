@@ -30,7 +30,7 @@ pub enum BadRows {
 /// Rows by their keys, each key once, in the order of the keys. A place may hold no row.
 #[derive(Drop)]
 pub struct Table<K: Ord, V> {
-    places: BTreeMap<K, Option<V>>,
+    pub(crate) places: BTreeMap<K, Option<V>>,
 }
 
 impl<K: Ord, V> Model for Table<K, V> {
