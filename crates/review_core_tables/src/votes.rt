@@ -1,10 +1,10 @@
 //! The votes of a change in the making.
 ghost use Rattle.std.specs.{BTreeMap.is_at, List.list_any, Ordering.int_eq};
-ghost use Rattle.std.specs.Prelude.{◌≡◌, ◌==◌, option_copied, ◌&&◌, ℕ, ℤ, pos, true, false, List, IfOk, IsSome, OnOk, if◌then◌else◌};
+ghost use Rattle.std.specs.Prelude.{◌≡◌, ◌==◌, option_copied, ◌&&◌, ℕ, pos, true, false, List, IfOk, IsSome, OnOk, if◌then◌else◌};
 ghost use Rattle.review_table.specs.Edited.{edited_row};
 ghost use Rattle.review_core_rules.specs.{Change.given_or, EditedRows.edited_vote, Seen.value_of, Seen.vote_cmp};
 ghost use Rattle.review_core_rules.specs.declared.rows.VoteKey.{VoteKey};
-ghost use Rattle.review_core_tables.specs.{Tables.put_in, inner.Words.is_vote, inner.Words.is_of};
+ghost use Rattle.review_core_tables.specs.{Tables.put_in, inner.Words.is_of};
 
 use review_core_rules::{Vote, VoteKey};
 use review_table::{Edited, Key};

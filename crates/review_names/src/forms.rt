@@ -55,7 +55,7 @@ impl<F: Form> Name<F> {
         })
     }
 
-    /// The name that a constant is, which is known to be of the form. An error where there was no memory for it.
+    /// The name that a constant text is, which is known to be of the form. An error where there was no memory for it.
     pub(crate) fn of_form(alloc: Global, text: &str) -> Result<Name<F>, AllocError>
         requires { IsTrue (F.is_form text.now) }
         ensures { IfOk result (λ n. n ≡ text.now) }

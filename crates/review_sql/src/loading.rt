@@ -182,7 +182,8 @@ fn find_in_turn<S: Alter>(
     Ok(Ended::Learnt)
 }
 
-// Makes them so. Where no statement was needed, the row of the desk is asked for: a store that was shut is found so, whatever is known.
+// Makes look-ups one after the other. Where no statement was needed, the row of the desk is asked for: a store that was shut is found so, whatever is
+// known.
 fn find_each<S: Alter>(
     tx: &mut Transaction<'_, S>,
     alloc: Global,
