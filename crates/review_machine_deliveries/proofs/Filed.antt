@@ -1,15 +1,16 @@
 -- Effective files, as they are gathered row by row.
-use Rattle.std.proofs.Common.{◌≡◌, inl, inr, ℕ, ◌<◌, List, [], ◌∷◌, Option, Some, None, true, refl, sym, ap, ◌∙◌, subst, All, is_some, ◌++◌, zero, suc, Bool, false, cond, Result, Ok, Err, option_and_then, option_map, IfErr, IsErr, IsErrAnd}
+use Rattle.std.proofs.Common.{◌≡◌, inl, inr, ⊎_elim, ℕ, ◌<◌, List, [], ◌∷◌, Option, Some, None, true, refl, sym, ap, ◌∙◌, subst, All, is_some, ◌++◌, zero, suc, Bool, false, cond, Result, Ok, Err, option_and_then, option_map, IfErr, IsErr, IsErrAnd}
+use Rattle.std.proofs.lemmas.List.Elements.{All-contains}
 use Rattle.review_words.specs.declared.command.Command.TheVariants.{CreateAccount, PutGroup, PutProject, RecordBase, CloseEpoch, CreateChange, OnChange, Submit}
 use Rattle.review_words.specs.declared.reply.NotTaken.{NotTaken as Cause}
 use Rattle.review_words.specs.declared.reply.NotTaken.TheVariants.{Memory, Store, Damaged, Pattern, Full}
-use Rattle.review_machine_rows.proofs.Asked.{or_stays, none_in, all_made, asking_lowers, asks_first, each_known, line_asked}
-use Rattle.review_machine_rows.proofs.Common.{APart, AllByRecursion, Change, Command, Entry, File, IsEffective, Tables, is_project, named_parent, option_map_or, option_or, view}
+use Rattle.review_machine_rows.proofs.Asked.{none_in, all_made, asking_lowers, asks_first, each_known, line_asked, IsUnknown, next_unmade}
+use Rattle.review_machine_rows.proofs.Common.{APart, All-from_recursion, AllByRecursion, Change, Command, Entry, File, IsEffective, Tables, is_project, named_parent, option_map_or, view}
 use Rattle.review_machine_rows.proofs.Lined.{fewer, own_told, texts_told, there_is}
 use Rattle.review_machine_rows.proofs.Readings.{reading_of}
 use Rattle.review_machine_rows.specs.Changes.{Reading, change, effective_of, texts_of}
 use Rattle.review_machine_rows.specs.Decisions.{HasPatternIn, IsUnread, SomePattern, judging_project, topic_project}
-use Rattle.review_machine_rows.specs.Known.{Found, IsFound, known, IsKnown, Agrees, AreAdded, AChange, part_of, change_in, file_in}
+use Rattle.review_machine_rows.specs.Known.{Found, known, IsKnown, Agrees, AgreesBeside, AreAsked, StaysKnown, AChange, part_of, change_in, file_in}
 use Rattle.review_machine_rows.specs.Lines.{most_depth, line_of, with_above}
 use Rattle.review_machine_rows.specs.Shelf.{Shows, LeavesBy, cause_of, IsDamaged}
 use Rattle.review_machine_rows.specs.Steps.{HasComeTo, Topic, change_wants, file_wants, first_wants, left, line_steps, next, next_of, or_next, parent_of, unknown, unless_none, wants_in, OfCommand, OfQuery, HasFile, asks_file, line_wants, needs_file, own_in, known_parent, parent_or, project_for, project_of, texts_for, texts_in}
@@ -17,7 +18,7 @@ use Rattle.review_machine_rows.specs.declared.rows.{Need.Need, Rows.Rows, Stored
 use Rattle.review_machine_rows.specs.declared.shelf.ShelfFault.{ShelfFault}
 use Rattle.review_machine_laws.proofs.{Histories.effective_is, Histories.line_read, Rows.rows_tell}
 use Rattle.review_machine_deliveries.proofs.{Files.AreReadRight, Histories.view_of}
-use Rattle.review_machine_deliveries.specs.Gathered.{IsSoFar, StaysKnown, IsJudgedByPattern, IsUngathered}
+use Rattle.review_machine_deliveries.specs.Gathered.{IsSoFar, IsJudgedByPattern, IsUngathered}
 use Rattle.review_machine_rows.specs.declared.step.Step.TheVariants as step
 use Rattle.review_words.specs.declared.command.Query.TheVariants as asked
 use Rattle.review_machine_rows.specs.declared.rows.Want.TheVariants as want
@@ -25,15 +26,27 @@ use Rattle.review_machine_rows.specs.declared.rows.Want.TheVariants as want
 -- ==== rows that are gathered step by step
 
 -- a step that loads what is asked next leaves less to ask
-pub step_lowers : (file : Option File) (rows more both : Rows) (caller : ℕ) (topic : Topic) (ws : List Want) → Some ws ≡ unless_none (next file rows caller topic) → All (IsKnown more) ws →
-    AreAdded rows more both → left file both caller topic < left file rows caller topic
-step_lowers file rows more both caller topic ws is all added = at (next file rows caller topic) refl is
+pub step_lowers : (file : Option File) (rows more : Rows) (caller : ℕ) (topic : Topic) (ws : List Want) → Some ws ≡ unless_none (next file rows caller topic) → All (IsKnown more) ws →
+    StaysKnown rows more → left file more caller topic < left file rows caller topic
+step_lowers file rows more caller topic ws is all stays = at (next file rows caller topic) refl is
   where
-    at : (asked : List Want) → next file rows caller topic ≡ asked → Some ws ≡ unless_none asked → left file both caller topic < left file rows caller topic
+    at : (asked : List Want) → next file rows caller topic ≡ asked → Some ws ≡ unless_none asked → left file more caller topic < left file rows caller topic
     at [] here is = absurd (cc)
     at (w ∷ vs) here is =
         let same : ws ≡ w ∷ vs = cc in
-        asking_lowers file rows more both caller topic w vs here (subst (All (IsKnown more)) same all) added
+        asking_lowers file rows more caller topic w vs here (subst (All (IsKnown more)) same all) stays
+
+-- and what was known stays
+pub step_stays : (file : Option File) (rows more : Rows) (caller : ℕ) (topic : Topic) (ws : List Want) → Some ws ≡ unless_none (next file rows caller topic) → AreAsked ws rows more → StaysKnown rows more
+step_stays file rows more caller topic ws is asked = λ w there.
+    ⊎_elim (λ same. same) (λ within. absurd (All-contains (IsUnknown rows) ws w unasked within there)) (asked.others w)
+  where
+    at : (ns : List Want) → AllByRecursion (IsUnknown rows) ns → Some ws ≡ unless_none ns → AllByRecursion (IsUnknown rows) ws
+    at [] all is = absurd (cc)
+    at (v ∷ vs) all is = let same : ws ≡ v ∷ vs = cc in subst (AllByRecursion (IsUnknown rows)) (sym same) all
+
+    unasked : All (IsUnknown rows) ws
+    unasked = All-from_recursion (IsUnknown rows) ws (at (next file rows caller topic) (next_unmade rows file caller topic) is)
 
 -- where nothing is asked, nothing is left
 pub none_asked : (file : Option File) (rows : Rows) (caller : ℕ) (topic : Topic) (need : Option Need) → need ≡ None → wants_in need ≡ unless_none (next file rows caller topic) →
@@ -44,22 +57,11 @@ none_asked file rows caller topic need none is = at (next file rows caller topic
     at [] is = refl
     at (w ∷ ws) is = absurd (cc)
 
-or_found : (t : Tables) (w : Want) (a b : Option Found) (f : Found) → ((f : Found) → a ≡ Some f → IsFound t w f) → ((f : Found) → b ≡ Some f → IsFound t w f) → option_or a b ≡ Some f → IsFound t w f
-or_found t w None b f one two is = two f is
-or_found t w (Some x) b f one two is = one f is
-
--- what two rows know is so where it is so in each
-agrees_added : (t : Tables) (rows more both : Rows) → Agrees t rows → Agrees t more → AreAdded rows more both → Agrees t both
-agrees_added t rows more both one two added w f is = or_found t w (known rows w) (known more w) f (one w) (two w) (sym (added w) ∙ is)
-
-or_nothing : {X : Type 0} (a b c : Option X) → c ≡ option_or a b → a ≡ None → c ≡ b
-or_nothing None b c is none = is
-or_nothing (Some x) b c is none = absurd (cc)
-
-pub so_far_added : (tables : Option Tables) (rows more both : Rows) → IsSoFar tables rows → Shows tables (λ t. Agrees t more) → AreAdded rows more both → IsSoFar tables both
-so_far_added None rows more both so found added = absurd found
-so_far_added (Some t) rows more both (inl nothing) found added = inr (λ w f is. found w f (sym (or_nothing (known rows w) (known more w) (known both w) (added w) (nothing w)) ∙ is))
-so_far_added (Some t) rows more both (inr agree) found added = inr (agrees_added t rows more both agree found added)
+-- what is known then is so, where it was so before and what was looked up is
+pub so_far_asked : (tables : Option Tables) (rows more : Rows) → IsSoFar tables rows → Shows tables (λ t. AgreesBeside t rows more) → IsSoFar tables more
+so_far_asked None rows more so found = absurd found
+so_far_asked (Some t) rows more (inl nothing) found = inr (λ w f is. ⊎_elim (λ was. let e : None ≡ Some f = sym (nothing w) ∙ was in absurd (cc)) (λ so. so) (found w f is))
+so_far_asked (Some t) rows more (inr agree) found = inr (λ w f is. ⊎_elim (λ was. agree w f was) (λ so. so) (found w f is))
 
 -- once nothing is left to ask, the rows agree with the tables
 pub so_far_shown : (tables : Option Tables) (file : Option File) (rows : Rows) (caller : ℕ) (topic : Topic) → IsSoFar tables rows → next file rows caller topic ≡ [] → Shows tables (λ t. Agrees t rows)
@@ -67,8 +69,8 @@ so_far_shown tables file rows caller topic (inl nothing) left = absurd (asks_fir
 so_far_shown tables file rows caller topic (inr agree) left = agree
 
 -- what the first rows know stays
-pub stays_added : (first rows more both : Rows) → StaysKnown first rows → AreAdded rows more both → StaysKnown first both
-stays_added first rows more both stays added w there = added w ∙ or_stays (known rows w) (known more w) (ap is_some (stays w there) ∙ there) ∙ stays w there
+pub stays_known : (first rows more : Rows) → StaysKnown first rows → StaysKnown rows more → StaysKnown first more
+stays_known first rows more stays later w there = later w (ap is_some (stays w there) ∙ there) ∙ stays w there
 
 -- a fault leaves or blames the tables that stood before
 pub left_before : (f : ShelfFault) (old mid new : Option Tables) → mid ≡ old → LeavesBy (cause_of f) mid new → LeavesBy (cause_of f) old new

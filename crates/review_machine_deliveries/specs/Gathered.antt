@@ -4,7 +4,7 @@ use Rattle.review_words.specs.{History.Entry, declared.reply.NotTaken.NotTaken a
 use Rattle.review_words.specs.declared.reply.NotTaken.TheVariants.{Memory, Store, Damaged, Pattern, Full}
 use Rattle.review_words.specs.declared.reply.Reply.TheVariants.{NotTaken}
 use Rattle.review_machine_rows.specs.{Changes.Reading, Changes.Reads, Decisions.HasPatternIn, Decisions.topic_project}
-use Rattle.review_machine_rows.specs.{Files.File, Known.known, Known.Agrees, Known.IsKnown, Rows.Tables}
+use Rattle.review_machine_rows.specs.{Files.File, Known.known, Known.Agrees, Rows.Tables}
 use Rattle.review_machine_rows.specs.Shelf.{AddsNoStop, BlamesTables, CountsFaults, KeepsTables, Shown, Shows, IsDamaged, LeavesBy}
 use Rattle.review_machine_rows.specs.{Steps.Topic, Steps.HasFile, Steps.next, Steps.texts_for, View.IsView}
 use Rattle.review_machine_rows.specs.declared.{rows.Rows.Rows, rows.Want.Want, shelf.ShelfFault.ShelfFault}
@@ -13,10 +13,6 @@ use Rattle.review_machine_deliveries.specs.Replies.{CountsReply}
 -- what was gathered so far: nothing, or what is so in the tables
 abbrev pub IsSoFar : Option Tables → Rows → Type 0
 IsSoFar tables rows = ((w : Want) → known rows w ≡ None) ⊎ Shows tables (λ t. Agrees t rows)
-
--- what the first rows know, the others know alike
-abbrev pub StaysKnown : Rows → Rows → Type 0
-StaysKnown first rows = (w : Want) → IsKnown first w → known rows w ≡ known first w
 
 -- nothing is left to ask, and the file is the one to be read
 abbrev pub IsAllAsked : ℕ → Topic → Option File → Rows → Type 0

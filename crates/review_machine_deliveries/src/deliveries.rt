@@ -164,8 +164,8 @@ fn first_arrival<S: Shelf, R: Rules>(
     ensures counted { CountsReply (reply_of result) (S.state shelf.old).faults (S.state shelf.new).faults }
 {
     let decided = gather_and_decide(alloc, shelf, rules, caller, epoch, command)?;
-    store(alloc, shelf, caller, epoch, id, &decided, content)?;
-    Ok(decided.reply)
+    let reply = store(alloc, shelf, caller, epoch, id, decided, content)?;
+    Ok(reply)
 }
 
 // Decides a command by what the tables tell.
@@ -236,27 +236,29 @@ fn decide<R: Rules>(
     })
 }
 
-// Stores a request with its answer, and what it changes, in one commit.
+// Stores a request with its answer, and what it changes, in one commit; and answers what was decided.
 fn store<S: Shelf>(
     alloc: Global,
     shelf: &mut S,
     caller: AccountNo,
     epoch: Epoch,
     id: &RequestId,
-    decided: &Decided,
+    decided: Decided,
     content: String,
-) -> Result<(), ShelfFault>
+) -> Result<Reply, ShelfFault>
+    ensures reply { IfOk result (λ reply. reply ≡ decided.reply) }
     ensures honest { (S.state shelf.new).is_honest → (S.state shelf.old).is_honest }
-    ensures done { (S.state shelf.new).is_honest → OnOk result (Shows (S.state shelf.old).tables (λ t. Shows (S.state shelf.new).tables (IsCommitted t decided.now.delta (row_for caller epoch id.now decided.now (string_bytes content))))) }
+    ensures done { (S.state shelf.new).is_honest → OnOk result (Shows (S.state shelf.old).tables (λ t. Shows (S.state shelf.new).tables (IsCommitted t decided.delta (row_for caller epoch id.now decided (string_bytes content))))) }
     ensures alone { (S.state shelf.new).is_honest → OnOk result (StopLeavesOwnTables (S.state shelf.new)) }
     ensures undone { (S.state shelf.new).is_honest → LeavesUndone result (S.state shelf.old).tables (S.state shelf.new).tables }
     ensures damaged { (S.state shelf.new).is_honest → BlamesTables result (S.state shelf.old).tables }
     ensures stops { (S.state shelf.new).is_honest → (t : Tables) → (S.state shelf.new).stops t →
-        (S.state shelf.old).stops t ⊎ Shows (S.state shelf.old).tables (λ was. IsCommitted was decided.now.delta (row_for caller epoch id.now decided.now (string_bytes content)) t) }
+        (S.state shelf.old).stops t ⊎ Shows (S.state shelf.old).tables (λ was. IsCommitted was decided.delta (row_for caller epoch id.now decided (string_bytes content)) t) }
     ensures counted { CountsFaults result (S.state shelf.old).faults (S.state shelf.new).faults }
 {
-    let kept = kept_for(alloc, caller, epoch, id, decided, content)?;
-    shelf.commit(alloc, &decided.delta, kept)
+    let kept = kept_for(alloc, caller, epoch, id, &decided, content)?;
+    shelf.commit(alloc, decided.delta, kept)?;
+    Ok(decided.reply)
 }
 
 // What is stored of a request that was decided.

@@ -1,9 +1,9 @@
 //! What the tables know of a delivery, asked for step by step.
 ghost use Rattle.std.specs.Prelude.{◌≡◌, [], IfOk, IfErr, OnOk, option_copied};
-ghost use Rattle.review_machine_rows.specs.Known.{Agrees};
+ghost use Rattle.review_machine_rows.specs.Known.{Agrees, StaysKnown};
 ghost use Rattle.review_machine_rows.specs.Shelf.{Shows, KeepsTables, BlamesTables, AddsNoStop, CountsFaults};
 ghost use Rattle.review_machine_rows.specs.Steps.{HasComeTo, next, topic_of};
-ghost use Rattle.review_machine_deliveries.specs.Gathered.{OnlyGathers, OnlyLooks, CountsCause, IsAllAsked, IsSoFar, IsUngathered, LeavesTables, StaysKnown};
+ghost use Rattle.review_machine_deliveries.specs.Gathered.{OnlyGathers, OnlyLooks, CountsCause, IsAllAsked, IsSoFar, IsUngathered, LeavesTables};
 
 use crate::rules::Rules;
 use review_file::ProjectFile;
@@ -59,8 +59,7 @@ fn gather_from<S: Shelf, R: Rules>(
 {
     let mut come = from;
     while let Some(need) = rules.next_need(alloc, effective, rows, caller, matter, &mut come)? {
-        let more = shelf.load(alloc, &need)?;
-        rows.add(alloc, more)?;
+        shelf.load(alloc, &need, rows)?;
     }
     Ok(())
 }

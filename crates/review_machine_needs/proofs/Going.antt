@@ -68,7 +68,7 @@ above_asked file rows caller topic ws h is some =
     let rest = next_of rows (line ++ last) in
     let left : rest ≡ ws = next_joined rows line last ∙ or_of ws (next_of rows line) (next_of rows last) (sym is) some in (
       next_is file rows caller topic ws (ap (λ l. or_next l (or_next (unknown rows (change_wants rows topic)) rest)) h.0 ∙ (ap (λ l. or_next l rest) h.1 ∙ left)) some,
-      λ more both all added. come_stays file rows more both caller topic step.Above added h,
+      λ more all stays. come_stays file rows more caller topic step.Above stays h,
     )
 
 pub file_asked : (file : Option File) (rows : Rows) (caller : ℕ) (topic : Topic) (ws : List Want) → HasComeTo file rows caller topic step.ByFile → ws ≡ unknown rows (file_wants file caller topic) → (ws ≡ [] → ⊥) →
@@ -80,7 +80,7 @@ file_asked file rows caller topic ws h is some =
 pub last_asked : (file : Option File) (rows : Rows) (caller : ℕ) (topic : Topic) (ws : List Want) (o walked : Option Walked) → HasComeTo file rows caller topic (step.Last o) → ws ≡ last_wants rows topic → MayGoOnFor rows topic walked →
     IsAsked file rows caller topic ws (step.Last walked)
 last_asked file rows caller topic ws o walked h is may =
-    (is ∙ sym (ap (λ l. or_next l (last_wants rows topic)) h.0), λ more both all added. come_stays file rows more both caller topic (step.Last walked) added (h.0, may))
+    (is ∙ sym (ap (λ l. or_next l (last_wants rows topic)) h.0), λ more all stays. come_stays file rows more caller topic (step.Last walked) stays (h.0, may))
 
 nonempty : (ws : List Want) → (ws ≡ [] → ⊥) → Some ws ≡ unless_none ws
 nonempty [] some = absurd (some refl)

@@ -1,5 +1,5 @@
 -- What a look-up finds in tables, and what rows know.
-use Rattle.std.specs.{Cmp.Lexicographic.slice_cmp, List.All, List.Contains, Option.option_or, Ordering.nat_cmp}
+use Rattle.std.specs.{Cmp.Lexicographic.slice_cmp, List.All, List.Contains, Ordering.nat_cmp}
 use Rattle.std.specs.Prelude.{ℕ, zero, suc, ◌<◌, ◌≡◌, ◌⊎◌, AllPairs, List, [], ◌∷◌, Option, Some, None, IsSome, Bool, true, false, is_some, nat_lt, option_map, if◌then◌else◌}
 use Rattle.{std.specs.declared.cmp.Ordering.Ordering, review_table.specs.Rows.row_in, review_table.specs.Rows.rows_of}
 use Rattle.review_words.specs.Epochs.{last_epoch}
@@ -232,14 +232,18 @@ Agrees t rows = (w : Want) (found : Found) → known rows w ≡ Some found → I
 abbrev pub IsKnown : Rows → Want → Type 0
 IsKnown rows w = is_some (known rows w) ≡ true
 
--- the rows know of these look-ups, and of no others
-pub record AreAsked (wants : List Want) (rows : Rows) : Type 0 where
-  pub all : All (IsKnown rows) wants
-  pub only : (w : Want) → IsKnown rows w → Contains wants w
+-- what the first rows know, the others know alike
+abbrev pub StaysKnown : Rows → Rows → Type 0
+StaysKnown first rows = (w : Want) → IsKnown first w → known rows w ≡ known first w
 
--- what two rows know together
-abbrev pub AreAdded : Rows → Rows → Rows → Type 0
-AreAdded rows more both = (w : Want) → known both w ≡ option_or (known rows w) (known more w)
+-- rows know of these look-ups now, and of each other one what they knew
+pub record AreAsked (wants : List Want) (old new : Rows) : Type 0 where
+  pub all : All (IsKnown new) wants
+  pub others : (w : Want) → (known new w ≡ known old w) ⊎ Contains wants w
+
+-- what rows know now, they knew, or it is so in these tables
+abbrev pub AgreesBeside : Tables → Rows → Rows → Type 0
+AgreesBeside t old new = (w : Want) (found : Found) → known new w ≡ Some found → (known old w ≡ Some found) ⊎ IsFound t w found
 
 -- it is found that it is so
 abbrev pub is_so : Option Found → Bool

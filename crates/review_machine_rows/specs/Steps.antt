@@ -14,7 +14,7 @@ use Rattle.review_file_rules.specs.{Inherited.IsEffective, Named.copy_groups, Na
 use Rattle.review_file_rules.specs.{Reading.named_parent, Rights.grants_of}
 use Rattle.review_core_rules.specs.Change.{Change, is_open}
 use Rattle.review_machine_rows.specs.Files.{File}
-use Rattle.review_machine_rows.specs.Known.{known, AreAdded, IsKnown, change_in, file_in}
+use Rattle.review_machine_rows.specs.Known.{known, IsKnown, StaysKnown, change_in, file_in}
 use Rattle.review_machine_rows.specs.{Lines.line_of, Lines.most_depth, Links.links_in, declared.matter.Matter.Matter}
 use Rattle.review_machine_rows.specs.declared.rows.{Need.Need, Rows.Rows, StoredFile.StoredFile, Want.Want}
 use Rattle.review_machine_rows.specs.declared.step.Step.{Step}
@@ -334,8 +334,8 @@ left file rows caller topic = left_before (left_of rows (steps file rows caller 
 
 -- where something is asked next, rows that know it have fewer steps left
 abbrev pub AskingLowers : Type 0
-AskingLowers = (file : Option File) (rows more both : Rows) (caller : ℕ) (topic : Topic) (w : Want) (ws : List Want) →
-    next file rows caller topic ≡ w ∷ ws → All (IsKnown more) (w ∷ ws) → AreAdded rows more both → left file both caller topic < left file rows caller topic
+AskingLowers = (file : Option File) (rows more : Rows) (caller : ℕ) (topic : Topic) (w : Want) (ws : List Want) →
+    next file rows caller topic ≡ w ∷ ws → All (IsKnown more) (w ∷ ws) → StaysKnown rows more → left file more caller topic < left file rows caller topic
 
 -- a walk to the change of this number, which is open and not in work in progress, in its branch
 pub record IsWalkTo (rows : Rows) (n : ℕ) (w : Walked) : Type 0 where
@@ -366,4 +366,4 @@ HasComeTo file rows caller topic (step.Last walked) = (next_of rows (steps file 
 
 -- once these look-ups are made beside what was known, asking has come to this step
 abbrev pub ComesTo : Option File → Rows → ℕ → Topic → List Want → Step → Type 0
-ComesTo file rows caller topic wants step = (more both : Rows) → All (IsKnown more) wants → AreAdded rows more both → HasComeTo file both caller topic step
+ComesTo file rows caller topic wants step = (more : Rows) → All (IsKnown more) wants → StaysKnown rows more → HasComeTo file more caller topic step

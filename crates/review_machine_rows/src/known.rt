@@ -1,18 +1,17 @@
 //! What rows know, and how they learn it.
-ghost use Rattle.std.specs.Option.{option_map_or, option_or};
-ghost use Rattle.std.specs.Prelude.{◌≡◌, Some, None, OnOk, false, ◌∷◌, [], is_some, option_copied, option_map, unwrap_or};
+ghost use Rattle.std.specs.Option.{option_map_or};
+ghost use Rattle.std.specs.Prelude.{◌≡◌, Some, None, OnOk, false, [], is_some, option_copied, option_map, unwrap_or};
 ghost use Rattle.{review_table.specs.Rows.row_in, review_table.specs.Rows.rows_of, review_core_rules.specs.Seen.seen};
-ghost use Rattle.review_machine_rows.specs.Known.{Members, known, meaning, group_of, Learns, AreAdded, is_so, is_there, number_of, holder_of, members_of, file_in, commits_of, change_in, standing_of, joined_of};
+ghost use Rattle.review_machine_rows.specs.Known.{Members, known, meaning, group_of, Learns, is_so, is_there, number_of, holder_of, members_of, file_in, commits_of, change_in, standing_of, joined_of};
 ghost use Rattle.review_machine_rows.specs.declared.rows.Want.{Want};
 ghost use Rattle.review_machine_rows.specs.declared.rows.Want.TheVariants as want;
 
 use crate::rows::{Found, Rows, StoredFile, Want};
 use review_chain::Standing;
 use review_core_rules::ChangeRows;
-use review_table::{Key, Table};
+use review_table::Table;
 use review_words::{AccountNo, Bases, ChangeNo, GroupName, JoinedChange, Listed};
 use std::alloc::{AllocError, Global};
-use std::mem;
 
 impl Want {
     /// The group whose members are looked up.
@@ -47,23 +46,6 @@ impl Rows {
             Some(group) => self.groups.get(group).is_some(),
             None => self.found.get(want).is_some(),
         }
-    }
-
-    /// Adds what other rows know; where both know of a look-up, what these say stays. An error is want of memory, and may leave a part added.
-    pub fn add(&mut self, alloc: Global, more: Rows) -> Result<(), AllocError>
-        ensures { OnOk result (AreAdded self.old more self.new) }
-    {
-        let mut more = more;
-        self.take_from(alloc, &mut more)
-    }
-
-    // Adds what other rows know. Their tables go over, and what is left of the rows means nothing.
-    fn take_from(&mut self, alloc: Global, more: &mut Rows) -> Result<(), AllocError>
-        ensures { OnOk result (AreAdded self.old more.old self.new) }
-    {
-        add_all(alloc, &mut self.groups, &mut more.groups)?;
-        add_all(alloc, &mut self.found, &mut more.found)?;
-        Ok(())
     }
 
     /// What a look-up found, but for that of a group.
@@ -202,47 +184,4 @@ impl Rows {
             _ => None,
         }
     }
-}
-
-// Adds the rows of a table whose keys have none in another one, and leaves it empty. It is taken whole where the other has no row.
-fn add_all<K: Key, V: Drop>(
-    alloc: Global,
-    rows: &mut Table<K, V>,
-    more: &mut Table<K, V>,
-) -> Result<(), AllocError>
-    ensures rows { OnOk result ((q : K) → row_in K.cmp (rows_of rows.new) q ≡ option_or (row_in K.cmp (rows_of rows.old) q) (row_in K.cmp (rows_of more.old) q)) }
-    ensures left { rows_of more.new ≡ [] }
-{
-    if more.last_key().is_none() {
-        return Ok(());
-    }
-    let taken = mem::replace(more, Table::new(alloc));
-    if rows.last_key().is_none() {
-        *rows = taken;
-        return Ok(());
-    }
-    add_each(alloc, rows, taken)
-}
-
-fn add_each<K: Key, V: Drop>(
-    alloc: Global,
-    rows: &mut Table<K, V>,
-    more: Table<K, V>,
-) -> Result<(), AllocError>
-    ensures { OnOk result ((q : K) → row_in K.cmp (rows_of rows.new) q ≡ option_or (row_in K.cmp (rows_of rows.old) q) (row_in K.cmp (rows_of more) q)) }
-{
-    for (key, row) in more.into_rows(alloc)? {
-        add_one(rows, key, row)?;
-    }
-    Ok(())
-}
-
-// Adds a row where its key has none.
-fn add_one<K: Key, V: Drop>(rows: &mut Table<K, V>, key: K, row: V) -> Result<(), AllocError>
-    ensures { OnOk result ((q : K) → row_in K.cmp (rows_of rows.new) q ≡ option_or (row_in K.cmp (rows_of rows.old) q) (row_in K.cmp ((key, row) ∷ []) q)) }
-{
-    if rows.get(&key).is_none() {
-        rows.put(key, row)?;
-    }
-    Ok(())
 }

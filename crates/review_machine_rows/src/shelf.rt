@@ -48,7 +48,7 @@ impl From<ShelfFault> for NotTaken {
 /// fault leaves the tables as they are. What a stop of the machine at any moment may leave is shown too: only what it could
 /// leave before the call, or what the call's success leaves.
 pub trait Shelf {
-    ghost use Rattle.review_machine_rows.specs.{Known.Agrees, Known.AreAsked, Rows.Tables, Rows.kept_row};
+    ghost use Rattle.review_machine_rows.specs.{Known.AgreesBeside, Known.AreAsked, Rows.Tables, Rows.kept_row};
     ghost use Rattle.review_machine_rows.specs.Shelf.{Shown, Shows, LeavesUndone, IsRecalled, IsCommitted, CountsFaults, KeepsTables, BlamesTables, AddsNoStop, StopLeavesOwnTables, greatest_count};
 
     /// The tables, whether the store was honest, its count of faults, and what a stop may leave.
@@ -69,25 +69,25 @@ pub trait Shelf {
         ensures stops { (state self.new).is_honest → AddsNoStop (state self.old) (state self.new) }
         ensures counted { CountsFaults result (state self.old).faults (state self.new).faults };
 
-    /// What the look-ups of the need find, and of no others.
-    fn load(&mut self, alloc: Global, need: &Need) -> Result<Rows, ShelfFault>
+    /// Rows learn what the look-ups of the need find, and of no others. An error may leave a part of it learnt.
+    fn load(&mut self, alloc: Global, need: &Need, rows: &mut Rows) -> Result<(), ShelfFault>
         ensures honest { (state self.new).is_honest → (state self.old).is_honest }
-        ensures asked { IfOk result (AreAsked need.now.wants.items) }
-        ensures found { (state self.new).is_honest → IfOk result (λ rows. Shows (state self.old).tables (λ t. Agrees t rows)) }
+        ensures asked { OnOk result (AreAsked need.now.wants.items rows.old rows.new) }
+        ensures found { (state self.new).is_honest → OnOk result (Shows (state self.old).tables (λ t. AgreesBeside t rows.old rows.new)) }
         ensures tables { (state self.new).is_honest → KeepsTables result (state self.old).tables (state self.new).tables }
         ensures damaged { (state self.new).is_honest → BlamesTables result (state self.old).tables }
         ensures stops { (state self.new).is_honest → AddsNoStop (state self.old) (state self.new) }
         ensures counted { CountsFaults result (state self.old).faults (state self.new).faults };
 
     /// Applies the delta and stores the request, and where the delta names an epoch makes it the least open one and gives up the kept answers of lower ones; or changes nothing.
-    fn commit(&mut self, alloc: Global, delta: &Delta, kept: Kept) -> Result<(), ShelfFault>
+    fn commit(&mut self, alloc: Global, delta: Delta, kept: Kept) -> Result<(), ShelfFault>
         ensures honest { (state self.new).is_honest → (state self.old).is_honest }
-        ensures done { (state self.new).is_honest → OnOk result (Shows (state self.old).tables (λ t. Shows (state self.new).tables (IsCommitted t delta.now (kept_row kept)))) }
+        ensures done { (state self.new).is_honest → OnOk result (Shows (state self.old).tables (λ t. Shows (state self.new).tables (IsCommitted t delta (kept_row kept)))) }
         ensures alone { (state self.new).is_honest → OnOk result (StopLeavesOwnTables (state self.new)) }
         ensures undone { (state self.new).is_honest → LeavesUndone result (state self.old).tables (state self.new).tables }
         ensures damaged { (state self.new).is_honest → BlamesTables result (state self.old).tables }
         ensures stops { (state self.new).is_honest → (t : Tables) → (state self.new).stops t →
-            (state self.old).stops t ⊎ Shows (state self.old).tables (λ was. IsCommitted was delta.now (kept_row kept) t) }
+            (state self.old).stops t ⊎ Shows (state self.old).tables (λ was. IsCommitted was delta (kept_row kept) t) }
         ensures counted { CountsFaults result (state self.old).faults (state self.new).faults };
 
     fn faults(&self) -> u64

@@ -17,7 +17,7 @@ use Rattle.review_memory_rows.proofs.Dropped.{at_account, exact_answer, at_answe
 use Rattle.review_memory_rows.specs.{Answers.key_of, Answers.answer_cmp, Bases.BranchesView, Bases.total_in}
 use Rattle.review_memory_rows.specs.Kept.{ArePrepared, part_at, part_where}
 use Rattle.review_memory_rows.specs.declared.answer_keys.{AnswerKey.AnswerKey, StoredAnswer.StoredAnswer}
-use Rattle.review_memory.specs.Desk.{name_cmp, IsNumber, beside_epoch, Desk, desk_of, desk_with, tables_of, row_of, count_of, stored_row, file_changes, AddsNames, AreInUse, IsIndexed, IsNumbered, IsBounded, IsSound, IsGiven, IsHeld, IsNameOf, IsStored, IsUsed, AreIndexed, KeepsNames, AreChangesOf, AreApplied, IsWithBase, HasChanged, HasNoSpareRoom, HasRoom, HasRoomOnlyFor, PutsAnswer, with_stored}
+use Rattle.review_memory.specs.Desk.{name_cmp, IsNumber, beside_epoch, Desk, desk_of, desk_with, tables_of, row_of, count_of, stored_row, file_changes, AddsNames, AreInUse, IsIndexed, IsNumbered, IsBounded, IsSound, IsGiven, IsHeld, IsNameOf, IsStored, IsUsed, AreIndexed, KeepsNames, AreChanges, AreChangesOf, AreApplied, IsWithBase, HasChanged, HasNoSpareRoom, HasRoom, HasRoomOnlyFor, PutsAnswer, with_stored}
 use Rattle.review_memory.specs.declared.{changes.Changes.Changes, keys.NameKey.NameKey}
 use Rattle.review_memory.specs.declared.tables.MemoryTables.{MemoryTables}
 
@@ -98,6 +98,10 @@ change_holds {R = R} exact P (c ∷ cs) all k row is =
 account_indexed : (change : Option (Option (List ℕ))) (was : Option (List ℕ)) (name : List ℕ) (P : Type 0) → after_row_edit change was ≡ Some name → ((row : Option (List ℕ)) → change ≡ Some row → row ≡ Some name → P) → (was ≡ Some name → P) → P
 account_indexed None was name P is put kept = kept is
 account_indexed (Some row) was name P is put kept = put row refl is
+
+-- the same changes, of lists that are the same
+pub same_changes : {xs ys : List (RowEdit ℕ (List ℕ))} {us vs : List (RowEdit Member (Unit {0}))} (file : Option (Put (List ℕ) StoredFile)) (changes : Changes) → xs ≡ ys → us ≡ vs → AreChanges xs us file changes → AreChanges ys vs file changes
+same_changes {xs} {ys} {us} {vs} file changes one two are = subst (λ ms. AreChanges ys ms file changes) two (subst (λ ns. AreChanges ns us file changes) one are)
 
 pub applied_indexed : (delta : Delta) (changes : Changes) (given : List NameKey) (projects : ℕ) (old new : MemoryTables) → AreChangesOf delta changes → All (IsGiven given) delta.accounts.items → AreIndexed (rows_of new.names) given
     → KeepsNames (rows_of old.names) (rows_of new.names) → AreApplied (desk_of old) changes projects (desk_of new) → IsIndexed (rows_of old.accounts) (rows_of old.names) → IsIndexed (rows_of new.accounts) (rows_of new.names)

@@ -163,12 +163,16 @@ abbrev pub file_changes : Option (Put (List ℕ) StoredFile) → List (RowEdit (
 file_changes None = []
 file_changes (Some put) = record { key = put.key; row = Some put.row } ∷ []
 
+-- the changes are those of these accounts, members and file
+pub record AreChanges (given : List (RowEdit ℕ (List ℕ))) (grouped : List (RowEdit Member (Unit {0}))) (file : Option (Put (List ℕ) StoredFile)) (changes : Changes) : Type 0 where
+  pub accounts : changes.accounts.items ≡ given
+  pub members : changes.members.items ≡ grouped
+  pub files : changes.files.items ≡ file_changes file
+  pub numbered : All (λ c. IsNumber c.key.account) grouped
+
 -- the changes are those of the delta
-pub record AreChangesOf (delta : Delta) (changes : Changes) : Type 0 where
-  pub accounts : changes.accounts.items ≡ delta.accounts.items
-  pub members : changes.members.items ≡ delta.members.items
-  pub files : changes.files.items ≡ file_changes delta.file
-  pub numbered : All (λ c. IsNumber c.key.account) delta.members.items
+abbrev pub AreChangesOf : Delta → Changes → Type 0
+AreChangesOf delta changes = AreChanges delta.accounts.items delta.members.items delta.file changes
 
 -- each name of a list is in the index
 abbrev pub AreIndexed : List (NameKey × Unit {0}) → List NameKey → Type 0

@@ -1,16 +1,16 @@
-//! What a delta and its request change in tables in memory, in copies of their own.
+//! What a delta and its request change in tables in memory.
 ghost use Rattle.std.specs.{List.All, Prelude.◌≡◌, Prelude.IfOk, Prelude.OnOk};
 ghost use Rattle.{review_table.specs.Rows.rows_of, review_memory_rows.specs.Kept.ArePrepared};
-ghost use Rattle.review_memory.specs.Desk.{IsNumber, IsHeld, IsGiven, IsNameOf, AreChangesOf, PutsAnswer, file_changes};
+ghost use Rattle.review_memory.specs.Desk.{IsNumber, IsHeld, IsGiven, IsNameOf, AreChanges, PutsAnswer, file_changes};
 
 use crate::keys::NameKey;
-use review_machine_rows::{Delta, Kept, MemberKey, Put, StoredFile};
+use review_machine_rows::{ChangeEdit, Kept, MemberKey, Put, StoredFile};
 use review_memory_rows::{AnswerKey, KeptChanges, Prepared, StoredAnswer, copied_changes};
 use review_table::{Key, RowEdit, Table};
 use review_words::{AccountName, AccountNo, ProjectName};
 use std::alloc::{AllocError, Global};
 
-/// The changes of a delta but for the base of a branch.
+/// The changes of a delta but for the base of a branch: those of accounts and members in copies of their own.
 #[derive(Drop)]
 pub struct Changes {
     pub accounts: Vec<RowEdit<AccountNo, AccountName>>,
@@ -20,15 +20,22 @@ pub struct Changes {
 }
 
 impl Changes {
-    /// Those of a delta, where these are the changes before it.
-    pub fn new(alloc: Global, delta: &Delta, changes: &KeptChanges) -> Result<Changes, AllocError>
-        ensures copied { IfOk result (AreChangesOf delta.now) }
-        ensures edits { IfOk result (λ c. ArePrepared (rows_of changes.now.kept) delta.now.changes.items c.edits) }
+    /// Those of the parts of a delta, where these are the changes before it.
+    pub fn new(
+        alloc: Global,
+        accounts: &[RowEdit<AccountNo, AccountName>],
+        members: &[RowEdit<MemberKey, ()>],
+        file: Option<Put<ProjectName, StoredFile>>,
+        edits: Vec<ChangeEdit>,
+        kept: &KeptChanges,
+    ) -> Result<Changes, AllocError>
+        ensures copied { IfOk result (AreChanges accounts.now members.now file) }
+        ensures edits { IfOk result (λ c. ArePrepared (rows_of kept.now.kept) edits.items c.edits) }
     {
-        let accounts = copied_changes(alloc, &delta.accounts)?;
-        let members = copied_members(alloc, &delta.members)?;
-        let files = copied_file(alloc, &delta.file)?;
-        let edits = changes.prepare(alloc, &delta.changes)?;
+        let edits = kept.prepare(alloc, edits)?;
+        let files = file_edits(alloc, file)?;
+        let members = copied_members(alloc, members)?;
+        let accounts = copied_changes(alloc, accounts)?;
         Ok(Changes {
             accounts,
             members,
@@ -64,17 +71,17 @@ fn copied_member(change: &RowEdit<MemberKey, ()>) -> Result<RowEdit<MemberKey, (
     })
 }
 
-fn copied_file(
+fn file_edits(
     alloc: Global,
-    file: &Option<Put<ProjectName, StoredFile>>,
+    file: Option<Put<ProjectName, StoredFile>>,
 ) -> Result<Vec<RowEdit<ProjectName, StoredFile>>, AllocError>
-    ensures { IfOk result (λ v. v.items ≡ file_changes file.now) }
+    ensures { IfOk result (λ v. v.items ≡ file_changes file) }
 {
     match file {
         Some(put) => Ok(vec![in alloc;
             RowEdit {
-                key: put.key.copy()?,
-                row: Some(put.row.copy()?),
+                key: put.key,
+                row: Some(put.row),
             },
         ]?),
         None => Ok(Vec::new(alloc)),

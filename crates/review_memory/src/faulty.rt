@@ -60,7 +60,7 @@ impl<T: Shelf> FaultyShelf<T> {
 }
 
 impl<T: Shelf> Shelf for FaultyShelf<T> {
-    ghost use Rattle.review_machine_rows.specs.{Known.Agrees, Known.AreAsked, Rows.Tables, Rows.kept_row};
+    ghost use Rattle.review_machine_rows.specs.{Known.AgreesBeside, Known.AreAsked, Rows.Tables, Rows.kept_row};
     ghost use Rattle.review_machine_rows.specs.Shelf.{Shows, LeavesUndone, IsRecalled, IsCommitted, CountsFaults, KeepsTables, BlamesTables, AddsNoStop, StopLeavesOwnTables};
     ghost use Rattle.review_memory.specs.{Faults.faulty, Faults.is_past, Faults.FailsInTurn, Fits.one_more_fits};
 
@@ -87,10 +87,10 @@ impl<T: Shelf> Shelf for FaultyShelf<T> {
         self.inner.recall(alloc, caller, epoch, id)
     }
 
-    fn load(&mut self, alloc: Global, need: &Need) -> Result<Rows, ShelfFault>
+    fn load(&mut self, alloc: Global, need: &Need, rows: &mut Rows) -> Result<(), ShelfFault>
         ensures honest { (faulty T.state self.new).is_honest → (faulty T.state self.old).is_honest }
-        ensures asked { IfOk result (AreAsked need.now.wants.items) }
-        ensures found { (faulty T.state self.new).is_honest → IfOk result (λ rows. Shows (faulty T.state self.old).tables (λ t. Agrees t rows)) }
+        ensures asked { OnOk result (AreAsked need.now.wants.items rows.old rows.new) }
+        ensures found { (faulty T.state self.new).is_honest → OnOk result (Shows (faulty T.state self.old).tables (λ t. AgreesBeside t rows.old rows.new)) }
         ensures tables { (faulty T.state self.new).is_honest → KeepsTables result (faulty T.state self.old).tables (faulty T.state self.new).tables }
         ensures damaged { (faulty T.state self.new).is_honest → BlamesTables result (faulty T.state self.old).tables }
         ensures stops { (faulty T.state self.new).is_honest → AddsNoStop (faulty T.state self.old) (faulty T.state self.new) }
@@ -100,17 +100,17 @@ impl<T: Shelf> Shelf for FaultyShelf<T> {
         if self.fails() {
             return Err(ShelfFault::Store);
         }
-        self.inner.load(alloc, need)
+        self.inner.load(alloc, need, rows)
     }
 
-    fn commit(&mut self, alloc: Global, delta: &Delta, kept: Kept) -> Result<(), ShelfFault>
+    fn commit(&mut self, alloc: Global, delta: Delta, kept: Kept) -> Result<(), ShelfFault>
         ensures honest { (faulty T.state self.new).is_honest → (faulty T.state self.old).is_honest }
-        ensures done { (faulty T.state self.new).is_honest → OnOk result (Shows (faulty T.state self.old).tables (λ t. Shows (faulty T.state self.new).tables (IsCommitted t delta.now (kept_row kept)))) }
+        ensures done { (faulty T.state self.new).is_honest → OnOk result (Shows (faulty T.state self.old).tables (λ t. Shows (faulty T.state self.new).tables (IsCommitted t delta (kept_row kept)))) }
         ensures alone { (faulty T.state self.new).is_honest → OnOk result (StopLeavesOwnTables (faulty T.state self.new)) }
         ensures undone { (faulty T.state self.new).is_honest → LeavesUndone result (faulty T.state self.old).tables (faulty T.state self.new).tables }
         ensures damaged { (faulty T.state self.new).is_honest → BlamesTables result (faulty T.state self.old).tables }
         ensures stops { (faulty T.state self.new).is_honest → (t : Tables) → (faulty T.state self.new).stops t →
-            (faulty T.state self.old).stops t ⊎ Shows (faulty T.state self.old).tables (λ was. IsCommitted was delta.now (kept_row kept) t) }
+            (faulty T.state self.old).stops t ⊎ Shows (faulty T.state self.old).tables (λ was. IsCommitted was delta (kept_row kept) t) }
         ensures counted { CountsFaults result (faulty T.state self.old).faults (faulty T.state self.new).faults }
         ensures in_turn { FailsInTurn T.state self.old result self.new }
     {

@@ -2,7 +2,7 @@
 ghost use Rattle.std.specs.{Cmp.Lexicographic.slice_cmp, Ordering.nat_cmp};
 ghost use Rattle.std.specs.Prelude.{◌≡◌, ℕ, Some, None, IfOk, IfErr, OnOk, MatchOption};
 ghost use Rattle.review_table.specs.Rows.{row_in, rows_of};
-ghost use Rattle.review_machine_rows.specs.Known.{Agrees, AreAsked, IsFound, IsLast, HasMembers, StandsAs, LearnsFound, group_of, meaning};
+ghost use Rattle.review_machine_rows.specs.Known.{AgreesBeside, AreAsked, IsFound, IsLast, HasMembers, StandsAs, LearnsFound, group_of, meaning};
 ghost use Rattle.review_machine_rows.specs.Rows.{AccountKey, member_cmp};
 ghost use Rattle.review_memory.specs.Desk.{tables_of, desk_of, row_of, IsIndexed, IsNumbered};
 ghost use Rattle.review_memory.specs.Loads.{IsUnread};
@@ -22,20 +22,19 @@ const MOST_PROJECTS: u64 = 1_000;
 const MOST_BASES: u64 = 100_000;
 
 impl MemoryTables {
-    /// What the look-ups of a need find, and of no others. Damaged where the bases of a branch or the rows of a change that is asked for
-    /// have a gap, which no history's have.
-    pub fn load(&self, alloc: Global, need: &Need) -> Result<Rows, ShelfFault>
+    /// Rows learn what the look-ups of a need find, and of no others. Damaged where the bases of a branch or the rows of a change that is
+    /// asked for have a gap, which no history's have.
+    pub fn load(&self, alloc: Global, need: &Need, rows: &mut Rows) -> Result<(), ShelfFault>
         requires indexed { IsIndexed (rows_of self.now.accounts) (rows_of self.now.names) }
         requires numbered { IsNumbered (rows_of self.now.members) }
-        ensures asked { IfOk result (AreAsked need.now.wants.items) }
-        ensures found { IfOk result (Agrees (tables_of (desk_of self.now))) }
+        ensures asked { OnOk result (AreAsked need.now.wants.items rows.old rows.new) }
+        ensures found { OnOk result (AgreesBeside (tables_of (desk_of self.now)) rows.old rows.new) }
         ensures fault { IfErr result (IsUnread (tables_of (desk_of self.now))) }
     {
-        let mut rows = Rows::new(alloc);
         for want in &need.wants {
-            self.find(alloc, want, &mut rows)?;
+            self.find(alloc, want, rows)?;
         }
-        Ok(rows)
+        Ok(())
     }
 
     // Learns what a look-up finds.

@@ -3,9 +3,8 @@ ghost use Rattle.std.specs.Prelude.{◌≡◌, [], IfOk};
 ghost use Rattle.review_machine_rows.specs.{Shelf.Shows, Shelf.StopLeavesOwnTables, View.IsView};
 
 use crate::tables::MemoryTables;
-use review_machine_rows::{Delta, Kept, MemberKey, Need, Recalled, Rows, Shelf, ShelfFault};
-use review_table::Table;
-use review_words::{AccountNo, Epoch, RequestId, admin_name, administrators};
+use review_machine_rows::{Delta, Kept, Need, Recalled, Rows, Shelf, ShelfFault};
+use review_words::{AccountNo, Epoch, RequestId};
 use std::alloc::{AllocError, Global};
 use std::marker::Model;
 
@@ -56,11 +55,11 @@ impl Shelf for MemoryShelf {
         }
     }
 
-    fn load(&mut self, alloc: Global, need: &Need) -> Result<Rows, ShelfFault> {
-        self.tables.load(alloc, need)
+    fn load(&mut self, alloc: Global, need: &Need, rows: &mut Rows) -> Result<(), ShelfFault> {
+        self.tables.load(alloc, need, rows)
     }
 
-    fn commit(&mut self, alloc: Global, delta: &Delta, kept: Kept) -> Result<(), ShelfFault> {
+    fn commit(&mut self, alloc: Global, delta: Delta, kept: Kept) -> Result<(), ShelfFault> {
         // No history is that long.
         if self.tables.requests == u64::MAX {
             return Err(ShelfFault::Damaged);

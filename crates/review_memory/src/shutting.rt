@@ -49,7 +49,7 @@ impl<T: Shelf> ShuttingShelf<T> {
 }
 
 impl<T: Shelf> Shelf for ShuttingShelf<T> {
-    ghost use Rattle.review_machine_rows.specs.{Known.Agrees, Known.AreAsked, Rows.Tables, Rows.kept_row};
+    ghost use Rattle.review_machine_rows.specs.{Known.AgreesBeside, Known.AreAsked, Rows.Tables, Rows.kept_row};
     ghost use Rattle.review_machine_rows.specs.Shelf.{Shows, LeavesUndone, IsRecalled, IsCommitted, CountsFaults, KeepsTables, BlamesTables, AddsNoStop, StopLeavesOwnTables};
     ghost use Rattle.review_memory.specs.{Faults.shutting, Faults.after_call, Faults.ShutsInTurn, Fits.sum_fits};
 
@@ -79,10 +79,10 @@ impl<T: Shelf> Shelf for ShuttingShelf<T> {
         }
     }
 
-    fn load(&mut self, alloc: Global, need: &Need) -> Result<Rows, ShelfFault>
+    fn load(&mut self, alloc: Global, need: &Need, rows: &mut Rows) -> Result<(), ShelfFault>
         ensures honest { (shutting T.state self.new).is_honest → (shutting T.state self.old).is_honest }
-        ensures asked { IfOk result (AreAsked need.now.wants.items) }
-        ensures found { (shutting T.state self.new).is_honest → IfOk result (λ rows. Shows (shutting T.state self.old).tables (λ t. Agrees t rows)) }
+        ensures asked { OnOk result (AreAsked need.now.wants.items rows.old rows.new) }
+        ensures found { (shutting T.state self.new).is_honest → OnOk result (Shows (shutting T.state self.old).tables (λ t. AgreesBeside t rows.old rows.new)) }
         ensures tables { (shutting T.state self.new).is_honest → KeepsTables result (shutting T.state self.old).tables (shutting T.state self.new).tables }
         ensures damaged { (shutting T.state self.new).is_honest → BlamesTables result (shutting T.state self.old).tables }
         ensures stops { (shutting T.state self.new).is_honest → AddsNoStop (shutting T.state self.old) (shutting T.state self.new) }
@@ -90,7 +90,7 @@ impl<T: Shelf> Shelf for ShuttingShelf<T> {
         ensures in_turn { ShutsInTurn T.state self.old result self.old.turn self.new }
     {
         match self.turn {
-            Turn::Ahead(_) => self.inner.load(alloc, need),
+            Turn::Ahead(_) => self.inner.load(alloc, need, rows),
             Turn::Past => {
                 self.refuse();
                 Err(ShelfFault::Store)
@@ -98,14 +98,14 @@ impl<T: Shelf> Shelf for ShuttingShelf<T> {
         }
     }
 
-    fn commit(&mut self, alloc: Global, delta: &Delta, kept: Kept) -> Result<(), ShelfFault>
+    fn commit(&mut self, alloc: Global, delta: Delta, kept: Kept) -> Result<(), ShelfFault>
         ensures honest { (shutting T.state self.new).is_honest → (shutting T.state self.old).is_honest }
-        ensures done { (shutting T.state self.new).is_honest → OnOk result (Shows (shutting T.state self.old).tables (λ t. Shows (shutting T.state self.new).tables (IsCommitted t delta.now (kept_row kept)))) }
+        ensures done { (shutting T.state self.new).is_honest → OnOk result (Shows (shutting T.state self.old).tables (λ t. Shows (shutting T.state self.new).tables (IsCommitted t delta (kept_row kept)))) }
         ensures alone { (shutting T.state self.new).is_honest → OnOk result (StopLeavesOwnTables (shutting T.state self.new)) }
         ensures undone { (shutting T.state self.new).is_honest → LeavesUndone result (shutting T.state self.old).tables (shutting T.state self.new).tables }
         ensures damaged { (shutting T.state self.new).is_honest → BlamesTables result (shutting T.state self.old).tables }
         ensures stops { (shutting T.state self.new).is_honest → (t : Tables) → (shutting T.state self.new).stops t →
-            (shutting T.state self.old).stops t ⊎ Shows (shutting T.state self.old).tables (λ was. IsCommitted was delta.now (kept_row kept) t) }
+            (shutting T.state self.old).stops t ⊎ Shows (shutting T.state self.old).tables (λ was. IsCommitted was delta (kept_row kept) t) }
         ensures counted { CountsFaults result (shutting T.state self.old).faults (shutting T.state self.new).faults }
         ensures in_turn { ShutsInTurn T.state self.old result (after_call self.old.turn) self.new }
     {

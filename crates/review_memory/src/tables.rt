@@ -1,13 +1,14 @@
 //! The tables of a desk in memory, and what changes in them.
 ghost use Rattle.std.specs.{Cmp.Lexicographic.slice_cmp, List.All, Ordering.nat_cmp};
-ghost use Rattle.std.specs.Prelude.{◌≡◌, List, ◌∷◌, Some, IfOk, OnOk, OnErr, ◌<◌, ◌^◌, ◌-◌, IsTrue, ◌↔◌, [], true, None, unwrap_or, if◌then◌else◌};
+ghost use Rattle.std.specs.Prelude.{◌≡◌, ℕ, List, Option, ◌∷◌, Some, IfOk, OnOk, OnErr, ◌<◌, ◌^◌, ◌-◌, IsTrue, ◌↔◌, [], true, None, unwrap_or, if◌then◌else◌};
 ghost use Rattle.review_table.specs.Rows.{row_in, rows_of, is_named, HasEmptyOnly, HasNoEmptyPlace};
 ghost use Rattle.review_table.specs.declared.table.RowEdit.{RowEdit};
 ghost use Rattle.review_machine_rows.specs.Rows.{FileKey, count_put, kept_row, member_cmp};
 ghost use Rattle.review_machine_rows.specs.{Shelf.IsRecalled, Shelf.IsCommitted, View.IsView};
+ghost use Rattle.review_machine_rows.specs.declared.rows.{Put.Put, StoredFile.StoredFile};
 ghost use Rattle.review_memory_rows.specs.Answers.{answer_cmp, is_among, key_of};
 ghost use Rattle.review_memory_rows.specs.{Bases.IsPut, Kept.IsReady, declared.answer_keys.AnswerKey.AnswerKey};
-ghost use Rattle.review_memory.specs.Desk.{tables_of, desk_of, desk_with, row_of, name_cmp, is_removed, IsIndexed, IsBounded, IsSound, AddsNames, AreChangesOf, AreIndexed, KeepsNames, HasChanged, HasNoSpareRoom, HasRemovedOnly, HasRoom, HasRoomOnlyFor, AreApplied, IsNameOf, IsStored, IsUsed, IsWithBase, beside_epoch, with_answers, with_stored};
+ghost use Rattle.review_memory.specs.Desk.{tables_of, desk_of, desk_with, row_of, name_cmp, is_removed, IsIndexed, IsBounded, IsSound, AddsNames, AreChanges, AreIndexed, KeepsNames, HasChanged, HasNoSpareRoom, HasRemovedOnly, HasRoom, HasRoomOnlyFor, AreApplied, IsNameOf, IsStored, IsUsed, IsWithBase, beside_epoch, with_answers, with_stored};
 ghost use Rattle.review_memory.specs.First.{HasAccount, HasName, HasMember};
 ghost use Rattle.review_memory.specs.declared.changes.Changes.{Changes};
 
@@ -95,16 +96,17 @@ impl MemoryTables {
     }
 
     /// Applies a delta and stores its request, or changes no row; where the delta names an epoch, what is kept of lower ones is given up then.
-    pub fn commit(&mut self, alloc: Global, delta: &Delta, kept: Kept) -> Result<(), AllocError>
+    pub fn commit(&mut self, alloc: Global, delta: Delta, kept: Kept) -> Result<(), AllocError>
         requires sound { IsSound self.old }
         requires room { self.old.requests < 2 ^ 64 - 1 }
         ensures sound { IsSound self.new }
-        ensures done { OnOk result (IsCommitted (tables_of (desk_of self.old)) delta.now (kept_row kept) (tables_of (desk_of self.new))) }
+        ensures done { OnOk result (IsCommitted (tables_of (desk_of self.old)) delta (kept_row kept) (tables_of (desk_of self.new))) }
         ensures same { OnErr result (tables_of (desk_of self.new) ≡ tables_of (desk_of self.old)) }
     {
         let lower = lower_keys(alloc, &self.answers, delta.least_epoch, &kept)?;
+        let least = delta.least_epoch;
         self.commit_beside(alloc, delta, kept)?;
-        self.give_up(delta.least_epoch, &lower);
+        self.give_up(least, &lower);
         Ok(())
     }
 
@@ -121,21 +123,29 @@ impl MemoryTables {
     }
 
     /// Applies a delta but for its epoch and stores its request, or changes no row. Places that got no row are given back.
-    fn commit_beside(&mut self, alloc: Global, delta: &Delta, kept: Kept) -> Result<(), AllocError>
+    fn commit_beside(&mut self, alloc: Global, delta: Delta, kept: Kept) -> Result<(), AllocError>
         requires sound { IsSound self.old }
         requires room { self.old.requests < 2 ^ 64 - 1 }
         ensures sound { IsSound self.new }
-        ensures done { OnOk result (IsCommitted (tables_of (desk_of self.old)) (beside_epoch delta.now) (kept_row kept) (tables_of (desk_of self.new))) }
+        ensures done { OnOk result (IsCommitted (tables_of (desk_of self.old)) (beside_epoch delta) (kept_row kept) (tables_of (desk_of self.new))) }
         ensures same { OnErr result (tables_of (desk_of self.new) ≡ tables_of (desk_of self.old)) }
     {
-        let held = names_held(alloc, &self.accounts, &delta.accounts)?;
-        let given = names_given(alloc, &delta.accounts)?;
-        let changes = Changes::new(alloc, delta, &self.changes)?;
-        let projects = self.projects_with(&delta.file);
+        let Delta {
+            accounts,
+            members,
+            file,
+            base,
+            changes,
+            ..
+        } = delta;
+        let held = names_held(alloc, &self.accounts, &accounts)?;
+        let given = names_given(alloc, &accounts)?;
+        let projects = self.projects_with(&file);
         let answer = stored(kept);
-        self.make(alloc, &given, changes, projects, &delta.base, answer)?;
-        self.release_removed(delta);
-        self.drop_given(&delta.accounts, &given);
+        let changes = Changes::new(alloc, &accounts, &members, file, changes, &self.changes)?;
+        self.make(alloc, &given, changes, projects, &base, answer)?;
+        self.release_removed(&accounts, &members);
+        self.drop_given(&accounts, &given);
         self.drop_names(&held);
         Ok(())
     }
@@ -314,14 +324,18 @@ impl MemoryTables {
         self.changes.release(&changes.edits);
     }
 
-    /// Drops the places of the rows that a delta took away.
-    fn release_removed(&mut self, delta: &Delta)
+    /// Drops the places of the accounts and members that a delta took away.
+    fn release_removed(
+        &mut self,
+        accounts: &[RowEdit<AccountNo, AccountName>],
+        members: &[RowEdit<MemberKey, ()>],
+    )
         ensures same { desk_of self.new ≡ desk_of self.old }
         ensures names { self.new.names ≡ self.old.names }
-        ensures filled { (changes : Changes) → AreChangesOf delta.now changes → HasRemovedOnly changes self.old → HasNoSpareRoom self.new }
+        ensures filled { (file : Option (Put (List ℕ) StoredFile)) (changes : Changes) → AreChanges accounts.now members.now file changes → HasRemovedOnly changes self.old → HasNoSpareRoom self.new }
     {
-        release_removed(&mut self.accounts, &delta.accounts);
-        release_removed(&mut self.members, &delta.members);
+        release_removed(&mut self.accounts, accounts);
+        release_removed(&mut self.members, members);
     }
 
     /// Makes changes for which there is room.

@@ -92,27 +92,27 @@ renewed_so_far e t new does true (Some was) at None None part left end so =
     ap (λ x. part_in (renewed x new) part) same ∙ does part ∙ ap (λ x. after_row_edit (part_change e part) (part_in x part)) (sym same) ∙ so
 
 -- one edit more
-pub prepared_more : (kept : List (ℕ × ChangeTables)) (es : List ChangeEdit) (i : ℕ) (e : ChangeEdit) (begun begun_then : List (RowEdit ℕ ChangeTables)) (renewed renewed_then : List (ℕ × NewTables)) → i < length es → e ≡ get_or es i e →
-    IsPrepared (row_in nat_cmp kept e.change) e begun begun_then renewed renewed_then → ArePreparedSoFar kept es (drop i es) begun renewed → ArePreparedSoFar kept es (drop (i + 1) es) begun_then renewed_then
-prepared_more kept es i e begun begun_then renewed renewed_then below item is before = by (row_in nat_cmp kept e.change) refl is
+pub prepared_more : (kept : List (ℕ × ChangeTables)) (es left rest : List ChangeEdit) (e : ChangeEdit) (begun begun_then : List (RowEdit ℕ ChangeTables)) (renewed renewed_then : List (ℕ × NewTables)) → left ≡ e ∷ rest →
+    IsPrepared (row_in nat_cmp kept e.change) e begun begun_then renewed renewed_then → ArePreparedSoFar kept es left begun renewed → ArePreparedSoFar kept es rest begun_then renewed_then
+prepared_more kept es left rest e begun begun_then renewed renewed_then first is before = by (row_in nat_cmp kept e.change) refl is
   where
-    so : ArePreparedSoFar kept es (e ∷ drop (i + 1) es) begun renewed
-    so = subst (λ l. ArePreparedSoFar kept es l begun renewed) (drop_one es i e below ∙ ap (λ x. x ∷ drop (i + 1) es) (sym item)) before
+    so : ArePreparedSoFar kept es (e ∷ rest) begun renewed
+    so = subst (λ l. ArePreparedSoFar kept es l begun renewed) first before
 
     at : (o : Option ChangeTables) → row_in nat_cmp kept e.change ≡ o → (n : ℕ) → (e.change == n) ≡ true → row_in nat_cmp kept n ≡ o
     at o there n same = ap (row_in nat_cmp kept) (sym (eqb-true e.change n same)) ∙ there
 
-    by : (o : Option ChangeTables) → row_in nat_cmp kept e.change ≡ o → IsPrepared o e begun begun_then renewed renewed_then → ArePreparedSoFar kept es (drop (i + 1) es) begun_then renewed_then
-    by None there is = subst (λ cs. ArePreparedSoFar kept es (drop (i + 1) es) cs renewed_then) (sym is.0.listed) (subst (ArePreparedSoFar kept es (drop (i + 1) es) (begun ++ record { key = e.change; row = Some is.0.tables } ∷ [])) (sym is.1) (record {
+    by : (o : Option ChangeTables) → row_in nat_cmp kept e.change ≡ o → IsPrepared o e begun begun_then renewed renewed_then → ArePreparedSoFar kept es rest begun_then renewed_then
+    by None there is = subst (λ cs. ArePreparedSoFar kept es rest cs renewed_then) (sym is.0.listed) (subst (ArePreparedSoFar kept es rest (begun ++ record { key = e.change; row = Some is.0.tables } ∷ [])) (sym is.1) (record {
       tables = λ n part.
-          subst (λ x. IsSoFar (row_in nat_cmp kept n) x (row_in nat_cmp renewed n) part (edited (drop (i + 1) es) n part) (after_row_edit (edited es n part) (part_at kept n part))) (sym (pushed_edit begun (record { key = e.change; row = Some is.0.tables }) n))
-          (begun_so_far e is.0.tables is.0.edited (e.change == n) (row_in nat_cmp kept n) (at None there n) (row_edit_of nat_cmp begun n) (row_in nat_cmp renewed n) part (edited (drop (i + 1) es) n part) (after_row_edit (edited es n part) (part_at kept n part)) (so.tables n part));
+          subst (λ x. IsSoFar (row_in nat_cmp kept n) x (row_in nat_cmp renewed n) part (edited rest n part) (after_row_edit (edited es n part) (part_at kept n part))) (sym (pushed_edit begun (record { key = e.change; row = Some is.0.tables }) n))
+          (begun_so_far e is.0.tables is.0.edited (e.change == n) (row_in nat_cmp kept n) (at None there n) (row_edit_of nat_cmp begun n) (row_in nat_cmp renewed n) part (edited rest n part) (after_row_edit (edited es n part) (part_at kept n part)) (so.tables n part));
       some = All-push (λ (c : RowEdit ℕ ChangeTables). IsSome c.row) begun (record { key = e.change; row = Some is.0.tables }) so.some refl;
     }))
-    by (Some t) there is = subst (λ cs. ArePreparedSoFar kept es (drop (i + 1) es) cs renewed_then) (sym is.1) (subst (ArePreparedSoFar kept es (drop (i + 1) es) begun) (sym is.0.listed) (record {
+    by (Some t) there is = subst (λ cs. ArePreparedSoFar kept es rest cs renewed_then) (sym is.1) (subst (ArePreparedSoFar kept es rest begun) (sym is.0.listed) (record {
       tables = λ n part.
-          subst (λ y. IsSoFar (row_in nat_cmp kept n) (row_edit_of nat_cmp begun n) y part (edited (drop (i + 1) es) n part) (after_row_edit (edited es n part) (part_at kept n part))) (sym (pushed_row renewed e.change is.0.tables n))
-          (renewed_so_far e t is.0.tables is.0.edited (e.change == n) (row_in nat_cmp kept n) (at (Some t) there n) (row_edit_of nat_cmp begun n) (row_in nat_cmp renewed n) part (edited (drop (i + 1) es) n part) (after_row_edit (edited es n part) (part_at kept n part)) (so.tables n part));
+          subst (λ y. IsSoFar (row_in nat_cmp kept n) (row_edit_of nat_cmp begun n) y part (edited rest n part) (after_row_edit (edited es n part) (part_at kept n part))) (sym (pushed_row renewed e.change is.0.tables n))
+          (renewed_so_far e t is.0.tables is.0.edited (e.change == n) (row_in nat_cmp kept n) (at (Some t) there n) (row_edit_of nat_cmp begun n) (row_in nat_cmp renewed n) part (edited rest n part) (after_row_edit (edited es n part) (part_at kept n part)) (so.tables n part));
       some = so.some;
     }))
 

@@ -24,17 +24,16 @@ pub struct NewTables {
 }
 
 /// What an edit makes of the tables of a change. An error where there was no memory for it.
-pub fn edited(alloc: Global, old: &ChangeTables, edit: &ChangeEdit) -> Result<NewTables, AllocError>
-    ensures { IfOk result (λ new. AreEdited (part_in old.now) edit.now (renewed old.now new)) }
+pub fn edited(alloc: Global, old: &ChangeTables, edit: ChangeEdit) -> Result<NewTables, AllocError>
+    ensures { IfOk result (λ new. AreEdited (part_in old.now) edit (renewed old.now new)) }
 {
-    let header = copied_header(&edit.header)?;
-    let patches = changed_table(alloc, &old.patches, &edit.patches)?;
-    let votes = changed_table(alloc, &old.votes, &edit.votes)?;
-    let roles = changed_table(alloc, &old.roles, &edit.roles)?;
-    let comments = changed_table(alloc, &old.comments, &edit.comments)?;
-    let attention = changed_table(alloc, &old.attention, &edit.attention)?;
+    let patches = changed_table(alloc, &old.patches, edit.patches)?;
+    let votes = changed_table(alloc, &old.votes, edit.votes)?;
+    let roles = changed_table(alloc, &old.roles, edit.roles)?;
+    let comments = changed_table(alloc, &old.comments, edit.comments)?;
+    let attention = changed_table(alloc, &old.attention, edit.attention)?;
     Ok(NewTables {
-        header,
+        header: edit.header,
         patches,
         votes,
         roles,
@@ -44,10 +43,10 @@ pub fn edited(alloc: Global, old: &ChangeTables, edit: &ChangeEdit) -> Result<Ne
 }
 
 /// The tables of a change that an edit makes where there was none. An error where there was no memory for them.
-pub fn first_tables(alloc: Global, edit: &ChangeEdit) -> Result<ChangeTables, AllocError>
-    ensures { IfOk result (AreEdited (λ part. None) edit.now) }
+pub fn first_tables(alloc: Global, edit: ChangeEdit) -> Result<ChangeTables, AllocError>
+    ensures { IfOk result (AreEdited (λ part. None) edit) }
 {
-    let bare = bare_tables(alloc, edit)?;
+    let bare = bare_tables(alloc, &edit)?;
     let new = edited(alloc, &bare, edit)?;
     Ok(renewed(bare, new))
 }
@@ -133,16 +132,15 @@ fn is_edited(changes: &[(ChangeNo, NewTables)], number: ChangeNo) -> bool
 fn changed_table<K: Key, V: Copied>(
     alloc: Global,
     old: &Table<K, V>,
-    changes: &[RowEdit<K, V>],
+    changes: Vec<RowEdit<K, V>>,
 ) -> Result<Option<Table<K, V>>, AllocError>
-    ensures { IfOk result (λ t. (q : K) → row_in K.cmp (rows_of (unwrap_or t old.now)) q ≡ changed K.cmp changes.now q (row_in K.cmp (rows_of old.now) q)) }
+    ensures { IfOk result (λ t. (q : K) → row_in K.cmp (rows_of (unwrap_or t old.now)) q ≡ changed K.cmp changes.items q (row_in K.cmp (rows_of old.now) q)) }
 {
     if changes.is_empty() {
         return Ok(None);
     }
     let mut table = copied_table(alloc, old)?;
-    let copies = copied_changes(alloc, changes)?;
-    change_all(&mut table, copies)?;
+    change_all(&mut table, changes)?;
     Ok(Some(table))
 }
 

@@ -158,9 +158,11 @@ impl KeptChanges {
     }
 
     /// What edits make of the changes that they name, of which the first of a change decides.
-    pub fn prepare(&self, alloc: Global, edits: &[ChangeEdit]) -> Result<Prepared, AllocError>
-        ensures { IfOk result (ArePrepared (rows_of self.now.kept) edits.now) }
+    pub fn prepare(&self, alloc: Global, edits: Vec<ChangeEdit>) -> Result<Prepared, AllocError>
+        ensures { IfOk result (ArePrepared (rows_of self.now.kept) edits.items) }
     {
+        let keys = sent_by(alloc, &edits)?;
+        let places = placed_by(alloc, &edits)?;
         let mut begun = Vec::new(alloc);
         let mut renewed = Vec::with_capacity(alloc, edits.len())?;
         for edit in edits {
@@ -169,8 +171,8 @@ impl KeptChanges {
         Ok(Prepared {
             begun,
             renewed,
-            keys: sent_by(alloc, edits)?,
-            places: placed_by(alloc, edits)?,
+            keys,
+            places,
         })
     }
 
@@ -238,22 +240,23 @@ fn reserve(
 fn prepare(
     alloc: Global,
     kept: &Table<ChangeNo, ChangeTables>,
-    edit: &ChangeEdit,
+    edit: ChangeEdit,
     begun: &mut Vec<RowEdit<ChangeNo, ChangeTables>>,
     renewed: &mut Vec<(ChangeNo, NewTables)>,
 ) -> Result<(), AllocError>
-    ensures { OnOk result (IsPrepared (row_in nat_cmp (rows_of kept.now) edit.now.change) edit.now begun.old.items begun.new.items renewed.old.items renewed.new.items) }
+    ensures { OnOk result (IsPrepared (row_in nat_cmp (rows_of kept.now) edit.change) edit begun.old.items begun.new.items renewed.old.items renewed.new.items) }
 {
-    match kept.get(&edit.change) {
+    let change = edit.change;
+    match kept.get(&change) {
         Some(old) => {
             let tables = edited(alloc, old, edit)?;
-            renewed.push((edit.change, tables))?;
+            renewed.push((change, tables))?;
             Ok(())
         }
         None => {
             let tables = first_tables(alloc, edit)?;
             begun.push(RowEdit {
-                key: edit.change,
+                key: change,
                 row: Some(tables),
             })?;
             Ok(())

@@ -1,17 +1,17 @@
 -- Look-ups one after the other.
 use Rattle.review_sql_tables.proofs.Common.{Some, ap, ◌≡◌, ◌∙◌, inl, inr, ℕ, ◌+◌, ◌<◌, Bool, true, false, List, take, get_or, length, Result, Ok, Err, refl, sym, subst, OnOk, same_Some, AllocError, Held, state, State, Error, Trees, Ghosts, Looks}
-use Rattle.review_machine_rows.proofs.Looked.{asked_more, looked_agrees}
+use Rattle.review_machine_rows.proofs.Looked.{asked_more, one_agrees}
 use Rattle.review_machine_rows.specs.Known.{group_of, Found, IsFound, Learns}
-use Rattle.review_sql_records.proofs.Common.{look_on, look_both, AreAsked, Agrees, Rows, Want}
+use Rattle.review_sql_records.proofs.Common.{look_on, look_both, AgreesBeside, AreAsked, Rows, Want}
 use Rattle.review_sql_lookups.specs.{Loads.AreBounded, Tables.tables_at, declared.counts.Counts.Counts}
 use Rattle.review_sql.specs.Loading.{HasLearnt, LearnsBounded, LearnsSeen, LooksIf, LooksOnce, WereSeen, learnt_by}
 use Rattle.review_sql.specs.declared.loading.Ended.{Ended}
 use Rattle.review_machine_rows.specs.declared.rows.Want.TheVariants as want
 use Rattle.review_sql.specs.declared.loading.Ended.TheVariants as ended
 
--- what rows know is so, and what is known of counts, where what was known is so
-abbrev pub Have : Rows → Counts → Counts → Trees → Unit {0} → Type 0
-Have rows before more db u = AreBounded before (tables_at db) → Agrees (tables_at db) rows × AreBounded more (tables_at db)
+-- what rows know beside the first ones is so, and what is known of counts, where what was known is so
+abbrev pub Have : Rows → Rows → Counts → Counts → Trees → Unit {0} → Type 0
+Have first rows before more db u = AreBounded before (tables_at db) → AgreesBeside (tables_at db) first rows × AreBounded more (tables_at db)
 
 -- the look-up of a group's members
 pub is_group : (w : Want) (group : List ℕ) → Some group ≡ group_of w → w ≡ want.Group group
@@ -28,8 +28,8 @@ has_learnt w f old new (Ok u) learns is = (f, learns)
 has_learnt w f old new (Err e) learns is = absurd (cc)
 
 -- one more look-up was asked
-pub learnt_asked : (wants : List Want) (i : ℕ) (w : Want) (old new : Rows) → i < length wants → w ≡ get_or wants i w → AreAsked (take i wants) old → HasLearnt w old new → AreAsked (take (i + 1) wants) new
-learnt_asked wants i w old new below is asked learnt = asked_more wants i w learnt.0 old new below is asked learnt.1
+pub learnt_asked : (wants : List Want) (i : ℕ) (w : Want) (first old new : Rows) → i < length wants → w ≡ get_or wants i w → AreAsked (take i wants) first old → HasLearnt w old new → AreAsked (take (i + 1) wants) first new
+learnt_asked wants i w first old new below is asked learnt = asked_more wants i w learnt.0 first old new below is asked learnt.1
 
 -- a look-up that failed tells nothing
 failed : {X Y : Type 0} (F : Trees → X → Type 0) (G : Trees → Y → Type 0) (a b : State) (e f : Error) → Looks F a b (Err e) → Looks G a b (Err f)
@@ -59,22 +59,22 @@ module _ {S X Y : Type 0} (g : Ghosts S) (F : Trees → Unit {0} → Type 0) (G 
   one_failed false now e f have (inr asked) =
       subst (λ is. LooksIf g is H a c (Err f)) (sym asked.0) (failed G H (state g a) (state g c) e f (subst (λ (h : Held S). Looks G (state g h) (state g c) (Err e)) have.0 asked.1))
 
-module _ (w : Want) (old new : Rows) (before mid more : Counts) (db : Trees) (have : Have old before mid db tt) where
+module _ (w : Want) (first old new : Rows) (before mid more : Counts) (db : Trees) (have : Have first old before mid db tt) where
   -- what is known then, where the look-up learnt
-  pub have_more : LearnsBounded w old new mid more db ended.Learnt → Have new before more db tt
-  have_more sees bounded = let was = have bounded in let s = sees was.1 in (looked_agrees (tables_at db) w old new s.0 was.0, s.1)
+  pub have_more : LearnsBounded w old new mid more db ended.Learnt → Have first new before more db tt
+  have_more sees bounded = let was = have bounded in let s = sees was.1 in (one_agrees (tables_at db) w first old new s.0 was.0, s.1)
 
   -- and where it didn't
-  pub seen_unlearnt : (e : Ended) → (e ≡ ended.Learnt → ⊥) → LearnsBounded w old new mid more db e → WereSeen new before more db e
+  pub seen_unlearnt : (e : Ended) → (e ≡ ended.Learnt → ⊥) → LearnsBounded w old new mid more db e → WereSeen first new before more db e
   seen_unlearnt ended.Learnt other sees bounded = absurd (other refl)
   seen_unlearnt ended.NoMemory other sees bounded = (tt, (sees (have bounded).1).1)
   seen_unlearnt ended.Damaged other sees bounded = sees (have bounded).1
 
 -- a look-up that didn't learn is the last
-pub ended_unlearnt : {S : Type 0} (g : Ghosts S) (w : Want) (old new : Rows) (before mid more : Counts) (a b c : Held S) (was now : Bool) (end e : Ended) → end ≡ e → (e ≡ ended.Learnt → ⊥)
-    → LooksIf g was (Have old before mid) a b (Ok tt) → LooksOnce g was now (LearnsBounded w old new mid more) b c (Ok end) → LooksIf g now (WereSeen new before more) a c (Ok e)
-ended_unlearnt g w old new before mid more a b c was now end e met other have once =
-    one_more g (Have old before mid) (LearnsBounded w old new mid more) (WereSeen new before more) a b c was now e e (λ db it sees. seen_unlearnt w old new before mid more db it e other sees) have
+pub ended_unlearnt : {S : Type 0} (g : Ghosts S) (w : Want) (first old new : Rows) (before mid more : Counts) (a b c : Held S) (was now : Bool) (end e : Ended) → end ≡ e → (e ≡ ended.Learnt → ⊥)
+    → LooksIf g was (Have first old before mid) a b (Ok tt) → LooksOnce g was now (LearnsBounded w old new mid more) b c (Ok end) → LooksIf g now (WereSeen first new before more) a c (Ok e)
+ended_unlearnt g w first old new before mid more a b c was now end e met other have once =
+    one_more g (Have first old before mid) (LearnsBounded w old new mid more) (WereSeen first new before more) a b c was now e e (λ db it sees. seen_unlearnt w first old new before mid more db it e other sees) have
     (subst (λ s. LooksOnce g was now (LearnsBounded w old new mid more) b c (Ok s)) met once)
 
 -- where no statement was made before, the row of the desk was asked for
@@ -83,6 +83,7 @@ module _ {S X D : Type 0} (g : Ghosts S) (F : Trees → X → Type 0) (G : Trees
   seen_open x d have desk = look_on G F (state g a) (state g c) d (Ok x) (subst (λ (h : Held S). Looks G (state g h) (state g c) (Ok d)) have.0 desk) (λ db h. have.1 db)
 
 -- all were made
-pub all_seen : {S : Type 0} (g : Ghosts S) (is : Bool) (rows : Rows) (before more : Counts) (a b : Held S) → LooksIf g is (Have rows before more) a b (Ok tt) → LooksIf g is (WereSeen rows before more) a b (Ok ended.Learnt)
-all_seen g true rows before more a b it = look_on (Have rows before more) (WereSeen rows before more) (state g a) (state g b) tt (Ok ended.Learnt) it (λ db h. h)
-all_seen g false rows before more a b it = (it.0, λ db. it.1 db)
+pub all_seen : {S : Type 0} (g : Ghosts S) (is : Bool) (first rows : Rows) (before more : Counts) (a b : Held S) →
+    LooksIf g is (Have first rows before more) a b (Ok tt) → LooksIf g is (WereSeen first rows before more) a b (Ok ended.Learnt)
+all_seen g true first rows before more a b it = look_on (Have first rows before more) (WereSeen first rows before more) (state g a) (state g b) tt (Ok ended.Learnt) it (λ db h. h)
+all_seen g false first rows before more a b it = (it.0, λ db. it.1 db)

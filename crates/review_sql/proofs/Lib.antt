@@ -13,4 +13,3 @@ pub mod Upgraded
 pub mod Raised
 pub mod NoParents
 pub mod Recalled
-pub mod Found

@@ -3,11 +3,10 @@ use Rattle.std.specs.Prelude.{◌≡◌, ◌⊎◌, Bool, true, false, Result, O
 use Rattle.{std.specs.declared.alloc.AllocError.AllocError, sqlite.specs.Held.Held, sqlite.specs.Held.state}
 use Rattle.{sqlite.specs.declared.error.Error.Error, sqlite_trees.specs.Tree.Trees}
 use Rattle.{sqlite_trees.specs.declared.store.Store.Ghosts, review_sql_tables.specs.Ran.Looks}
-use Rattle.review_machine_rows.specs.Known.{Agrees, Found, Learns, LearnsFound}
+use Rattle.review_machine_rows.specs.Known.{AgreesBeside, Found, Learns, LearnsFound}
 use Rattle.review_machine_rows.specs.{Shelf.IsDamaged, declared.rows.Rows.Rows, declared.rows.Want.Want}
-use Rattle.review_sql_lookups.specs.{Loads.AreBounded, Loads.AreLoaded, Tables.tables_at, declared.counts.Counts.Counts}
-use Rattle.{review_sql_lookups.specs.declared.sights.Loaded.Loaded, review_sql.specs.declared.loading.Ended.Ended}
-use Rattle.review_sql_lookups.specs.declared.sights.Loaded.TheVariants as loaded
+use Rattle.review_sql_lookups.specs.{Loads.AreBounded, Tables.tables_at, declared.counts.Counts.Counts}
+use Rattle.review_sql.specs.declared.loading.Ended.{Ended}
 use Rattle.review_sql.specs.declared.loading.Ended.TheVariants as ended
 
 -- rows learnt what some look-up found
@@ -29,24 +28,15 @@ abbrev pub learnt_by : Result (Unit {0}) AllocError → Ended
 learnt_by (Ok u) = ended.Learnt
 learnt_by (Err e) = ended.NoMemory
 
--- what all found, by how the last one ended, and the rows that learnt it
-abbrev pub loaded_by : Rows → Ended → Loaded
-loaded_by rows ended.Learnt = loaded.Rows rows
-loaded_by rows ended.NoMemory = loaded.NoMemory
-loaded_by rows ended.Damaged = loaded.Damaged
-
--- What look-ups tell of tables: where all learnt, what the rows know is so in them; where there was no memory, nothing; and where one met damage, they are those of no history.
-abbrev pub AreSeen : Rows → Trees → Ended → Type 0
-AreSeen rows db ended.Learnt = Agrees (tables_at db) rows
-AreSeen rows db ended.NoMemory = Unit {0}
-AreSeen rows db ended.Damaged = IsDamaged (tables_at db)
+-- What look-ups tell of tables: where rows learnt all, what they know beside what they knew is so in them; where there was no memory, nothing; and where one met damage, they are those of no history.
+abbrev pub AreSeen : Rows → Rows → Trees → Ended → Type 0
+AreSeen old new db ended.Learnt = AgreesBeside (tables_at db) old new
+AreSeen old new db ended.NoMemory = Unit {0}
+AreSeen old new db ended.Damaged = IsDamaged (tables_at db)
 
 -- the same where what was known of counts is so, and what is known then is so too
-abbrev pub WereSeen : Rows → Counts → Counts → Trees → Ended → Type 0
-WereSeen rows known more db e = AreBounded known (tables_at db) → AreSeen rows db e × AreBounded more (tables_at db)
-
-abbrev pub AreLoadedBounded : Counts → Counts → Trees → Loaded → Type 0
-AreLoadedBounded known more db found = AreBounded known (tables_at db) → AreLoaded db found × AreBounded more (tables_at db)
+abbrev pub WereSeen : Rows → Rows → Counts → Counts → Trees → Ended → Type 0
+WereSeen old new known more db e = AreBounded known (tables_at db) → AreSeen old new db e × AreBounded more (tables_at db)
 
 -- look-ups that were made by statements, of which the last ended so; or by none, so that the store is as it was and no error came of it
 abbrev pub LooksIf : {S X : Type 0} → Ghosts S → Bool → (Trees → X → Type 0) → Held S → Held S → Result X Error → Type 0

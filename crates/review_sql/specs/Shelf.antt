@@ -14,14 +14,15 @@ use Rattle.review_sql_tables.specs.declared.versions.TablesVersion.{TablesVersio
 use Rattle.review_sql_tables.specs.declared.versions.TablesVersion.TheVariants.{First, Second, Third}
 use Rattle.review_machine_rows.specs.{Answer.IsHistory, Count.greatest_count, Rows.Tables}
 use Rattle.review_machine_rows.specs.Shelf.{Shown, StopLeavesOwnTables, Answers, IsClosedIn}
-use Rattle.review_machine_rows.specs.{View.IsView, declared.rows.Rows.Rows}
+use Rattle.review_machine_rows.specs.View.{IsView}
 use Rattle.review_machine_rows.specs.declared.shelf.ShelfFault.{ShelfFault, TheVariants.Memory, TheVariants.Damaged}
 use Rattle.review_sql_records.specs.{Forms.answers, declared.rows.RequestKey.RequestKey}
 use Rattle.review_sql_lookups.specs.{Loads.AreBounded, Tables.tables_at, Tables.stored_as}
-use Rattle.review_sql_lookups.specs.declared.{counts.Counts.Counts, sights.Loaded.Loaded}
+use Rattle.review_sql_lookups.specs.declared.counts.Counts.{Counts}
 use Rattle.review_sql_writes.specs.{Commits.MakesDesk, Commits.IsDesk, declared.numbers.Numbers.Numbers}
+use Rattle.review_sql.specs.declared.loading.Ended.{Ended}
 use Rattle.review_sql.specs.declared.serving.LookedUp.{LookedUp, TheVariants.Closed, TheVariants.Open}
-use Rattle.review_sql_lookups.specs.declared.sights.Loaded.TheVariants as loaded
+use Rattle.review_sql.specs.declared.loading.Ended.TheVariants as ended
 
 -- the connection, what the desk says of itself, and how many calls were refused
 pub record ShelfView (S : Type 0) : Type 0 where
@@ -109,11 +110,11 @@ rows_read Third = map (λ t. t.now) READ_ROWS
 pub record AreAllRead (version : TablesVersion) (schema : Schema) : Type 0 where
   pub each : (sql : List ℕ) → Contains (rows_read version) sql → IsUnderstood schema sql
 
--- what is answered of what the look-ups of a need found
-abbrev pub answer_of : Loaded → Result Rows ShelfFault
-answer_of (loaded.Rows rows) = Ok rows
-answer_of loaded.NoMemory = Err Memory
-answer_of loaded.Damaged = Err Damaged
+-- what is answered of how the look-ups of a need ended
+abbrev pub answer_of : Ended → Result (Unit {0}) ShelfFault
+answer_of ended.Learnt = Ok tt
+answer_of ended.NoMemory = Err Memory
+answer_of ended.Damaged = Err Damaged
 
 -- ---- what `create` gives
 

@@ -2,10 +2,9 @@
 ghost use Rattle.std.specs.Prelude.{◌≡◌, None, false, IfOk, OnOk};
 ghost use Rattle.{sqlite.specs.Held.state, sqlite_trees.specs.Tree.Trees, review_table.specs.Rows.rows_of};
 ghost use Rattle.review_sql_tables.specs.Ran.{Looks, Serves};
-ghost use Rattle.review_machine_rows.specs.Known.{AreAsked, HasMembers, Learns, group_of, held, known, meaning};
-ghost use Rattle.review_sql_lookups.specs.Loads.{SeesBounded, IfTold, Sees, WereAsked};
-ghost use Rattle.review_sql_lookups.specs.Tables.{tables_at};
-ghost use Rattle.review_sql.specs.Loading.{AreLoadedBounded, HasLearnt, LearnsBounded, LearnsSeen, LooksIf, LooksOnce, WereSeen, learnt_by, loaded_by};
+ghost use Rattle.review_machine_rows.specs.Known.{AreAsked, HasMembers, Learns, group_of, held, meaning};
+ghost use Rattle.review_sql_lookups.specs.{Loads.SeesBounded, Loads.IfTold, Loads.Sees, Tables.tables_at};
+ghost use Rattle.review_sql.specs.Loading.{HasLearnt, LearnsBounded, LearnsSeen, LooksIf, LooksOnce, WereSeen, learnt_by};
 ghost use Rattle.review_machine_rows.specs.declared.rows.Want.TheVariants as want;
 
 use review_machine_rows::{Counted, Found, Rows, Want};
@@ -13,7 +12,7 @@ use review_sql_change_lookups::{bases, joins, places, reviews, senders};
 use review_sql_lookups::counts::Counts;
 use review_sql_lookups::known::find_known;
 use review_sql_lookups::told::{find_greatest_told, find_told};
-use review_sql_lookups::{Loaded, Sight, branches, people};
+use review_sql_lookups::{Sight, branches, people};
 use review_sql_records::accounts::{Accounts, LastAccount};
 use review_sql_records::bases::LastPlace;
 use review_sql_records::desk::Desk;
@@ -165,11 +164,10 @@ fn find_in_turn<S: Alter>(
     rows: &mut Rows,
     is_asked: &mut bool,
 ) -> Result<Ended, Error>
-    requires nothing { (w : Want) → known rows.old w ≡ None }
     requires unasked { is_asked.old ≡ false }
     ensures same_reference { tx.new.conn.ghost_name ≡ tx.old.conn.ghost_name }
-    ensures looks { LooksIf S.Store is_asked.new (WereSeen rows.new counts.old counts.new) tx.old.conn.now tx.new.conn.now result }
-    ensures asked { IfOk result (λ e. e ≡ Ended.Learnt → AreAsked wants.now rows.new) }
+    ensures looks { LooksIf S.Store is_asked.new (WereSeen rows.old rows.new counts.old counts.new) tx.old.conn.now tx.new.conn.now result }
+    ensures asked { IfOk result (λ e. e ≡ Ended.Learnt → AreAsked wants.now rows.old rows.new) }
 {
     for want in wants {
         let end = find_next(tx, alloc, want, counts, rows, is_asked)?;
@@ -191,10 +189,9 @@ fn find_each<S: Alter>(
     counts: &mut Counts,
     rows: &mut Rows,
 ) -> Result<Ended, Error>
-    requires nothing { (w : Want) → known rows.old w ≡ None }
     ensures same_reference { tx.new.conn.ghost_name ≡ tx.old.conn.ghost_name }
-    ensures looks { Looks (WereSeen rows.new counts.old counts.new) (state S.Store tx.old.conn.now) (state S.Store tx.new.conn.now) result }
-    ensures asked { IfOk result (λ e. e ≡ Ended.Learnt → AreAsked wants.now rows.new) }
+    ensures looks { Looks (WereSeen rows.old rows.new counts.old counts.new) (state S.Store tx.old.conn.now) (state S.Store tx.new.conn.now) result }
+    ensures asked { IfOk result (λ e. e ≡ Ended.Learnt → AreAsked wants.now rows.old rows.new) }
 {
     let mut is_asked = false;
     let end = find_in_turn(tx, alloc, wants, counts, rows, &mut is_asked)?;
@@ -204,33 +201,23 @@ fn find_each<S: Alter>(
     Ok(end)
 }
 
-// What look-ups found, by how the last one ended, and the rows that learnt it.
-fn loaded(end: Ended, rows: Rows) -> Loaded
-    ensures { result ≡ loaded_by rows end }
-{
-    match end {
-        Ended::Learnt => Loaded::Rows(rows),
-        Ended::NoMemory => Loaded::NoMemory,
-        Ended::Damaged => Loaded::Damaged,
-    }
-}
-
-/// What look-ups find, and no others, in a transaction of their own. Where the store fails, what is known of counts then is of no more use.
+/// Rows learn what look-ups find, and of no others, in a transaction of their own. Where the store fails, what is known of counts then is of no
+/// more use.
 pub fn load<S: Alter>(
     conn: &mut Connection<S>,
     alloc: Global,
     wants: &[Want],
     counts: &mut Counts,
-) -> Result<Loaded, Error>
+    rows: &mut Rows,
+) -> Result<Ended, Error>
     requires mode { conn.old.in_transaction ≡ false }
     ensures mode { conn.new.in_transaction ≡ false }
-    ensures serves { Serves (AreLoadedBounded counts.old counts.new) (state S.Store conn.old) (state S.Store conn.new) result }
-    ensures asked { IfOk result (WereAsked wants.now) }
+    ensures serves { Serves (WereSeen rows.old rows.new counts.old counts.new) (state S.Store conn.old) (state S.Store conn.new) result }
+    ensures asked { IfOk result (λ e. e ≡ Ended.Learnt → AreAsked wants.now rows.old rows.new) }
 {
-    let mut rows = Rows::new(alloc);
     let _settled = conn.is_autocommit();
     let mut tx = conn.transaction();
-    let end = find_each(&mut tx, alloc, wants, counts, &mut rows)?;
+    let end = find_each(&mut tx, alloc, wants, counts, rows)?;
     tx.commit()?;
-    Ok(loaded(end, rows))
+    Ok(end)
 }

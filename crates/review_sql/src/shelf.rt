@@ -7,13 +7,12 @@ ghost use Rattle.review_machine_rows.specs.Shelf.{CountsFaults, IsCounted, IsRec
 ghost use Rattle.review_sql.specs.Shelf.{IsLookedUpIn, Stays, answer_of};
 
 use crate::faults::DeskFault;
-use crate::loading::load;
+use crate::loading::{Ended, load};
 use crate::migrating::bring;
 use crate::opening::see;
 use crate::serving::{LookedUp, find_stored};
 use crate::there::{is_any_there, seen};
 use review_machine_rows::{Delta, Kept, Need, Recalled, Rows, Shelf, ShelfFault};
-use review_sql_lookups::Loaded;
 use review_sql_lookups::counts::Counts;
 use review_sql_records::rows::{Answered, RequestKey};
 use review_sql_writes::Numbers;
@@ -285,14 +284,14 @@ fn fault_for<S: Alter>(conn: &mut Connection<S>, faults: &mut u64, error: Error)
     }
 }
 
-// What is answered of what the look-ups found. No error of the store is among it, so none is told.
-fn answered(found: Loaded) -> Result<Rows, ShelfFault>
-    ensures { result ≡ answer_of found }
+// What is answered of how look-ups ended. No error of the store is among it, so none is told.
+fn answered(end: Ended) -> Result<(), ShelfFault>
+    ensures { result ≡ answer_of end }
 {
-    match found {
-        Loaded::Rows(rows) => Ok(rows),
-        Loaded::NoMemory => Err(ShelfFault::Memory),
-        Loaded::Damaged => Err(ShelfFault::Damaged),
+    match end {
+        Ended::Learnt => Ok(()),
+        Ended::NoMemory => Err(ShelfFault::Memory),
+        Ended::Damaged => Err(ShelfFault::Damaged),
     }
 }
 
@@ -320,10 +319,10 @@ impl<S: Alter, O: Origin> Shelf for SqlShelf<S, O> {
         }
     }
 
-    fn load(&mut self, alloc: Global, need: &Need) -> Result<Rows, ShelfFault> {
+    fn load(&mut self, alloc: Global, need: &Need, rows: &mut Rows) -> Result<(), ShelfFault> {
         let _settled = self.conn.is_autocommit();
-        match load(&mut self.conn, alloc, &need.wants, &mut self.counts) {
-            Ok(found) => answered(found),
+        match load(&mut self.conn, alloc, &need.wants, &mut self.counts, rows) {
+            Ok(end) => answered(end),
             Err(error) => {
                 self.counts = Counts::new(alloc);
                 Err(fault_for(&mut self.conn, &mut self.faults, error))
@@ -331,17 +330,17 @@ impl<S: Alter, O: Origin> Shelf for SqlShelf<S, O> {
         }
     }
 
-    fn commit(&mut self, alloc: Global, delta: &Delta, kept: Kept) -> Result<(), ShelfFault> {
+    fn commit(&mut self, alloc: Global, delta: Delta, kept: Kept) -> Result<(), ShelfFault> {
         let numbers = self.numbers;
         let Some(more) = numbers.with_request(delta.least_epoch) else {
             return Err(refuse(&mut self.faults));
         };
         let _live = self.conn.schema();
-        match transact(&mut self.conn, alloc, delta, &kept, &numbers) {
+        match transact(&mut self.conn, alloc, &delta, &kept, &numbers) {
             Ok(()) => {
                 let _settled = self.conn.is_autocommit();
                 self.numbers = more;
-                self.counts.note(delta);
+                self.counts.note(&delta);
                 Ok(())
             }
             Err(error) => Err(fault_for(&mut self.conn, &mut self.faults, error)),

@@ -2,14 +2,13 @@
 use Rattle.std.specs.{BTreeMap.is_at, Cmp.Lexicographic.slice_cmp, Ordering.nat_cmp}
 use Rattle.std.specs.Prelude.{ℕ, ◌≡◌, List, Option, Some, None, ◌+◌, ◌<◌, ◌≤◌, false, IfSome}
 use Rattle.{sqlite_trees.specs.Tree.Trees, review_table.specs.Rows.row_in, review_table.specs.Rows.rows_of}
-use Rattle.review_machine_rows.specs.Known.{at_place, AreAsked, Agrees, IsFound, meaning}
+use Rattle.review_machine_rows.specs.Known.{at_place, IsFound, meaning}
 use Rattle.review_machine_rows.specs.{Limits.most_bases, Limits.most_projects, Rows.Tables, Rows.BasesOf, Rows.Projects}
 use Rattle.review_machine_rows.specs.{Shelf.IsDamaged, declared.rows.Want.Want}
 use Rattle.review_sql_lookups.specs.Tables.{tables_at}
 use Rattle.review_sql_lookups.specs.declared.counts.Bound.{Bound, TheVariants.AtMost, TheVariants.Full}
-use Rattle.review_sql_lookups.specs.declared.{counts.Counts.Counts, sights.Loaded.Loaded, sights.Sight.Sight}
+use Rattle.review_sql_lookups.specs.declared.{counts.Counts.Counts, sights.Sight.Sight}
 use Rattle.review_sql_lookups.specs.declared.sights.Sight.TheVariants as sight
-use Rattle.review_sql_lookups.specs.declared.sights.Loaded.TheVariants as loaded
 
 -- how a look-up ended, of these tables
 abbrev pub Tells : Tables → Want → Sight → Type 0
@@ -21,21 +20,10 @@ Tells t w sight.Damaged = IsDamaged t
 abbrev pub Sees : Want → Trees → Sight → Type 0
 Sees w db s = Tells (tables_at db) w s
 
--- what rows know is so in the tables
-abbrev pub AreLoaded : Trees → Loaded → Type 0
-AreLoaded db (loaded.Rows rows) = Agrees (tables_at db) rows
-AreLoaded db loaded.NoMemory = Unit {0}
-AreLoaded db loaded.Damaged = IsDamaged (tables_at db)
-
 -- it is so of what is told, and where nothing is told the tables are those of no history
 abbrev pub IfTold : {X : Type 0} → Trees → (X → Type 0) → Option X → Type 0
 IfTold db IsSo None = IsDamaged (tables_at db)
 IfTold db IsSo (Some x) = IsSo x
-
--- the rows know of these look-ups, and of no others
-abbrev pub WereAsked : List Want → Loaded → Type 0
-WereAsked wants (loaded.Rows rows) = AreAsked wants rows
-WereAsked wants found = Unit {0}
 
 -- the greatest number, or 0 where there is none
 abbrev pub last_of : Option (Option ℕ) → Option ℕ

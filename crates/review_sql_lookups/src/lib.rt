@@ -19,4 +19,4 @@ pub mod plain;
 pub mod sights;
 pub mod told;
 
-pub use sights::{Loaded, Sight};
+pub use sights::Sight;

@@ -1,6 +1,6 @@
 //! How look-ups end.
 
-use review_machine_rows::{Found, Rows};
+use review_machine_rows::Found;
 
 /// How a look-up ended.
 #[derive(Drop)]
@@ -10,13 +10,5 @@ pub enum Sight {
     /// There was no memory for it.
     NoMemory,
     /// It shows that the tables are those of no history: a row doesn't read as one of its table, or doesn't fit the others.
-    Damaged,
-}
-
-/// What all look-ups found.
-#[derive(Drop)]
-pub enum Loaded {
-    Rows(Rows),
-    NoMemory,
     Damaged,
 }

@@ -9,7 +9,7 @@ pub use Rattle.review_sql_tables.proofs.{Meaning.all_pass, OneSchema.one_schema}
 pub use Rattle.review_sql_tables.proofs.Sequences.{Next, begun, ended, failed, follow, look, look_ended, look_failed, next}
 pub use Rattle.review_machine_rows.{proofs.Readings.reading_of, specs.Answer.IsHistory}
 pub use Rattle.review_machine_rows.specs.Changes.{Reading, own_of}
-pub use Rattle.review_machine_rows.specs.Known.{Agrees, AreAsked, HasMembers, HaveJoined, IsAtPlace, IsBaseOrNot, IsCurrent, IsLast, at_place}
+pub use Rattle.review_machine_rows.specs.Known.{AgreesBeside, AreAsked, HasMembers, HaveJoined, IsAtPlace, IsBaseOrNot, IsCurrent, IsLast, at_place}
 pub use Rattle.review_machine_rows.specs.Limits.{most_bases}
 pub use Rattle.review_machine_rows.specs.Rows.{APart, AccountKey, AccountRow, AnswerRow, Answered, BaseKey, BaseRow, BasesOf, ClosedEpochs, Count}
 pub use Rattle.review_machine_rows.specs.Rows.{FileKey, FileRow, Key, MemberKey, MemberRow, OddKey, OddRow, PartKey, Projects, Tables, count_put}

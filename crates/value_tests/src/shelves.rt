@@ -2,7 +2,7 @@
 //! has which name, and whether the first request is stored.
 
 use crate::fault::Fault;
-use review_machine_rows::{Delta, Found, Kept, Need, Recalled, Shelf, ShelfFault, Want};
+use review_machine_rows::{Delta, Found, Kept, Need, Recalled, Rows, Shelf, ShelfFault, Want};
 use review_memory::{FaultyShelf, MemoryShelf, ShuttingShelf};
 use review_table::{Key, RowEdit};
 use review_words::{AccountName, AccountNo, Epoch, RequestId};
@@ -59,7 +59,7 @@ fn fault_word(fault: ShelfFault) -> &'static str {
 }
 
 /// What a commit answers.
-fn commit_word<S: Shelf>(alloc: Global, shelf: &mut S, delta: &Delta, kept: Kept) -> &'static str {
+fn commit_word<S: Shelf>(alloc: Global, shelf: &mut S, delta: Delta, kept: Kept) -> &'static str {
     match shelf.commit(alloc, delta, kept) {
         Ok(()) => "done",
         Err(fault) => fault_word(fault),
@@ -70,7 +70,7 @@ fn commit_word<S: Shelf>(alloc: Global, shelf: &mut S, delta: &Delta, kept: Kept
 fn commit<S: Shelf>(alloc: Global, shelf: &mut S, name: &str) -> Result<&'static str, Fault> {
     let kept = request(alloc, Epoch::first(), name)?;
     let delta = second_account(alloc, name)?;
-    Ok(commit_word(alloc, shelf, &delta, kept))
+    Ok(commit_word(alloc, shelf, delta, kept))
 }
 
 /// The account that a look-up found, in words.
@@ -91,8 +91,9 @@ fn need_of(alloc: Global, want: &Want) -> Result<Need, Fault> {
 
 /// What a look-up says of the account of a name.
 fn loaded_word<S: Shelf>(alloc: Global, shelf: &mut S, need: &Need, want: &Want) -> &'static str {
-    match shelf.load(alloc, need) {
-        Ok(rows) => holder_word(rows.found.get(want)),
+    let mut rows = Rows::new(alloc);
+    match shelf.load(alloc, need, &mut rows) {
+        Ok(()) => holder_word(rows.found.get(want)),
         Err(fault) => fault_word(fault),
     }
 }
@@ -249,7 +250,7 @@ fn next_epoch() -> Epoch {
 fn close<S: Shelf>(alloc: Global, shelf: &mut S) -> Result<&'static str, Fault> {
     let kept = request(alloc, next_epoch(), "close")?;
     let delta = delta(alloc, Vec::new(alloc), Epoch::from_number(1));
-    Ok(commit_word(alloc, shelf, &delta, kept))
+    Ok(commit_word(alloc, shelf, delta, kept))
 }
 
 /// Stores ann in epoch 0 and closes this epoch; then what is known of both requests, and of a new one of epoch 1.

@@ -1,6 +1,6 @@
 use Rattle.std.proofs.Common.{◌∙◌, ap, refl, rules, sym, subst, option_copied, IfSome}
-use Rattle.review_machine_rows.specs.{Known.Agrees, Shelf.Shows, Steps.ComesTo, Steps.topic_of, Steps.wants_in}
-use Rattle.review_machine_deliveries.proofs.Filed.{step_lowers, none_asked, so_far_added, so_far_shown, stays_added}
+use Rattle.review_machine_rows.specs.{Known.AgreesBeside, Shelf.Shows, Steps.ComesTo, Steps.topic_of, Steps.wants_in}
+use Rattle.review_machine_deliveries.proofs.Filed.{step_lowers, step_stays, none_asked, so_far_asked, so_far_shown, stays_known}
 use Rattle.review_machine_deliveries.proofs.gathering.gather_from.Goals as goal
 
 pub loop-need-init : goal.loop-need-init
@@ -16,26 +16,32 @@ loop-need-init g c = record {
 
 pub loop-need-smaller : goal.loop-need-smaller
 loop-need-smaller g c =
-    let more = c.in_ok-more in
-    step_lowers (option_copied c.args.effective) c.loop-need.rows more.more c.add.new.self c.args.caller (topic_of c.args.matter) c.in-Some.need.wants.items
-    (ap wants_in (sym c.in-Some.is) ∙ c.in_ok-need.ensures.need c.loop-need.invariant.come) more.ensures.asked.all c.in_ok-add.ensures
+    let l = c.loop-need in
+    let file = option_copied c.args.effective in
+    let topic = topic_of c.args.matter in
+    let wants = c.in-Some.need.wants.items in
+    let is = ap wants_in (sym c.in-Some.is) ∙ c.in_ok-need.ensures.need l.invariant.come in
+    let asked = c.in_ok-load.ensures.asked in
+    step_lowers file l.rows c.load.new.rows c.args.caller topic wants is asked.all (step_stays file l.rows c.load.new.rows c.args.caller topic wants is asked)
 
 pub loop-need-preserved : goal.loop-need-preserved
 loop-need-preserved g c =
     let l = c.loop-need in
     let i = l.invariant in
-    let more = c.in_ok-more.more in
-    let x = c.in_ok-more.ensures in
-    let added = c.in_ok-add.ensures in
-    let both = c.add.new.self in
+    let x = c.in_ok-load.ensures in
+    let more = c.load.new.rows in
+    let file = option_copied c.args.effective in
+    let topic = topic_of c.args.matter in
+    let is = ap wants_in (sym c.in-Some.is) ∙ c.in_ok-need.ensures.need i.come in
+    let stays = step_stays file l.rows more c.args.caller topic c.in-Some.need.wants.items is x.asked in
     record {
       honest = λ h. i.honest (x.honest h);
-      found = λ h so_far. so_far_added (g.S.Shelf.state c.args.shelf.now).tables l.rows more both (i.found (x.honest h) so_far)
-          (subst (λ t. Shows t (λ u. Agrees u more)) (i.tables (x.honest h)) (x.found h)) added;
-      stays = stays_added c.args.rows.now l.rows more both i.stays added;
+      found = λ h so_far. so_far_asked (g.S.Shelf.state c.args.shelf.now).tables l.rows more (i.found (x.honest h) so_far)
+          (subst (λ t. Shows t (λ u. AgreesBeside u l.rows more)) (i.tables (x.honest h)) (x.found h));
+      stays = stays_known c.args.rows.now l.rows more i.stays stays;
       tables = λ h. x.tables h ∙ i.tables (x.honest h);
       stops = λ h t s. i.stops (x.honest h) t (x.stops h t s);
-      come = subst (λ n. IfSome n (λ m. ComesTo (option_copied c.args.effective) l.rows c.args.caller (topic_of c.args.matter) m.wants.items c.next_need.new.come)) c.in-Some.is (c.in_ok-need.ensures.come i.come) more both x.asked.all added;
+      come = subst (λ n. IfSome n (λ m. ComesTo file l.rows c.args.caller topic m.wants.items c.next_need.new.come)) c.in-Some.is (c.in_ok-need.ensures.come i.come) more x.asked.all stays;
       counted = x.counted ∙ i.counted;
     }
 
@@ -59,8 +65,5 @@ returns-clause-looks g c =
 pub returns-in_err-need-clause-looks : goal.returns-in_err-need-clause-looks
 returns-in_err-need-clause-looks g c = record { honest = search rules; tables = search rules; damaged = search rules; stops = search rules; counted = search rules }
 
-pub returns-in_err-more-clause-looks : goal.returns-in_err-more-clause-looks
-returns-in_err-more-clause-looks g c = record { honest = search rules; tables = search rules; damaged = search rules; stops = search rules; counted = search rules }
-
-pub returns-in_err-add-clause-looks : goal.returns-in_err-add-clause-looks
-returns-in_err-add-clause-looks g c = record { honest = search rules; tables = search rules; damaged = search rules; stops = search rules; counted = search rules }
+pub returns-in_err-load-clause-looks : goal.returns-in_err-load-clause-looks
+returns-in_err-load-clause-looks g c = record { honest = search rules; tables = search rules; damaged = search rules; stops = search rules; counted = search rules }

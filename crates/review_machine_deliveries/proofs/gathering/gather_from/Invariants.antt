@@ -1,6 +1,6 @@
 use Rattle.std.{proofs.Common.◌≡◌, specs.Option.option_copied}
-use Rattle.review_machine_rows.specs.{Shelf.AddsNoStop, Steps.HasComeTo, Steps.left, Steps.topic_of}
-use Rattle.review_machine_deliveries.specs.Gathered.{IsSoFar, StaysKnown}
+use Rattle.review_machine_rows.specs.{Known.StaysKnown, Shelf.AddsNoStop, Steps.HasComeTo, Steps.left, Steps.topic_of}
+use Rattle.review_machine_deliveries.specs.Gathered.{IsSoFar}
 use Rattle.review_machine_deliveries.proofs.gathering.gather_from.Given as goal
 
 -- what is known so far is so, and the tables are as they were

@@ -5,7 +5,7 @@ use Rattle.review_memory_rows.proofs.edits.first_tables.Goals as goal
 
 pub returns : goal.returns
 returns c =
-    let edit = c.args.edit.now in
+    let edit = c.args.edit in
     let bare = c.in_ok-bare.bare in
     λ part. subst (λ t. part_in t part ≡ after_row_edit (part_change edit part) (part_in bare part)) (sym c.renewed.ensures) (c.in_ok-new.ensures part) ∙ bare_before edit bare (record {
       patches = c.in_ok-bare.ensures.patches;

@@ -5,7 +5,7 @@ use Rattle.review_sql.proofs.loading.find_each.Goals as goal
 
 pub returns-in_ok-_desk-clause-looks : goal.returns-in_ok-_desk-clause-looks
 returns-in_ok-_desk-clause-looks g c =
-    let F = WereSeen c.find_in_turn.new.rows c.args.counts.now c.find_in_turn.new.counts in
+    let F = WereSeen c.args.rows.now c.find_in_turn.new.rows c.args.counts.now c.find_in_turn.new.counts in
     let G : Trees → Option (Option DeskRow) → Type 0 = λ db found. found ≡ row_at desk db tt in
     let first = c.args.tx.now.conn.now in
     let mid = c.find_in_turn.new.tx.conn.now in

@@ -17,8 +17,8 @@ returns-then-self-clause-stops c = λ _ t is. inl is
 
 pub returns-clause-stops : goal.returns-clause-stops
 returns-clause-stops c = λ _ t is.
-    made_stops c.args.delta.now c.args.kept c.commit.result c.args.self.now (desk_of c.commit.new.self) t
-    (subst (λ d. OnOk c.commit.result (IsCommitted (tables_of d) c.args.delta.now (kept_row c.args.kept) (tables_of (desk_of c.commit.new.self)))) c.self.view_is c.commit.ensures.done)
+    made_stops c.args.delta c.args.kept c.commit.result c.args.self.now (desk_of c.commit.new.self) t
+    (subst (λ d. OnOk c.commit.result (IsCommitted (tables_of d) c.args.delta (kept_row c.args.kept) (tables_of (desk_of c.commit.new.self)))) c.self.view_is c.commit.ensures.done)
     (subst (λ d. OnErr c.commit.result (tables_of (desk_of c.commit.new.self) ≡ tables_of d)) c.self.view_is c.commit.ensures.same) is
 
 pub returns-clause-undone : goal.returns-clause-undone

@@ -1,4 +1,4 @@
-use Rattle.std.proofs.Common.{◌∙◌, sym, subst}
+use Rattle.std.proofs.Common.{subst}
 use Rattle.review_machine_rows.proofs.Common.{HasEmptyOnly, member_cmp, nat_cmp, rows_of, slice_cmp}
 use Rattle.review_memory.{proofs.Lower.file_stays, specs.Desk.is_removed}
 use Rattle.review_memory.proofs.tables.MemoryTables.release_removed.Goals as goal
@@ -17,11 +17,11 @@ returns-clause-same c = λ i. record {
 }
 
 pub returns-clause-filled : goal.returns-clause-filled
-returns-clause-filled c = λ changes are only. record {
-  accounts = c.release_removed.ensures.filled (subst (λ cs. HasEmptyOnly nat_cmp (is_removed nat_cmp cs) c.args.self.now.accounts) (are.accounts ∙ sym c.deref.ensures.value) only.accounts);
+returns-clause-filled c = λ file changes are only. record {
+  accounts = c.release_removed.ensures.filled (subst (λ cs. HasEmptyOnly nat_cmp (is_removed nat_cmp cs) c.args.self.now.accounts) are.accounts only.accounts);
   names = only.names;
-  members = c.release_removed-2.ensures.filled (subst (λ cs. HasEmptyOnly member_cmp (is_removed member_cmp cs) c.args.self.now.members) (are.members ∙ sym c.deref-2.ensures.value) only.members);
-  files = file_stays c.args.delta.now.file c.args.self.now.files (subst (λ cs. HasEmptyOnly (slice_cmp nat_cmp) (is_removed (slice_cmp nat_cmp) cs) c.args.self.now.files) are.files only.files);
+  members = c.release_removed-2.ensures.filled (subst (λ cs. HasEmptyOnly member_cmp (is_removed member_cmp cs) c.args.self.now.members) are.members only.members);
+  files = file_stays file c.args.self.now.files (subst (λ cs. HasEmptyOnly (slice_cmp nat_cmp) (is_removed (slice_cmp nat_cmp) cs) c.args.self.now.files) are.files only.files);
   changes = only.edits;
   answers = only.answers;
 }

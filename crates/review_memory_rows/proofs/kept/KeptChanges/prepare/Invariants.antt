@@ -1,5 +1,5 @@
-use Rattle.{std.proofs.Common.drop, review_table.specs.Rows.rows_of, review_memory_rows.proofs.Turned.ArePreparedSoFar}
+use Rattle.{review_table.specs.Rows.rows_of, review_memory_rows.proofs.Turned.ArePreparedSoFar}
 use Rattle.review_memory_rows.proofs.kept.KeptChanges.prepare.Given as goal
 
 abbrev pub invariant-loop-edit : goal.invariant-loop-edit
-invariant-loop-edit l = ArePreparedSoFar (rows_of l.self.kept) l.edits (drop l.edit-index l.edits) l.begun.items l.renewed.items
+invariant-loop-edit l = ArePreparedSoFar (rows_of l.self.kept) l.fn.edits.items l.edit-iterator.rest.items l.begun.items l.renewed.items

@@ -1,20 +1,19 @@
-use Rattle.review_sql_tables.proofs.Common.{rules, ◌≡◌, ◌∙◌, Ok, Result, IfOk, ap, not, subst, sym, IsTrue, clean_if_open, Held, state, HasCleanDisk, Serves}
-use Rattle.review_sql_records.proofs.Common.{AreAsked, Agrees, Tables, BlamesTables, KeepsTables, LeavesBy, Shows, cause_of, Rows, ShelfFault}
+use Rattle.review_sql_tables.proofs.Common.{rules, ◌≡◌, ◌∙◌, Ok, Result, OnOk, ap, not, subst, sym, IsTrue, clean_if_open, Held, state, HasCleanDisk, Serves}
+use Rattle.review_sql_records.proofs.Common.{AgreesBeside, AreAsked, Tables, BlamesTables, KeepsTables, LeavesBy, Shows, cause_of, ShelfFault}
 use Rattle.review_sql_lookups.specs.Tables.{tables_at}
 use Rattle.review_sql.proofs.Loaded.{blames_loaded, keeps_loaded, knows_loaded, load_served, shows_loaded, tables_kept, was_asked}
 use Rattle.review_sql.proofs.Shown.{desk_if_open, holds_read, holds_still, leaves, stops_read, clean_still, stops_still}
-use Rattle.review_sql.specs.Loading.{AreLoadedBounded}
-use Rattle.review_sql.specs.Shelf.{ShelfView, answer_of, tables_of, stops_of}
+use Rattle.review_sql.specs.{Loading.WereSeen, Shelf.ShelfView, Shelf.answer_of, Shelf.tables_of, Shelf.stops_of}
 use Rattle.review_sql.proofs.shelf.SqlShelfShelf.load.Goals as goal
 
 pub invariant_of-self : goal.invariant_of-self
 invariant_of-self g c =
     let last = c.load.new.conn in
     let clean : IsTrue (state g.S.Store last).is_open → HasCleanDisk (state g.S.Store last) = λ is_open. clean_if_open (g.S.Store.view last.store) (g.met.S.Store.shut_if_dirty last.store) is_open in
-    let is : c.load.result ≡ Ok c.in-Ok.found = search rules in
-    let serves = subst (Serves (AreLoadedBounded c.self.inside.counts c.load.new.counts) (state g.S.Store c.self.inside.conn) (state g.S.Store last)) is c.load.ensures.serves in (
+    let is : c.load.result ≡ Ok c.in-Ok.end = search rules in
+    let serves = subst (Serves (WereSeen c.args.rows.now c.load.new.rows c.self.inside.counts c.load.new.counts) (state g.S.Store c.self.inside.conn) (state g.S.Store last)) is c.load.ensures.serves in (
       holds_read g.S.Store c.self.inside.conn last g.O.Origin.IS_OURS c.self.inside.numbers c.self.invariant.0 _ c.load.result c.load.ensures.mode clean c.load.ensures.serves,
-      knows_loaded g.S.Store c.self.inside.conn last g.O.Origin.IS_OURS c.self.inside.numbers c.self.invariant.0 c.self.inside.counts c.load.new.counts c.self.invariant.1 c.in-Ok.found serves clean,
+      knows_loaded g.S.Store c.self.inside.conn last g.O.Origin.IS_OURS c.self.inside.numbers c.self.invariant.0 c.self.inside.counts c.load.new.counts c.self.invariant.1 c.args.rows.now c.load.new.rows c.in-Ok.end serves clean,
     )
 
 pub invariant_of-self-in-Err : goal.invariant_of-self-in-Err
@@ -28,40 +27,45 @@ invariant_of-self-in-Err g c =
 
 pub returns-in-Ok-clause-asked : goal.returns-in-Ok-clause-asked
 returns-in-Ok-clause-asked g c =
-    subst (λ (r : Result Rows ShelfFault). IfOk r (AreAsked c.args.need.now.wants.items)) (sym c.answered.ensures) (subst (λ ws. IfOk (answer_of c.in-Ok.found) (AreAsked ws)) c.deref.ensures.value (was_asked c.deref.result.now c.in-Ok.found c.in-Ok.ensures.asked))
+    let before = c.args.rows.now in
+    let after = c.load.new.rows in
+    subst (λ (r : Result (Unit {0}) ShelfFault). OnOk r (AreAsked c.args.need.now.wants.items before after)) (sym c.answered.ensures)
+    (subst (λ ws. OnOk (answer_of c.in-Ok.end) (AreAsked ws before after)) c.deref.ensures.value (was_asked c.deref.result.now before after c.in-Ok.end c.in-Ok.ensures.asked))
 
 pub returns-in-Ok-clause-found : goal.returns-in-Ok-clause-found
 returns-in-Ok-clause-found g c honest =
     let old = c.self.inside.conn in
     let last = c.load.new.conn in
     let same : old ≡ c.args.self.now.conn = ap (λ (k : ShelfView _). k.conn) c.self.view_is in
-    let is : c.load.result ≡ Ok c.in-Ok.found = search rules in
-    let serves = subst (Serves (AreLoadedBounded c.self.inside.counts c.load.new.counts) (state g.S.Store old) (state g.S.Store last)) is c.load.ensures.serves in
-    let it = load_served g.S.Store old last g.O.Origin.IS_OURS c.self.inside.numbers c.self.invariant.0 c.self.inside.counts c.load.new.counts c.self.invariant.1 c.in-Ok.found serves honest.1 honest.0 in
-    subst (λ r. IfOk r (λ rows. Shows (tables_of g.S.Store c.args.self.now.conn) (λ t. Agrees t rows))) (sym c.answered.ensures)
-    (subst (λ (h : Held _). IfOk (answer_of c.in-Ok.found) (λ rows. Shows (tables_of g.S.Store h) (λ t. Agrees t rows))) same (shows_loaded g.S.Store old c.in-Ok.found it.0 it.1))
+    let is : c.load.result ≡ Ok c.in-Ok.end = search rules in
+    let serves = subst (Serves (WereSeen c.args.rows.now c.load.new.rows c.self.inside.counts c.load.new.counts) (state g.S.Store old) (state g.S.Store last)) is c.load.ensures.serves in
+    let it = load_served g.S.Store old last g.O.Origin.IS_OURS c.self.inside.numbers c.self.invariant.0 c.self.inside.counts c.load.new.counts c.self.invariant.1 c.args.rows.now c.load.new.rows c.in-Ok.end serves honest.1 honest.0 in
+    let before = c.args.rows.now in
+    let after = c.load.new.rows in
+    subst (λ (r : Result (Unit {0}) ShelfFault). OnOk r (Shows (tables_of g.S.Store c.args.self.now.conn) (λ t. AgreesBeside t before after))) (sym c.answered.ensures)
+    (subst (λ (h : Held _). OnOk (answer_of c.in-Ok.end) (Shows (tables_of g.S.Store h) (λ t. AgreesBeside t before after))) same (shows_loaded g.S.Store old before after c.in-Ok.end it.0 it.1))
 
 pub returns-in-Ok-clause-tables : goal.returns-in-Ok-clause-tables
 returns-in-Ok-clause-tables g c honest =
     let old = c.self.inside.conn in
     let last = c.load.new.conn in
     let same : old ≡ c.args.self.now.conn = ap (λ (k : ShelfView _). k.conn) c.self.view_is in
-    let is : c.load.result ≡ Ok c.in-Ok.found = search rules in
-    let serves = subst (Serves (AreLoadedBounded c.self.inside.counts c.load.new.counts) (state g.S.Store old) (state g.S.Store last)) is c.load.ensures.serves in
-    let kept = tables_kept g.S.Store old last g.O.Origin.IS_OURS c.self.inside.numbers c.self.invariant.0 c.self.inside.counts c.load.new.counts c.self.invariant.1 c.in-Ok.found serves honest.1 honest.0 in
-    subst (λ (r : Result Rows ShelfFault). KeepsTables r (tables_of g.S.Store c.args.self.now.conn) (tables_of g.S.Store last)) (sym c.answered.ensures)
-    (subst (λ (h : Held _). KeepsTables (answer_of c.in-Ok.found) (tables_of g.S.Store h) (tables_of g.S.Store last)) same (keeps_loaded c.in-Ok.found _ _ kept))
+    let is : c.load.result ≡ Ok c.in-Ok.end = search rules in
+    let serves = subst (Serves (WereSeen c.args.rows.now c.load.new.rows c.self.inside.counts c.load.new.counts) (state g.S.Store old) (state g.S.Store last)) is c.load.ensures.serves in
+    let kept = tables_kept g.S.Store old last g.O.Origin.IS_OURS c.self.inside.numbers c.self.invariant.0 c.self.inside.counts c.load.new.counts c.self.invariant.1 c.args.rows.now c.load.new.rows c.in-Ok.end serves honest.1 honest.0 in
+    subst (λ (r : Result (Unit {0}) ShelfFault). KeepsTables r (tables_of g.S.Store c.args.self.now.conn) (tables_of g.S.Store last)) (sym c.answered.ensures)
+    (subst (λ (h : Held _). KeepsTables (answer_of c.in-Ok.end) (tables_of g.S.Store h) (tables_of g.S.Store last)) same (keeps_loaded c.in-Ok.end _ _ kept))
 
 pub returns-in-Ok-clause-damaged : goal.returns-in-Ok-clause-damaged
 returns-in-Ok-clause-damaged g c honest =
     let old = c.self.inside.conn in
     let last = c.load.new.conn in
     let same : old ≡ c.args.self.now.conn = ap (λ (k : ShelfView _). k.conn) c.self.view_is in
-    let is : c.load.result ≡ Ok c.in-Ok.found = search rules in
-    let serves = subst (Serves (AreLoadedBounded c.self.inside.counts c.load.new.counts) (state g.S.Store old) (state g.S.Store last)) is c.load.ensures.serves in
-    let it = load_served g.S.Store old last g.O.Origin.IS_OURS c.self.inside.numbers c.self.invariant.0 c.self.inside.counts c.load.new.counts c.self.invariant.1 c.in-Ok.found serves honest.1 honest.0 in
-    subst (λ (r : Result Rows ShelfFault). BlamesTables r (tables_of g.S.Store c.args.self.now.conn)) (sym c.answered.ensures)
-    (subst (λ (h : Held _). BlamesTables (answer_of c.in-Ok.found) (tables_of g.S.Store h)) same (blames_loaded g.S.Store old c.in-Ok.found it.0 it.1))
+    let is : c.load.result ≡ Ok c.in-Ok.end = search rules in
+    let serves = subst (Serves (WereSeen c.args.rows.now c.load.new.rows c.self.inside.counts c.load.new.counts) (state g.S.Store old) (state g.S.Store last)) is c.load.ensures.serves in
+    let it = load_served g.S.Store old last g.O.Origin.IS_OURS c.self.inside.numbers c.self.invariant.0 c.self.inside.counts c.load.new.counts c.self.invariant.1 c.args.rows.now c.load.new.rows c.in-Ok.end serves honest.1 honest.0 in
+    subst (λ (r : Result (Unit {0}) ShelfFault). BlamesTables r (tables_of g.S.Store c.args.self.now.conn)) (sym c.answered.ensures)
+    (subst (λ (h : Held _). BlamesTables (answer_of c.in-Ok.end) (tables_of g.S.Store h)) same (blames_loaded g.S.Store old c.args.rows.now c.load.new.rows c.in-Ok.end it.0 it.1))
 
 pub returns-in-Ok-clause-stops : goal.returns-in-Ok-clause-stops
 returns-in-Ok-clause-stops g c honest =
