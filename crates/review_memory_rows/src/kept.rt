@@ -33,7 +33,7 @@ impl Key for SentKey {
     }
 }
 
-/// What edits make of changes, in copies of its own: only room is wanted to make it so. Of a change that is there it has the tables that change.
+/// What edits make of changes, in tables of its own: only room is wanted to make it so. Of a change that is there it has the tables that change.
 #[derive(Drop)]
 pub struct Prepared {
     begun: Vec<RowEdit<ChangeNo, ChangeTables>>,
