@@ -16,6 +16,7 @@
 mod files;
 mod listening;
 mod notices;
+mod paging;
 mod serving;
 
 use crate::files::Starts;
@@ -63,6 +64,9 @@ fn run<F: Start, T: Starts<F>>(
     let Place::File(file) = job.place() else {
         return apply_in_memory(rt);
     };
+    if let Job::Init { .. } = job {
+        paging::give_small_pages(rt, file, starts.next());
+    }
     let conn = files::open(rt, file, starts.next())?;
     match job {
         Job::Init { .. } => files::init(rt, conn),
