@@ -3,7 +3,7 @@
 //! A request writes some seven pages or more, and each takes time in proportion to its size. So a new file gets pages of 1,024 bytes: with SQLite's own 4,096 a
 //! request takes nearly twice the instructions. Nothing is proved of this, and no promise needs it: whatever a file holds when it is opened, a desk is made there
 //! or nothing is.
-ghost use Rattle.std.specs.Prelude.{IfOk, IsTrue};
+ghost use Rattle.std.specs.Prelude.{◌≡◌, ◌<◌, ◌≤◌, true, length, IfOk, IsTrue};
 
 use sqlite::{Files, Start};
 use sqlite_disk::Disk;
@@ -35,6 +35,8 @@ pub fn give_small_pages<F: Start>(rt: &HostRuntime, file: &str, start: F) {
 fn make_blank<D: Disk>(files: &mut Files<D>) -> io::Result<()>
     requires log { IsTrue (D.Disk.is_usable files.old.log) }
     requires db { IsTrue (D.Disk.is_usable files.old.db) }
+    ensures kept { IsTrue (D.Disk.is_clean files.new.db) → 1024 < length (D.Disk.seen files.old.db) → D.Disk.seen files.new.db ≡ D.Disk.seen files.old.db }
+    ensures log { D.Disk.seen files.new.log ≡ D.Disk.seen files.old.log }
 {
     if files.log.len()? > 0 {
         return Ok(());
@@ -56,7 +58,10 @@ fn blank_page() -> [u8; PAGE_BYTES] {
 /// Whether a file is empty, or holds no more than what a write of this page may leave that was stopped: each byte is that of the page, or 0.
 fn is_begun<D: Disk>(file: &mut D, page: &[u8; PAGE_BYTES]) -> io::Result<bool>
     requires { IsTrue (D.Disk.is_usable file.old) }
-    ensures { IfOk result (λ b. IsTrue (D.Disk.is_usable file.new)) }
+    ensures usable { IsTrue (D.Disk.is_usable file.new) }
+    ensures kept { D.Disk.seen file.new ≡ D.Disk.seen file.old }
+    ensures clean { IsTrue (D.Disk.is_clean file.new) → IsTrue (D.Disk.is_clean file.old) }
+    ensures short { IfOk result (λ is. is ≡ true → IsTrue (D.Disk.is_clean file.new) → length (D.Disk.seen file.old) ≤ 1024) }
 {
     let length = file.len()?;
     if length > PAGE_BYTES {
