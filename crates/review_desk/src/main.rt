@@ -9,7 +9,7 @@
 //!   behind a fault of the store in turns.
 //! - **Assumed**: nothing of what a file holds when it is opened (`Unknown`); that the path names it. `docs/proofs.md` has the premises.
 //! - **Only tested**: standard input and output, sockets and time limits (`bench/fail_streams`, `bench/fail_connections`,
-//!   `bench/desk_times`), stops and kills.
+//!   `bench/desk_times`), stops and kills, the page that `init` writes into a new file (`bench/stops`).
 //! - **Must not know**: what a delivery means. No other crate of the program opens files or sockets.
 #![tactic(auto)]
 

@@ -1,8 +1,8 @@
 //! The pages of a new desk's file.
 //!
-//! A request writes some seven pages or more, and each takes time in proportion to its size. So a new file gets pages of 1,024 bytes: with SQLite's own 4,096 a
-//! request takes nearly twice the instructions. Nothing is proved of this, and no promise needs it: whatever a file holds when it is opened, a desk is made there
-//! or nothing is.
+//! A request writes seven pages or more, and each takes time in proportion to its size. So a new file gets pages of 1,024 bytes: with SQLite's own 4,096 a
+//! request takes nearly twice the instructions. Proved is that a longer file and any log stay as they were (`make_blank`). No promise needs more: whatever a file
+//! holds when it is opened then, a desk is made there or nothing is.
 ghost use Rattle.std.specs.Prelude.{◌≡◌, ◌<◌, ◌≤◌, true, length, IfOk, IsTrue};
 
 use sqlite::{Files, Start};
