@@ -12,7 +12,7 @@ use std::io;
 /// The bytes of a page.
 const PAGE_BYTES: usize = 1_024;
 
-/// How the file begins of a database that has a log, one page of 1,024 bytes and no table, as SQLite 3.45.0 writes it. Behind it are zeros.
+/// The first bytes of a database with a log, one page of 1,024 bytes and no table, as SQLite 3.45.0 writes them. The rest of the page is zeros.
 const BLANK: [u8; 112] = [
     83, 81, 76, 105, 116, 101, 32, 102, 111, 114, 109, 97, 116, 32, 51, 0, 4, 0, 2, 2, 0, 64, 32,
     32, 0, 0, 0, 0, 0, 0, 0, 1, 0, 0, 0, 0, 0, 0, 0, 0, 0, 0, 0, 1, 0, 0, 0, 4, 0, 0, 0, 0, 0, 0,
@@ -32,6 +32,7 @@ pub fn give_small_pages<F: Start>(rt: &HostRuntime, file: &str, start: F) {
     }
 }
 
+/// The same over open files. An error may leave a part of the page.
 fn make_blank<D: Disk>(files: &mut Files<D>) -> io::Result<()>
     requires log { IsTrue (D.Disk.is_usable files.old.log) }
     requires db { IsTrue (D.Disk.is_usable files.old.db) }
@@ -49,6 +50,7 @@ fn make_blank<D: Disk>(files: &mut Files<D>) -> io::Result<()>
     Ok(())
 }
 
+/// The page of a database without a table.
 fn blank_page() -> [u8; PAGE_BYTES] {
     let mut page = [0u8; PAGE_BYTES];
     page[..BLANK.len()].copy_from_slice(&BLANK);
