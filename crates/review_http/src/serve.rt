@@ -47,11 +47,14 @@ fn tell<W: Write>(
     ensures written { (text : List ℕ) × Appends (W.contents (inner_of writer.old)) (W.contents (inner_of writer.new)) text × IsWritten told text result }
     ensures write { result ≡ Err ServeFault.Write → faults_of writer.new ≡ one_more (faults_of writer.old) }
 {
-    let Ok(response) = response_of(alloc, &told) else {
+    let status = status_of(&told);
+    let response = response_of(alloc, &told);
+    drop(told);
+    let Ok(response) = response else {
         return Err(ServeFault::Memory);
     };
     match write_and_flush(writer, response.as_slice()) {
-        Ok(()) => Ok(Served::Answered(status_of(&told))),
+        Ok(()) => Ok(Served::Answered(status)),
         Err(_) => Err(ServeFault::Write),
     }
 }

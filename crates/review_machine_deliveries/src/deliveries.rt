@@ -256,9 +256,21 @@ fn store<S: Shelf>(
         (S.state shelf.old).stops t ⊎ Shows (S.state shelf.old).tables (λ was. IsCommitted was decided.delta (row_for caller epoch id.now decided (string_bytes content)) t) }
     ensures counted { CountsFaults result (S.state shelf.old).faults (S.state shelf.new).faults }
 {
-    let kept = kept_for(alloc, caller, epoch, id, &decided, content)?;
-    shelf.commit(alloc, decided.delta, kept)?;
-    Ok(decided.reply)
+    let kept = match kept_for(alloc, caller, epoch, id, &decided, content) {
+        Ok(kept) => kept,
+        Err(fault) => {
+            drop(decided);
+            return Err(ShelfFault::from(fault));
+        }
+    };
+    let Decided { delta, reply, .. } = decided;
+    match shelf.commit(alloc, delta, kept) {
+        Ok(()) => Ok(reply),
+        Err(fault) => {
+            drop(reply);
+            Err(fault)
+        }
+    }
 }
 
 // What is stored of a request that was decided.

@@ -83,9 +83,11 @@ fn line_wants<'r>(
         };
         let want = Want::File(name.copy()?);
         if !rows.knows(&want) {
+            drop(want);
             return file_want(alloc, name);
         }
         project = parent_in(rows.file(&want));
+        drop(want);
         left -= 1;
     }
     Ok(Vec::new(alloc))

@@ -52,31 +52,37 @@ fn known_joined(
 ) -> Result<Listed<JoinedChange>, AllocError>
     ensures { IfOk result (λ js. js ≡ joined_of (known rows.now (want.Joined branch))) }
 {
-    let mut joined = Vec::new(alloc);
-    if let Some(known) = rows.joined(&Want::Joined(branch)) {
-        push_joined(&mut joined, known.as_slice())?;
-    }
-    Ok(Listed::from_vec(joined))
+    let want = Want::Joined(branch);
+    let joined = match rows.joined(&want) {
+        Some(known) => copies_of(alloc, known.as_slice()),
+        None => Ok(Vec::new(alloc)),
+    };
+    drop(want);
+    Ok(Listed::from_vec(joined?))
 }
 
-fn push_joined(joined: &mut Vec<JoinedChange>, more: &[JoinedChange]) -> Result<(), AllocError>
-    ensures { OnOk result (joined.new.items ≡ joined.old.items ++ more.now) }
+fn copies_of(alloc: Global, known: &[JoinedChange]) -> Result<Vec<JoinedChange>, AllocError>
+    ensures { IfOk result (λ joined. joined.items ≡ known.now) }
 {
-    for one in more {
+    let mut joined = Vec::new(alloc);
+    for one in known {
         joined.push(JoinedChange {
             change: one.change,
             commit: one.commit.copy()?,
         })?;
     }
-    Ok(())
+    Ok(joined)
 }
 
 // The bases of a branch, as they are known.
 fn known_bases(alloc: Global, rows: &Rows, branch: BranchKey) -> Result<Bases, AllocError>
     ensures { IfOk result (λ b. b ≡ commits_of (known rows.now (want.Bases branch))) }
 {
-    match rows.bases(&Want::Bases(branch)) {
+    let want = Want::Bases(branch);
+    let bases = match rows.bases(&want) {
         Some(bases) => bases.copy(alloc),
         None => Ok(Bases::new(alloc)),
-    }
+    };
+    drop(want);
+    bases
 }
