@@ -182,6 +182,13 @@ class Team:
         members = sorted({*members, *([1] if group == ADMINS else [])})
         self.do(f"group {group}", "PUT", path_of("groups", group), {"members": members})
         self.write(json.dumps({**self.groups(), group: members}) + "\n", "groups.json")
+        if group == ADMINS:
+            self.write_administrators()
+            self.reload_nginx()
+
+    def write_administrators(self) -> None:
+        """The administrators' accounts, for nginx."""
+        self.write("".join(f"{number} 1;\n" for number in sorted(set(self.groups()[ADMINS]))), "administrators.conf")
 
     def stat(self, *path):
         """What changes when a file does, or nothing where there is none."""
