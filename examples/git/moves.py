@@ -7,7 +7,7 @@ for which that isn't so, or that git can't merge, is passed over, and with it wh
 import functools
 import re
 
-from repository import Conflicts, GitFailed, TooLong, file_of, git, is_ahead, merged_tree, noted_in, ref_of, write_whole
+from repository import Conflicts, GitFailed, TooLong, epoch, file_of, git, is_ahead, merged_tree, noted_in, ref_of, write_whole
 from retry import path_of
 
 MOST_PATHS_TOLD = 10
@@ -149,7 +149,8 @@ def record_base(desk, path, commit):
     """Has the desk know a commit as a base of a branch. A refusal is one for good under its id, so the next try, which may be allowed, has another one."""
     file = f"desk/bases/{commit}.json"
     refused = noted_in(file, 0)
-    status, told = desk.ask("PUT", path, {"commit": commit}, f"base.{commit}" + (f".{refused}" if refused else ""))
+    # In another month it is another request, which the desk refuses with COMMIT_KNOWN where it has the base.
+    status, told = desk.ask("PUT", path, {"commit": commit}, f"base.{commit}" + (f".{refused}" if refused else ""), epoch())
     if status == 200:
         return
     word = told.get("refused") or told.get("fault")

@@ -60,6 +60,10 @@ class Child:
         if status == 0 and self.rests:
             self.due = time.monotonic() + self.rests
             return
+        if self.rests:
+            self.due = time.monotonic() + 600
+            print(f"{self.name} ended with status {status}, and is run again in ten minutes; {self.log} says:\n{self.last_words()}", flush=True)
+            return
         self.pause = 60 if self.name.startswith("follow") and status == 3 else 0 if time.monotonic() - self.begun > 10 else min(max(1, 2 * self.pause), 30)
         self.due = time.monotonic() + self.pause
         print(f"{self.name} ended with status {status}, and is started again in {self.pause} s; {self.log} says:\n{self.last_words()}", flush=True)

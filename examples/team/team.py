@@ -25,7 +25,7 @@ EXAMPLES = os.path.dirname(HERE)
 CHECKOUT = os.path.dirname(EXAMPLES)
 sys.path[:0] = [os.path.join(EXAMPLES, "client"), os.path.join(EXAMPLES, "index")]
 import hints  # noqa: E402
-from retry import Desk, Kept, NoAnswer, NotOfTheDesk, new_id, path_of, write_whole  # noqa: E402
+from retry import Desk, Kept, NoAnswer, NotOfTheDesk, new_id, path_of, this_month, write_whole  # noqa: E402
 
 USUAL = {"port": 8443, "desk_port": 8473, "host": "", "projects": ["tools"], "branches": ["main"], "push_megabytes": 200, "hung_after": 90,
          "program": os.path.join(CHECKOUT, "crates", "review_desk", "out", "review_desk")}
@@ -224,23 +224,32 @@ class Team:
 
     # ---- what admin asks of the desk
 
-    def ask(self, method, path, body=None, id=None):
+    def ask(self, method, path, body=None, id=None, epoch=None):
         try:
-            return self.desk.ask(method, path, body, id)
+            return self.desk.ask(method, path, body, id, epoch)
         except (NoAnswer, NotOfTheDesk) as error:
             return fail(f"{error}\nIs it started? Run the same again then: nothing is done twice.")
 
     def do(self, name, method, path, body):
         """A request, kept in a file until its answer came: whoever runs the same again after a stop sends the same. Its answer, where it isn't refused."""
         kept, wanted = Kept(self.path("kept", name.replace("/", "%") + ".json")), {"method": method, "path": path, "body": body}
-        found = kept.read()
-        request = found if found and {**wanted, "id": found["id"]} == found else kept.write({**wanted, "id": new_id()})
+        request = kept_request(kept, wanted)
         status, told = self.ask(**request)
         kept.remove()  # A refusal, too, is the answer to this id alone: the same again asks under a new one.
+        if told.get("refused") == "EPOCH_CLOSED" and request.get("epoch") != this_month():
+            # It was kept for more than a month, and nobody knows whether it was done then. What is asked here is always put whole, so to ask anew does no harm.
+            status, told = self.ask(**kept_request(kept, wanted))
+            kept.remove()
         hints.send(self.path("hints.socket"), method, path)
         if status != 200:
             fail(f"{name}: the desk says {json.dumps(told)}")
         return told
+
+
+def kept_request(kept: Kept, wanted: dict[str, object]) -> dict[str, object]:
+    """The request that is kept, where it asks for what is wanted; else a new one, which is kept from now on."""
+    found = kept.read()
+    return found if found and {name: found.get(name) for name in wanted} == wanted else kept.write({**wanted, "id": new_id(), "epoch": this_month()})
 
 
 def nginx_user():
@@ -259,4 +268,4 @@ def password_fault(word):
     return None
 
 
-__all__ = ["ADMINS", "CHECKOUT", "EXAMPLES", "HERE", "NAME", "Team", "check_place", "fail", "new_password", "nginx_user", "password_fault", "path_of", "read"]
+__all__ = ["ADMINS", "CHECKOUT", "EXAMPLES", "HERE", "Kept", "NAME", "Team", "check_place", "fail", "kept_request", "new_password", "nginx_user", "password_fault", "path_of", "read", "this_month"]

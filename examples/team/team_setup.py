@@ -106,7 +106,7 @@ def make_repository(team, project, source):
     own = team.settings
     settings = {"receive.procReceiveRefs": "refs", "transfer.hideRefs": "refs/desk", "transfer.fsckObjects": "true", "core.fsync": "all",
                 "receive.maxInputSize": str(own["push_megabytes"] << 20), "desk.project": project, "desk.url": f"http://127.0.0.1:{own['desk_port']}",
-                "desk.accounts": team.path("accounts.conf"), "desk.page": f"{team.address}/page/?change=", "desk.hints": team.path("hints.socket"), "desk.mails": team.path("mails"), "desk.seconds": "20", "receive.autogc": "false", "gc.auto": "0",
+                "desk.accounts": team.path("accounts.conf"), "desk.page": f"{team.address}/page/?change=", "desk.hints": team.path("hints.socket"), "desk.mails": team.path("mails"), "desk.seconds": "20", "desk.epoch": "month", "receive.autogc": "false", "gc.auto": "0",
                 "core.packedGitWindowSize": "64m", "core.packedGitLimit": "512m", "core.bigFileThreshold": "64m"}
     for name, value in settings.items():
         git("-C", place, "config", "--replace-all", name, value)
