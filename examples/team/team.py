@@ -6,6 +6,7 @@ files for its own user alone, and where root starts nginx its workers get what t
 """
 import contextlib
 import fcntl
+import io
 import json
 import os
 import pwd
@@ -19,6 +20,9 @@ import time
 import tomllib
 
 os.umask(0o077)
+for stream in (sys.stdout, sys.stderr):  # A name or a path that the locale can't say ends no command.
+    if isinstance(stream, io.TextIOWrapper):
+        stream.reconfigure(errors="backslashreplace")
 
 HERE = os.path.dirname(os.path.realpath(__file__))
 EXAMPLES = os.path.dirname(HERE)
@@ -47,6 +51,11 @@ def say_fault(kind, error, trace):
 
 
 sys.excepthook = say_fault
+
+
+def printed(text: str) -> str:
+    """A text for a terminal, a log or a mail: what others wrote, as a path, begins no line there, moves no cursor and turns no text around."""
+    return "".join(it if it.isprintable() or it == "\n" else "?" for it in text)
 
 
 def read(*path, otherwise=None):
@@ -268,4 +277,4 @@ def password_fault(word):
     return None
 
 
-__all__ = ["ADMINS", "CHECKOUT", "EXAMPLES", "HERE", "Kept", "NAME", "Team", "check_place", "fail", "kept_request", "new_password", "nginx_user", "password_fault", "path_of", "read", "this_month"]
+__all__ = ["ADMINS", "CHECKOUT", "EXAMPLES", "HERE", "Kept", "NAME", "Team", "check_place", "fail", "kept_request", "new_password", "nginx_user", "password_fault", "path_of", "printed", "read", "this_month"]
