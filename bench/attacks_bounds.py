@@ -142,7 +142,7 @@ def a_desk_that_cannot_be_opened_comes_back(team: AttackedTeam) -> None:
     check(size > 190_000_000 and size <= needed(desk) < 1.2 * size, "look foresees another opening", size, needed(desk))
     new = os.path.join(team.top, "new.desk")
     pack = [sys.executable, os.path.join(EXAMPLES, "pack", "pack_desk"), desk, new, team.program, "--closing", "202612"]
-    ran = subprocess.run(["/bin/sh", "-c", 'exec "$@"', "sh", *pack], capture_output=True, text=True, check=False)
+    ran = subprocess.run(pack, capture_output=True, text=True, check=False)
     most = resource.getrusage(resource.RUSAGE_CHILDREN).ru_maxrss >> 10
     check(ran.returncode == 0, "it doesn't come back", ran.stdout, ran.stderr)
     check(needed(new) < 20 << 20, "what was kept isn't given back", needed(new))
@@ -217,6 +217,7 @@ def a_busy_desk_is_not_killed(team: AttackedTeam) -> None:
             time.sleep(0.2)
             check(desk.poll() is None, "a desk that answers others is killed")
         team.until(lambda: desk.poll() is not None, "a desk that answers nobody is killed", 20)
+        health.desk.process = None
     said = os.path.join(team.path, "answers.socket")
     check(os.path.exists(said) and "answers.socket" in open(os.path.join(team.path, "asked.d", "asked.conf"), encoding="utf-8").read(), "nginx tells nobody of answers")
     scores = {words.split()[0].rsplit("/", 1)[-1]: int(open(f"/proc/{process}/oom_score_adj", encoding="ascii").read()) for process, words in team.children().items()}
