@@ -10,6 +10,7 @@ import shutil
 import signal
 import struct
 import threading
+import time
 import zlib
 
 from attacked_team import ACCOUNTS, check, path_of
@@ -181,7 +182,8 @@ def an_id_that_is_used_up(team):
     commit = team.commit("mallory", clone, {"second": "it\n"}, "Second", f"origin/{branch}")
     body = {"commit": commit, "parent": team.tip(branch), "paths": ["second"], "project": "tools", "branch": branch, "subject": "Second"}
     id = "push." + hashlib.sha256(json.dumps([ACCOUNTS["mallory"], "/changes/", body, 0], sort_keys=True).encode()).hexdigest()[:48]
-    check(team.ask("mallory", "POST", path_of("changes", number, "revisions", 1, "review"), {"message": "Mine."}, id)[0] == 200, "a review")
+    check(team.ask("mallory", "POST", path_of("changes", number, "revisions", 1, "review"), {"message": "Mine."}, id,
+                   headers={"Request-Epoch": time.strftime("%Y%m", time.gmtime())})[0] == 200, "a review")
     check("IDENTITY_REUSED" in team.push("mallory", clone, branch, status=1), "the id is another one: say the hook's here")
     team.change("ann", {"ann": "it\n"}, "Ann's", f"origin/{branch}", branch)
     check("patch set 1" in team.push("mallory", clone, branch), "pushed again")
