@@ -11,7 +11,7 @@ import time
 
 from attacked_team import check, path_of
 
-LONG = ("word " * 12 + "\n") * 950  # nearly as long as a message may be
+LONG = "w\n" * 29_000  # nearly as long as a message may be, with many lines
 
 
 def stack(team, clone, count, name, parent="origin/main"):
@@ -49,7 +49,7 @@ def long_messages(team):
     """Thousands of patch sets with long messages make no push slower: nobody reads them all."""
     before, _ = min(timed(team.change, "ann", {"before": f"{at}\n"}, f"Before {at}") for at in range(3))
     tip, lines = team.tip(), []
-    for number in range(100_001, 101_501):
+    for number in range(100_001, 103_001):
         message = f"Long {number}\n\n{LONG}\nChange-Id: I{number:040x}\n"
         lines.append(f"commit refs/changes/{number % 100:02}/{number}/1\ncommitter m <m@localhost> 1700000000 +0000\ndata {len(message)}\n{message}from {tip}\n\n")
     team.git("admin", "-C", team.repository, "-c", "fastimport.unpackLimit=1", "fast-import", "--quiet", "--force", sent="".join(lines))
@@ -110,7 +110,7 @@ def differences_are_bounded(team):
     """A difference that takes too long is tried once, not at each load of a page; one user has two at once, each with 512 MiB; and another user's page is shown meanwhile."""
     drawn, numbers = random.Random(1), []
     clone = team.clone("mallory")
-    for at in range(4):
+    for at in range(2):
         rows = [b"\n".join(bytes([it]) for it in drawn.choices(range(48, 58), k=2 << 20)) for _ in range(2)]
         _, parent = team.change("mallory", {f"rows{at}": rows[0]}, f"Rows {at}", clone=clone)
         numbers.append(team.change("mallory", {f"rows{at}": rows[1]}, f"Other rows {at}", parent, clone=clone)[0])
@@ -121,17 +121,17 @@ def differences_are_bounded(team):
 
     def ask_all():
         with concurrent.futures.ThreadPoolExecutor(4) as pool:
-            told = [pool.submit(ask, number) for number in numbers]
+            told = [pool.submit(ask, number) for number in numbers * 2]
             shown = [timed(team.ask, "ann", "GET", path_of("changes", plain, "revisions", 1, "difference")) for _ in range(3)]
             return shown, [it.result() for it in told]
 
-    most, seen, (shown, told) = watched(team, b"diff-tree", ask_all)
+    most, seen, (shown, told) = watched(team, b"-M", ask_all)
     check(most <= 3, "one user's differences at once", most)  # One is ann's.
     check(all(f"Max data size             {512 << 20}" in limits for limits, _ in seen), "a difference without bounds")
     check(all(took < 5 and answer[0] == 200 for took, answer in shown), "another user's page", [took for took, _ in shown])
     shown_not = [it[1].get("files_not_shown") for it in told if it[0] == 200]
     check("TOO_SLOW" in shown_not and all(it[0] == 200 or it == (503, {"not_shown": "BUSY"}) for it in told), "what is told", told)
-    slow = numbers[[it[1].get("files_not_shown") for it in told].index("TOO_SLOW")]
+    slow = (numbers * 2)[[it[1].get("files_not_shown") for it in told].index("TOO_SLOW")]
     took, again = timed(ask, slow)
     check(again[1].get("files_not_shown") == "TOO_SLOW" and took < 5, "tried at each load", took, again)
     took, (status, text, _) = timed(team.ask, "bob", "GET", path_of("changes", slow, "revisions", 1, "difference"))
