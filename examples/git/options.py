@@ -6,9 +6,9 @@ anywhere can be pushed again.
 import collections
 import urllib.parse
 
-from budget import spend
+from asking import epoch, spend
 from checks import Refused, accounts, mails
-from repository import desk_for, epoch
+from repository import desk_for
 from retry import new_id, path_of
 
 ROLES = {"r": "REVIEWER", "reviewer": "REVIEWER", "cc": "CC"}

@@ -68,7 +68,7 @@ export async function question(path) {
 export function refusal(status, said) {
   if (!said) return `The proxy answered ${status}.`;
   if (said.not_submitted === "STALE_PATCH_SET") return `There is a newer patch set ${said.current_patch_set}: nothing was submitted.`;
-  if (said.not_submitted === "CONFLICT") return `Nothing was submitted: it conflicts with what the branch has${said.paths.length ? `, in ${said.paths.join(", ")}` : ""}. Rebase it, and push it again.`;
+  if (said.not_submitted === "CONFLICT") return `Nothing was submitted: it conflicts with what the branch has${said.paths.length ? `, in ${said.paths.join(", ")}` : ""}. Rebase it, push it again, and have it looked at again.`;
   if (said.not_submitted === "NOT_MERGEABLE") return `Nothing was submitted: git can't have it, since ${said.why}.`;
   if (said.fault === "TOO_LARGE") return "Not sent: it is too large. All that is written here at once may have 30,000 bytes, so send it in parts.";
   const word = said.refused ?? said.fault ?? said.not_taken ?? said.not_submitted ?? said.not_shown;

@@ -107,7 +107,7 @@ def make_repository(team, project, source):
     settings = {"receive.procReceiveRefs": "refs", "transfer.hideRefs": "refs/desk", "transfer.fsckObjects": "true", "core.fsync": "all",
                 "receive.maxInputSize": str(own["push_megabytes"] << 20), "desk.project": project, "desk.url": f"http://127.0.0.1:{own['desk_port']}",
                 "desk.accounts": team.path("accounts.conf"), "desk.page": f"{team.address}/page/?change=", "desk.hints": team.path("hints.socket"), "desk.mails": team.path("mails"), "desk.seconds": "20", "desk.epoch": "month", "receive.autogc": "false", "gc.auto": "0",
-                "core.packedGitWindowSize": "64m", "core.packedGitLimit": "512m", "core.bigFileThreshold": "64m"}
+                "core.packedGitWindowSize": "64m", "core.packedGitLimit": "512m", "core.bigFileThreshold": "4m", "pack.threads": "1", "pack.windowMemory": "64m"}
     for name, value in settings.items():
         git("-C", place, "config", "--replace-all", name, value)
     hook, program = os.path.join(place, "hooks", "proc-receive"), team.path("examples", "git", "proc-receive")
@@ -125,7 +125,7 @@ def write_nginx(team):
     for usual, word in words.items():
         conf = conf.replace(usual, word)
     team.write("# Written anew at each start: lines of your own belong into files of more.d, whose names end with .conf and stay.\n" + conf, "nginx.conf")
-    words = {"FOLDER": team.folder, "BACKEND": os.path.join(git("--exec-path"), "git-http-backend"), "MEGABYTES": str(own["push_megabytes"]),
+    words = {"FOLDER": team.folder, "MEGABYTES": str(own["push_megabytes"]),
              "REPOSITORIES": "|".join(re.escape(project + ".git") for project in team.projects if project.split("/")[0] not in OF_THE_DESK) or "(?!)"}
     team.write_administrators()
     for part, name, *place in (("proxy", "to_asked.conf"), ("proxy", "to_desk.conf"), ("team", "asked.conf", "asked.d"), ("team", "around_asked.conf", "http.d"), ("team", "git.params"), ("team", "git.conf", "more.d"), ("team", "people.conf", "more.d"), ("code", "code.conf", "more.d"), ("index", "index.conf", "more.d"),

@@ -1,4 +1,5 @@
-"""How much a user's pushes have the desk keep in a day. A module.
+"""What the requests of hook and `settle` carry, and how much a user's pushes have the desk keep in a
+day. A module.
 
 The desk keeps each request with all that it says, a refused one too, until its epoch is closed, and
 a patch set's paths may be 250 KB. So each request of a push counts against its user, before it is
@@ -10,10 +11,16 @@ import json
 import os
 import time
 
-from repository import noted_in, write_whole
+from repository import noted_in, setting
+from retry import this_month, write_whole
 
 MOST_A_DAY = 16_000_000  # bytes: some 50,000 patch sets of a few paths each
 BESIDE = 300  # bytes that the desk keeps beside what a request says
+
+
+def epoch() -> int | None:
+    """The epoch of a request that is made now: the month, where a team closes months (desk.epoch)."""
+    return this_month() if setting("desk.epoch", "") == "month" else None
 
 
 class TooMuch(ValueError):
