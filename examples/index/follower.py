@@ -106,7 +106,7 @@ class Follower:
     def hint(self, method, path):
         """Somebody asked something of the desk, and it was answered."""
         segments = path.partition("?")[0].strip("/").split("/")
-        if segments[0] == "changes" and len(segments) > 2 and segments[1].isdigit() and len(segments[1]) < 11:
+        if segments[0] == "changes" and len(segments) > 2 and segments[1].isdecimal() and len(segments[1]) < 11:
             number = int(segments[1])
             if number > self.last():
                 self.new_due = 0.0

@@ -206,13 +206,20 @@ class Team:
             return status.st_mtime_ns, status.st_ino
         return None
 
+    def labels_of(self, project: str) -> dict[str, list[int]]:
+        """The values of each label of a project. A file that the desk has taken and that can't be read here has none."""
+        try:
+            said = tomllib.loads(read(self.folder, self.project_file(project), otherwise="")).get("label", {})
+            return {label: sorted(int(value) for value in it.get("values", {})) for label, it in said.items()}
+        except (ValueError, TypeError, AttributeError) as error:
+            print(f"the labels of {self.project_file(project)} can't be read: {error}", file=sys.stderr)
+            return {}
+
     def labels(self):
         """The values of each label of each project, least first, by the projects' files as they were set last."""
         status = [self.stat(self.project_file(project)) for project in self.projects]
         if status != self.seen:
-            files = {project: tomllib.loads(read(self.folder, self.project_file(project), otherwise="")).get("label") for project in self.projects}
-            found = {project: {label: sorted(int(value) for value in said.get("values", {})) for label, said in labels.items()} for project, labels in files.items() if labels}
-            self.seen, self.labels_seen = status, found
+            self.seen, self.labels_seen = status, {project: labels for project in self.projects if (labels := self.labels_of(project))}
         return self.labels_seen
 
     def has_index(self):
