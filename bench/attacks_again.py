@@ -183,7 +183,7 @@ def an_id_that_is_used_up(team):
     body = {"commit": commit, "parent": team.tip(branch), "paths": ["second"], "project": "tools", "branch": branch, "subject": "Second"}
     id = "push." + hashlib.sha256(json.dumps([ACCOUNTS["mallory"], "/changes/", body, 0], sort_keys=True).encode()).hexdigest()[:48]
     check(team.ask("mallory", "POST", path_of("changes", number, "revisions", 1, "review"), {"message": "Mine."}, id,
-                   headers={"Request-Epoch": time.strftime("%Y%m", time.gmtime())})[0] == 200, "a review")
+                   headers={"Request-Epoch": time.strftime("%Y%m%d", time.gmtime(time.time() - 600))})[0] == 200, "a review")
     check("IDENTITY_REUSED" in team.push("mallory", clone, branch, status=1), "the id is another one: say the hook's here")
     team.change("ann", {"ann": "it\n"}, "Ann's", f"origin/{branch}", branch)
     check("patch set 1" in team.push("mallory", clone, branch), "pushed again")

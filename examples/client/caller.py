@@ -15,7 +15,7 @@ class Caller(AuthBase):
     """Who asks: an account, straight at the desk, or a user with a password, at the proxy before it."""
 
     def __init__(self, account=None, user=None, password=None, epoch=None):
-        """`epoch` is a call that tells the present epoch, as `retry.this_month` does for a team's desk; without it each request is in epoch 0."""
+        """`epoch` is a call that tells the present epoch, as `retry.this_day` does for a team's desk; without it each request is in epoch 0."""
         self.id, self.basic, self.account = None, HTTPBasicAuth(user, password) if user else None, account
         self.present, self.epoch = epoch, None
 

@@ -50,9 +50,10 @@ def new_id():
     return secrets.token_hex(16)
 
 
-def this_month() -> int:
-    """The epoch of a team's requests: the month in UTC, as 202612. A request keeps the one that it was made in, however often it is sent."""
-    return int(time.strftime("%Y%m", time.gmtime()))
+def this_day() -> int:
+    """The epoch of a team's requests: the day in UTC, as 20261201. A request keeps the one that it was made in, however often it is sent. It is the day of ten minutes ago, so that
+    a clock that is ahead by less makes no request of tomorrow, which the proxy would turn away."""
+    return int(time.strftime("%Y%m%d", time.gmtime(time.time() - 600)))
 
 
 def path_of(*segments):

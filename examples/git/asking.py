@@ -12,15 +12,15 @@ import os
 import time
 
 from repository import noted_in, setting
-from retry import this_month, write_whole
+from retry import this_day, write_whole
 
 MOST_A_DAY = 16_000_000  # bytes: some 50,000 patch sets of a few paths each
 BESIDE = 300  # bytes that the desk keeps beside what a request says
 
 
 def epoch() -> int | None:
-    """The epoch of a request that is made now: the month, where a team closes months (desk.epoch)."""
-    return this_month() if setting("desk.epoch", "") == "month" else None
+    """The epoch of a request that is made now: the day, where a team closes days (desk.epoch)."""
+    return this_day() if setting("desk.epoch", "") == "day" else None
 
 
 class TooMuch(ValueError):

@@ -45,7 +45,7 @@ const WHY = {NOT_ALLOWED: "none of your groups has this right", CLOSED: "the cha
   REQUIREMENT_UNSATISFIED: "a submit requirement is unsatisfied", TOO_LARGE: "it is too large to be shown here, so fetch it",
   TOO_SLOW: "it takes too long here, so fetch it", TOO_MANY_REQUESTS: "you asked for too much at once",
   REVIEWER_HAS_VOTED: "this reviewer has voted, so only the reviewer and administrators can do that",
-  EPOCH_CLOSED: "it was written months ago, and nobody can tell any more whether it was done. Look, and where it is still wanted, write it anew",
+  EPOCH_CLOSED: "it was written weeks ago, and nobody can tell any more whether it was done. Look, and where it is still wanted, write it anew",
   BAD_EPOCH: "the clocks differ: load the page again, and press the button again", NO_COMMIT: "git doesn't have this patch set's commit", NO_ROUTE: "there is nothing of that name here"};
 async function askOnce(method, path, more) {
   const response = await fetch(path, {method, cache: "no-store", signal: AbortSignal.timeout(60000), ...more});
@@ -81,14 +81,11 @@ const keyOf = (path) => `berthoglu ${known.me} ${path}`;
 export const keptAt = (path) => JSON.parse(localStorage.getItem(keyOf(path)));
 export const forget = (path) => localStorage.removeItem(keyOf(path));
 export const keptPaths = () => Object.keys(localStorage).filter((key) => key.startsWith(keyOf(""))).map((key) => key.slice(keyOf("").length)).sort();
-// The month by the proxy's clock, as 202612: the epoch of a request that is made now. It keeps that, however often and however late it is sent.
-function month() {
-  const now = new Date(Date.now() - known.ahead);
-  return 100 * now.getUTCFullYear() + now.getUTCMonth() + 1;
-}
+// The day by the proxy's clock, as 20261201, as of ten minutes ago: the epoch of a request that is made now. It keeps that, however often and however late it is sent.
+const day = () => Number(new Date(Date.now() - known.ahead - 600000).toISOString().slice(0, 10).replaceAll("-", ""));
 export function keep(path, body, more = {}) {
   const id = "page-" + Array.from(crypto.getRandomValues(new Uint8Array(16)), (byte) => byte.toString(16).padStart(2, "0")).join("");
-  localStorage.setItem(keyOf(path), JSON.stringify({id, epoch: month(), body: JSON.stringify(body), ...more}));
+  localStorage.setItem(keyOf(path), JSON.stringify({id, epoch: day(), body: JSON.stringify(body), ...more}));
 }
 // Sends what is kept for a path: its status and answer. Only an answer of the desk, or of the gate before it, tells what became of it. `isWaiting` where it has to be sent again; `isOver` where it was sent twice and the other one had the answer.
 export async function send(path) {

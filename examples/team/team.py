@@ -29,7 +29,7 @@ EXAMPLES = os.path.dirname(HERE)
 CHECKOUT = os.path.dirname(EXAMPLES)
 sys.path[:0] = [os.path.join(EXAMPLES, "client"), os.path.join(EXAMPLES, "index")]
 import hints  # noqa: E402
-from retry import Desk, Kept, NoAnswer, NotOfTheDesk, new_id, path_of, this_month, write_whole  # noqa: E402
+from retry import Desk, Kept, NoAnswer, NotOfTheDesk, new_id, path_of, this_day, write_whole  # noqa: E402
 
 USUAL = {"port": 8443, "desk_port": 8473, "host": "", "projects": ["tools"], "branches": ["main"], "push_megabytes": 200, "hung_after": 90,
          "program": os.path.join(CHECKOUT, "crates", "review_desk", "out", "review_desk")}
@@ -252,8 +252,8 @@ class Team:
         request = kept_request(kept, wanted)
         status, told = self.ask(**request)
         kept.remove()  # A refusal, too, is the answer to this id alone: the same again asks under a new one.
-        if told.get("refused") == "EPOCH_CLOSED" and request.get("epoch") != this_month():
-            # It was kept for more than a month, and nobody knows whether it was done then. What is asked here is always put whole, so to ask anew does no harm.
+        if told.get("refused") == "EPOCH_CLOSED" and request.get("epoch") != this_day():
+            # It was kept for weeks, and nobody knows whether it was done then. What is asked here is always put whole, so to ask anew does no harm.
             status, told = self.ask(**kept_request(kept, wanted))
             kept.remove()
         hints.send(self.path("hints.socket"), method, path)
@@ -265,7 +265,7 @@ class Team:
 def kept_request(kept: Kept, wanted: dict[str, object]) -> dict[str, object]:
     """The request that is kept, where it asks for what is wanted; else a new one, which is kept from now on."""
     found = kept.read()
-    return found if found and {name: found.get(name) for name in wanted} == wanted else kept.write({**wanted, "id": new_id(), "epoch": this_month()})
+    return found if found and {name: found.get(name) for name in wanted} == wanted else kept.write({**wanted, "id": new_id(), "epoch": this_day()})
 
 
 def nginx_user():
@@ -284,4 +284,4 @@ def password_fault(word):
     return None
 
 
-__all__ = ["ADMINS", "CHECKOUT", "EXAMPLES", "HERE", "Kept", "NAME", "Team", "check_place", "fail", "kept_request", "new_password", "nginx_user", "password_fault", "path_of", "printed", "read", "this_month"]
+__all__ = ["ADMINS", "CHECKOUT", "EXAMPLES", "HERE", "Kept", "NAME", "Team", "check_place", "fail", "kept_request", "new_password", "nginx_user", "password_fault", "path_of", "printed", "read", "this_day"]

@@ -11,7 +11,7 @@ import subprocess
 
 from team import EXAMPLES, fail, new_password, read
 
-PARTS = ("client", "code", "git", "index", "page", "proxy", "team")
+PARTS = ("client", "code", "git", "index", "pack", "page", "proxy", "team")
 OF_THE_DESK = ("accounts", "changes", "epochs", "groups", "projects", "git", "page")  # A project of such a name has its repository at /git/PROJECT.git alone.
 
 
@@ -106,7 +106,7 @@ def make_repository(team, project, source):
     own = team.settings
     settings = {"receive.procReceiveRefs": "refs", "transfer.hideRefs": "refs/desk", "transfer.fsckObjects": "true", "core.fsync": "all",
                 "receive.maxInputSize": str(own["push_megabytes"] << 20), "desk.project": project, "desk.url": f"http://127.0.0.1:{own['desk_port']}",
-                "desk.accounts": team.path("accounts.conf"), "desk.page": f"{team.address}/page/?change=", "desk.hints": team.path("hints.socket"), "desk.mails": team.path("mails"), "desk.seconds": "20", "desk.epoch": "month", "receive.autogc": "false", "gc.auto": "0",
+                "desk.accounts": team.path("accounts.conf"), "desk.page": f"{team.address}/page/?change=", "desk.hints": team.path("hints.socket"), "desk.mails": team.path("mails"), "desk.seconds": "20", "desk.epoch": "day", "receive.autogc": "false", "gc.auto": "0",
                 "core.packedGitWindowSize": "64m", "core.packedGitLimit": "512m", "core.bigFileThreshold": "4m", "pack.threads": "1", "pack.windowMemory": "64m"}
     for name, value in settings.items():
         git("-C", place, "config", "--replace-all", name, value)

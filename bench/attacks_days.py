@@ -1,4 +1,4 @@
-"""How a desk gives back what it kept: months that are closed, and a desk that takes more memory to
+"""How a desk gives back what it kept: days that are closed, and a desk that takes more memory to
 open than there is. Cases of bench/attacks.
 """
 
@@ -18,34 +18,34 @@ from attacked_team import TEAM, AttackedTeam, check, new_id
 from desk_proxied import EXAMPLES
 
 
-def months_are_closed(team: AttackedTeam) -> None:
+def days_are_closed(team: AttackedTeam) -> None:
     """Closed epochs give back what was kept; hook, page, commands and follower go on across it,
     and nothing acts twice. No epoch ahead is taken, and a wrong clock closes nothing.
     """
-    month = int(time.strftime("%Y%m", time.gmtime()))
+    day = int(time.strftime("%Y%m%d", time.gmtime()))
     branch = team.new_branch()
-    number, _ = team.change("ann", {"months": "one\n"}, "Months", f"origin/{branch}", branch)
-    for ahead in (month + 100, 10**9, 999999):
+    number, _ = team.change("ann", {"days": "one\n"}, "Days", f"origin/{branch}", branch)
+    for ahead in (day + 1, day + 10000, 10**9, 99999999, 202612010):
         status, told, _ = team.ask(
             "eve", "POST", REFUSED, {"message": "x"}, headers={"Request-Epoch": str(ahead)}
         )
         check(
-            (status, told) == (400, {"fault": "BAD_EPOCH", "epoch": month}),
+            (status, told) == (400, {"fault": "BAD_EPOCH", "epoch": day}),
             "an epoch that is ahead is taken",
             ahead,
             status,
             told,
         )
-    check("the first one is closed" in team.command("close-epochs"), "it closes at once")
+    check("no epoch is due" in team.command("close-epochs"), "it closes at once")
     noted = os.path.join(team.path, "kept", "epochs")
     with open(noted, "w", encoding="utf-8") as file:
-        file.write(json.dumps({"first": 202001, "seen": 202001}))
+        file.write(json.dumps({"first": 20200101, "seen": 20200101}))
     check(
         "the clock says" in team.command("close-epochs", status=1),
         "a clock that jumps ahead is believed",
     )
     with open(noted, "w", encoding="utf-8") as file:
-        file.write(json.dumps({"first": 202001, "seen": month}))
+        file.write(json.dumps({"first": 20200101, "seen": day}))
     pending = os.path.join(team.repository, "desk", "pending")
     kept = {
         "account": 2,
@@ -68,7 +68,7 @@ def months_are_closed(team: AttackedTeam) -> None:
     )
     check(
         "are closed" in team.command("close-epochs")
-        and "are closed" in team.command("close-epochs"),
+        and "no epoch is due" in team.command("close-epochs"),
         "it isn't closed",
     )
     check(
@@ -76,7 +76,7 @@ def months_are_closed(team: AttackedTeam) -> None:
         == (409, {"refused": "EPOCH_CLOSED"}),
         "a message of a closed epoch acts again",
     )
-    now = {"Request-Epoch": str(month)}
+    now = {"Request-Epoch": str(day)}
     check(
         team.ask(
             "bob",
@@ -86,7 +86,7 @@ def months_are_closed(team: AttackedTeam) -> None:
             headers=now,
         )[0]
         == 200,
-        "a vote of this month",
+        "a vote of today",
     )
     threads = team.ask("ann", "GET", f"/changes/{number}/threads")[1]
     check(
@@ -95,7 +95,15 @@ def months_are_closed(team: AttackedTeam) -> None:
         threads,
     )
     check(
-        team.amended("ann", {"months": "two\n"}, branch)[0] == 2, "a push makes a patch set no more"
+        "is after today" in team.command("close-epochs", "--before", "29990101", status=2)
+        and f"before {day} are closed" in team.command("close-epochs", "--before", str(day)),
+        "today isn't the last day that can be closed to",
+    )
+    before = {"Request-Epoch": str(day - 1)}
+    status, told, _ = team.ask("eve", "POST", REFUSED, {"message": "x"}, headers=before)
+    check((status, told) == (409, {"refused": "EPOCH_CLOSED"}), "a closed day", status, told)
+    check(
+        team.amended("ann", {"days": "two\n"}, branch)[0] == 2, "a push makes a patch set no more"
     )
     team.command("add-user", "zoe", "--password-on-input", sent="pearpear\n")
     team.command("set-group", "Others", "zoe")
@@ -113,7 +121,7 @@ def months_are_closed(team: AttackedTeam) -> None:
     )
     check(
         team.ask("ann", "POST", f"/changes/{number}/submit", {}, headers=now)[0] == 200,
-        "a submit of this month",
+        "a submit of today",
     )
     other, commit = team.change(
         "bob", {"other": "one\n"}, "Beside it", f"origin/{branch}~0", branch
@@ -197,7 +205,7 @@ def a_desk_that_cannot_be_opened_comes_back(team: AttackedTeam) -> None:
         new,
         team.program,
         "--closing",
-        "202612",
+        "20261201",
     ]
     ran = subprocess.run(pack, capture_output=True, text=True, check=False)
     most = resource.getrusage(resource.RUSAGE_CHILDREN).ru_maxrss >> 10
@@ -207,10 +215,10 @@ def a_desk_that_cannot_be_opened_comes_back(team: AttackedTeam) -> None:
         json.dumps(
             {
                 "caller": 1,
-                "epoch": 202612,
-                "id": "close.202612",
+                "epoch": 20261201,
+                "id": "close.20261201",
                 "do": "CloseEpoch",
-                "body": {"epoch": 202612},
+                "body": {"epoch": 20261201},
             }
         )
         + "\n"
@@ -242,6 +250,6 @@ def a_desk_that_cannot_be_opened_comes_back(team: AttackedTeam) -> None:
 
 CASES = {
     function.__name__: function
-    for function in (months_are_closed, a_desk_that_cannot_be_opened_comes_back)
+    for function in (days_are_closed, a_desk_that_cannot_be_opened_comes_back)
 }
-ALONE = {"months_are_closed"}
+ALONE = {"days_are_closed"}
