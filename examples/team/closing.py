@@ -1,7 +1,7 @@
 """Which epochs a team's desk has closed, and which are due. A module; standard library.
 
-A team's epochs are days in UTC, as 20261201. FOLDER/kept/epochs notes the first day on which anybody
-looked, the last one, and the least day that is open.
+A team's epochs are days in UTC, as 20261201. FOLDER/kept/epochs notes the first day on which
+anybody looked, the last one, and the least day that is open.
 """
 from __future__ import annotations
 
