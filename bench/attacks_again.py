@@ -209,19 +209,23 @@ def one_user_tries_one_merge(team):
     team.merged("ann", base, "Base", branch)
     point = team.tip(branch)
     team.merged("ann", {path: text + "more\n" for path, text in base.items()}, "More", branch)
-    other = {f"o/{path[2:]}": "".join(line if drawn.random() < 0.7 else "other\n" for line in text.splitlines(True)) for path, text in base.items()}
-    number, _ = team.change("mallory", {**other, **dict.fromkeys(base)}, "Elsewhere", point, branch)
+    other = {path: "".join(line if drawn.random() < 0.7 else f"{drawn.random()}\n" for line in text.splitlines(True)) for path, text in base.items()}
+    number, _ = team.change("mallory", other, "Elsewhere", point, branch)
     fine, _ = team.change("bob", {"fine": "it\n"}, "Fine", f"origin/{branch}", branch)
     check(team.vote("ann", fine, 1, 2)[0] == 200, "a vote")
-    asking = [threading.Thread(target=team.ask, args=("mallory", "GET", path_of("changes", number, "revisions", "current", "mergeable"))) for _ in range(6)]
-    for thread in asking:
-        thread.start()
-    most, status = 0, None
-    while any(thread.is_alive() for thread in asking):
-        most = max(most, tries(team))
-        status = status or team.submit("bob", fine)[0]
+    team.in_repository("config", "desk.mergeContent", "true")  # Without it a merge takes no time worth speaking of.
+    try:
+        asking = [threading.Thread(target=team.ask, args=("mallory", "GET", path_of("changes", number, "revisions", "current", "mergeable"))) for _ in range(6)]
+        for thread in asking:
+            thread.start()
+        most, status = 0, None
+        while any(thread.is_alive() for thread in asking):
+            most = max(most, tries(team))
+            status = status or team.submit("bob", fine)[0]
+    finally:
+        team.in_repository("config", "--unset", "desk.mergeContent")
     check(status == 200, "others submit nothing", status)
-    check(most <= 2, "one user's merges are tried at once", most)  # One is bob's.
+    check(1 <= most <= 2, "one user's merges are tried at once", most)  # One is bob's.
 
 
 def tries(team):
