@@ -192,7 +192,7 @@ def a_desk_that_cannot_be_opened_comes_back(team: AttackedTeam) -> None:
 
     size = os.path.getsize(desk)
     check(
-        size > 190_000_000 and size <= needed(desk) < 1.2 * size,
+        size > 190_000_000 and size <= needed(desk) < 1.7 * size,
         "look foresees another opening",
         size,
         needed(desk),

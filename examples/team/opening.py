@@ -2,9 +2,10 @@
 library.
 
 To open a desk's file the program reads the rows of each table as a whole, and holds those of one
-table at a time. So an opening takes about as much memory as the largest table has bytes, beside
-some 12 MB; while the desk is served it takes far less. What is told here is a bound from above: all
-of the file but its free pages, as the file's head says, and what waits beside it in the log.
+table at a time. So an opening takes about as much memory as the largest table has bytes, and half
+as much again where its rows are small, beside some 12 MB; while the desk is served it takes far
+less. What is told here is a bound from above: of all of the file but its free pages, as the file's
+head says, and what waits beside it in the log.
 """
 from __future__ import annotations
 
@@ -23,10 +24,10 @@ def needed(file: str) -> int:
         size = int.from_bytes(head[16:18], "big")
         page = 65536 if size == 1 else size
         pages, free = os.fstat(desk.fileno()).st_size // max(page, 1), int.from_bytes(
-            head[36:40], "big"
+            head[36:], "big"
         )
         log = os.stat(file + "-wal").st_size if os.path.exists(file + "-wal") else 0
-        return max(pages - free, 0) * page + log + BESIDE
+        return (max(pages - free, 0) * page + log) * 3 // 2 + BESIDE
     return 0
 
 
