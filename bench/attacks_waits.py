@@ -175,6 +175,8 @@ def the_objection_stays(team: AttackedTeam) -> None:
         status,
         told,
     )
+    as_cc = {"reviewer": bob, "state": "CC"}
+    team.ask("mallory", "POST", f"/changes/{number}/reviewers", as_cc)
     check(team.submit("mallory", number)[0] == 409, "it is submitted")
     check(
         team.ask("ann", "POST", f"/changes/{number}/reviewers", {"reviewer": ACCOUNTS["eve"]})[0]
