@@ -211,6 +211,7 @@ def a_desk_that_cannot_be_opened_comes_back(team: AttackedTeam) -> None:
     most = resource.getrusage(resource.RUSAGE_CHILDREN).ru_maxrss >> 10
     check(ran.returncode == 0, "it doesn't come back", ran.stdout, ran.stderr)
     check(needed(new) < 20 << 20, "what was kept isn't given back", needed(new))
+    check(most < 120, "it takes as much memory as an opening", most)
     close = (
         json.dumps(
             {
