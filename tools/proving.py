@@ -4,6 +4,7 @@ import re
 import sys
 import threading
 import time
+from collections.abc import Callable
 
 TOP = os.path.dirname(os.path.dirname(os.path.realpath(__file__)))
 SECONDS = f"{TOP}/tools/crate_seconds.txt"
@@ -68,7 +69,7 @@ class Guess:
 class Progress:
     """Tells on standard error where a build is: a line a crate, and on a terminal a last line."""
 
-    def __init__(self, guess: Guess, clock: object = time.monotonic) -> None:
+    def __init__(self, guess: Guess, clock: Callable[[], float] = time.monotonic) -> None:
         self.guess, self.clock, self.begun = guess, clock, clock()
         self.at_work: dict[str, float] = {}
         self.kept: set[str] = set()
@@ -89,7 +90,9 @@ class Progress:
     def tick(self) -> None:
         while not self.ended.wait(1):
             with self.lock:
-                self.write(f"{self.standing()}; at work: {', '.join(sorted(self.at_work))}"[:140], "")
+                self.write(
+                    f"{self.standing()}; at work: {', '.join(sorted(self.at_work))}"[:140], ""
+                )
 
     def standing(self) -> str:
         had = {name: self.clock() - since for name, since in self.at_work.items()}
