@@ -76,6 +76,7 @@ def ambiguous(address):
     check([it.request for it in some_of(log, head, 2)] == [b"lost", b"lost"], "both are there")
     losing.is_silent = True
     read = Log([losing.address, address])
+    read.name = ""
     entries, found = read.read(head), []
     while len(found) < 3:
         found.append(next(entries))
