@@ -122,5 +122,5 @@ class Progress:
                 self.guess.keep(name)
             else:
                 self.guess.end(name, took)
-            how = "kept" if name in self.kept else "proved" if is_proved else "NOT PROVED"
-            self.write(f"{name} {how}; {self.standing()}")
+            how = f"proved in {took:.0f} s" if is_proved else "NOT PROVED"
+            self.write(f"{name} {'kept' if name in self.kept else how}; {self.standing()}")
