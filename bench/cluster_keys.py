@@ -5,6 +5,7 @@ import json
 import os
 import shutil
 import signal
+import ssl
 import subprocess
 
 from cluster_start import Started, ports_from
@@ -74,10 +75,25 @@ def shut_out(started):
         for n in (1, 2):
             with contextlib.suppress(NoLog):
                 check(False, "the log of one who is shut out", folder, Log([f"127.0.0.1:{started.first + 10 * n + 4}"], folder).head(3))
+        status = at_port(started, folder)
+        check(status == 400, "a node's port, for one who is shut out", folder, status)
+    check(at_port(started, "cluster/2/certificates") == 404, "a node's port, for another node")
     head = log.head()
     for at in range(3):
         check(started.ask(1 + at % 2, f"s{at}", "/accounts", {"name": f"shut{at}"})[0] == 200, "the others go on", at)
     check(log.head() == head + 3, "and append", head, log.head())
+
+
+def at_port(started, folder):
+    """The status that the first node's port for other nodes gives to who shows a certificate."""
+    context = ssl.create_default_context(cafile="cluster/1/certificates/ca.crt")
+    context.load_cert_chain(f"{folder}/node.crt", f"{folder}/node.key")
+    peer = http.client.HTTPSConnection("127.0.0.1", started.first + 13, timeout=20, context=context)
+    try:
+        peer.request("GET", "/changes/1", None, {"X-Account": "1"})
+        return peer.getresponse().status
+    finally:
+        peer.close()
 
 
 def is_there(log):
