@@ -109,14 +109,36 @@ impl<'r> ChangeFile<'r> {
     ) -> Result<EditedChange<'r>, AllocError>
         ensures { IfOk result (Makes self.now.rows.now (after_plain (RemoveReviewer account) caller request (seen self.now.rows.now))) }
     {
-        stays_sound();
         let mut edited = begin_edits(alloc, self.rows, self.rows.header.state, request)?;
+        match self.remove_reviewer(alloc, &mut edited, account, caller, request) {
+            Ok(()) => Ok(edited),
+            Err(error) => {
+                drop(edited);
+                Err(error)
+            }
+        }
+    }
+
+    // Takes the role of an account out of a change that is begun, and its votes on the current patch set.
+    fn remove_reviewer(
+        &self,
+        alloc: Global,
+        edited: &mut EditedChange<'r>,
+        account: AccountNo,
+        caller: AccountNo,
+        request: u64,
+    ) -> Result<(), AllocError>
+        requires over { edited.old.rows ≡ self.now.rows }
+        requires same { after_edits edited.old ≡ record (seen self.now.rows.now) { updated = request } }
+        ensures { OnOk result (Makes self.now.rows.now (after_plain (RemoveReviewer account) caller request (seen self.now.rows.now)) edited.new) }
+    {
+        stays_sound();
         let who = who_for(&self.rows.header, &self.rows.patches, caller);
         let patch = current_patch(&self.rows.patches);
         edited.roles.set(account, None)?;
         let is_gone = is_other(account, who.owner, who.uploader);
         drop_called(&mut edited.attention, account, is_gone)?;
         drop_votes(alloc, &mut edited.votes, patch, account)?;
-        Ok(edited)
+        Ok(())
     }
 }
