@@ -209,7 +209,9 @@ fn put_line(
     ensures epoch { IfOk result (λ r. r.0.least_epoch ≡ None) }
     ensures once { IfOk result (λ r. NamesEachOnce r.0) }
 {
-    let has_room = rows.is_so(&Want::Room(Counted::Projects));
+    let want = Want::Room(Counted::Projects);
+    let has_room = rows.is_so(&want);
+    drop(want);
     if let Some(refusal) = kept_refused(effective, has_room, line.file()) {
         return Ok(refused(alloc, refusal));
     }
