@@ -4,7 +4,8 @@ ghost use Rattle.std.specs.Prelude.{◌≡◌, ◌==◌, ◌&&◌, ◌||◌, not
 ghost use Rattle.review_names.specs.Forms.{is_within, most_patches};
 ghost use Rattle.review_words.specs.declared.command.ChangeCommand.TheVariants.{Review as ReviewOf};
 ghost use Rattle.review_core_rules.specs.Change.{after_plain, is_open, kept_or, why_commented, why_replied};
-ghost use Rattle.review_core_rules.specs.{EditedChanges.Makes, EditedChanges.after_edits, EditedRows.edited_account, Seen.seen, Sound.fits};
+ghost use Rattle.review_core_rules.specs.EditedChanges.{Makes, after_edits};
+ghost use Rattle.review_core_rules.specs.{EditedRows.edited_account, Seen.seen, Sound.fits};
 
 use crate::file::ChangeFile;
 use crate::roles::{current_patch, who_for};

@@ -4,7 +4,8 @@ ghost use Rattle.std.specs.Prelude.{◌≡◌, ◌+◌, ◌==◌, [], pos, true,
 ghost use Rattle.review_names.specs.Forms.{is_within, most_patches};
 ghost use Rattle.review_words.specs.declared.command.ChangeCommand.TheVariants.{Upload};
 ghost use Rattle.review_core_rules.specs.Change.{after, carried, copying, is_lost, last_paths};
-ghost use Rattle.review_core_rules.specs.{EditedChanges.IsUnedited, EditedChanges.Makes, EditedChanges.after_edits, Seen.seen, Sound.fits, Votes.voted};
+ghost use Rattle.review_core_rules.specs.EditedChanges.{IsUnedited, Makes, after_edits};
+ghost use Rattle.review_core_rules.specs.{Seen.seen, Sound.fits, Votes.voted};
 ghost use Rattle.review_core_tables.specs.Copies.{AreMany, GroupTable, group_list, with_groups};
 
 use crate::file::ChangeFile;

@@ -3,9 +3,8 @@ ghost use Rattle.std.specs.Ordering.{nat_cmp};
 ghost use Rattle.std.specs.Prelude.{◌≡◌, ◌+◌, ◌≤◌, ℕ, IfOk, None, length};
 ghost use Rattle.review_names.specs.Forms.{most_comments, most_patches};
 ghost use Rattle.review_table.specs.Rows.{NamesOnce, after_row_edit, place_at, row_edit_of};
-ghost use Rattle.review_core_rules.specs.EditedChanges.{IsBare, after_edits};
-ghost use Rattle.review_core_rules.specs.{Parts.Part, Parts.part_row, Seen.seen, Seen.vote_cmp, Sound.IsSound};
-ghost use Rattle.review_core_rules.specs.declared.rows.VoteKey.{VoteKey};
+ghost use Rattle.review_core_rules.specs.{EditedChanges.IsBare, EditedChanges.after_edits, Parts.Part, Parts.part_row};
+ghost use Rattle.review_core_rules.specs.{Seen.seen, Seen.vote_cmp, Sound.IsSound, declared.rows.VoteKey.VoteKey};
 ghost use Rattle.review_machine_rows.specs.{Decisions.NamesRowsOnce, Rows.part_change};
 ghost use Rattle.review_machine_change_rows.specs.Edits.{HasNoted, puts_after};
 

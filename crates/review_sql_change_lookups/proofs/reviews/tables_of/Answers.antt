@@ -1,11 +1,12 @@
 use Rattle.std.{proofs.Common.⊎_elim, proofs.Common.◌⊎◌, specs.Option.option_zip}
 use Rattle.review_sql_tables.proofs.Common.{◌≡◌, ◌∙◌, ℕ, Option, Some, None, ap, inl, inr, refl, subst, sym, true, false, rules, option_map, nat_cmp, rows_of, AreParts, Trees}
 use Rattle.review_core_rules.specs.Seen.{vote_cmp}
-use Rattle.review_sql_lookups.specs.declared.sights.Sight.TheVariants.{Damaged}
-use Rattle.review_sql_change_lookups.specs.{Reviews.AreFoundRows, Reviews.IsWhyNone, declared.reviews.FoundRows.FoundRows}
 use Rattle.review_sql_change_records.specs.Forms.{patches, votes, roles, comments, attention_entries, change_patches, change_votes, change_roles, change_comments, change_attention}
 use Rattle.review_sql_lookups.proofs.Odd.{patches_damaged, votes_damaged, roles_damaged, comments_damaged, attention_damaged}
+use Rattle.review_sql_lookups.specs.declared.sights.Sight.TheVariants.{Damaged}
 use Rattle.review_sql_change_lookups.proofs.Reviewing.{header_damaged, none_told, some_told, tables_told, IsHeadless}
+use Rattle.review_sql_change_lookups.specs.Reviews.{AreFoundRows, IsWhyNone}
+use Rattle.review_sql_change_lookups.specs.declared.reviews.FoundRows.{FoundRows}
 use Rattle.review_sql_change_lookups.proofs.reviews.tables_of.Goals as goal
 
 both : {A B : Type 0} (a : Option A) (b : Option B) (x : A) (y : B) → option_zip a b ≡ Some (x, y) → (a ≡ Some x) × (b ≡ Some y)

@@ -4,7 +4,8 @@ use Rattle.review_machine_rows.specs.declared.rows.{BranchKey.BranchKey, PlaceKe
 use Rattle.review_machine_change_rows.specs.declared.loading.ChangeFault.{ChangeFault}
 use Rattle.review_machine_change_rows.specs.declared.loading.ChangeFault.TheVariants.{Memory, Gap}
 use Rattle.review_memory_rows.proofs.Based.{seen_at, none_of, AreUpTo, up_to_more, all_listed, gap, zero_taken}
-use Rattle.review_memory_rows.{proofs.Dropped.copied_some, specs.Bases.BranchesView, specs.Bases.IsUnlisted, specs.Bases.base_at}
+use Rattle.review_memory_rows.proofs.Dropped.{copied_some}
+use Rattle.review_memory_rows.specs.Bases.{BranchesView, IsUnlisted, base_at}
 use Rattle.review_memory_rows.proofs.bases.Branches.bases_of.Goals as goal
 
 pub returns-then-is_some-clause-gap : goal.returns-then-is_some-clause-gap
