@@ -103,7 +103,14 @@ impl MemoryTables {
         ensures done { OnOk result (IsCommitted (tables_of (desk_of self.old)) delta (kept_row kept) (tables_of (desk_of self.new))) }
         ensures same { OnErr result (tables_of (desk_of self.new) ≡ tables_of (desk_of self.old)) }
     {
-        let lower = lower_keys(alloc, &self.answers, delta.least_epoch, &kept)?;
+        let lower = match lower_keys(alloc, &self.answers, delta.least_epoch, &kept) {
+            Ok(lower) => lower,
+            Err(error) => {
+                drop(delta);
+                drop(kept);
+                return Err(error);
+            }
+        };
         let least = delta.least_epoch;
         self.commit_beside(alloc, delta, kept)?;
         self.give_up(least, &lower);
