@@ -15,6 +15,8 @@ UNKNOWN, AT_LEAST = 180.0, 10.0
 
 def seconds_elsewhere(file: str = SECONDS) -> dict[str, float]:
     """Returns the seconds that each crate took on the machine where the table was made."""
+    if not os.path.exists(file):
+        return {}
     with open(file, encoding="utf-8") as lines:
         found = re.findall(r"^(\w+) +([0-9.]+)$", lines.read(), re.M)
     return {name: float(seconds) for name, seconds in found}
