@@ -10,6 +10,7 @@ import shutil
 import signal
 import struct
 import threading
+import time
 import zlib
 
 from attacked_team import ACCOUNTS, check, path_of
@@ -181,7 +182,8 @@ def an_id_that_is_used_up(team):
     commit = team.commit("mallory", clone, {"second": "it\n"}, "Second", f"origin/{branch}")
     body = {"commit": commit, "parent": team.tip(branch), "paths": ["second"], "project": "tools", "branch": branch, "subject": "Second"}
     id = "push." + hashlib.sha256(json.dumps([ACCOUNTS["mallory"], "/changes/", body, 0], sort_keys=True).encode()).hexdigest()[:48]
-    check(team.ask("mallory", "POST", path_of("changes", number, "revisions", 1, "review"), {"message": "Mine."}, id)[0] == 200, "a review")
+    check(team.ask("mallory", "POST", path_of("changes", number, "revisions", 1, "review"), {"message": "Mine."}, id,
+                   headers={"Request-Epoch": time.strftime("%Y%m%d", time.gmtime(time.time() - 600))})[0] == 200, "a review")
     check("IDENTITY_REUSED" in team.push("mallory", clone, branch, status=1), "the id is another one: say the hook's here")
     team.change("ann", {"ann": "it\n"}, "Ann's", f"origin/{branch}", branch)
     check("patch set 1" in team.push("mallory", clone, branch), "pushed again")
@@ -207,19 +209,23 @@ def one_user_tries_one_merge(team):
     team.merged("ann", base, "Base", branch)
     point = team.tip(branch)
     team.merged("ann", {path: text + "more\n" for path, text in base.items()}, "More", branch)
-    other = {f"o/{path[2:]}": "".join(line if drawn.random() < 0.7 else "other\n" for line in text.splitlines(True)) for path, text in base.items()}
-    number, _ = team.change("mallory", {**other, **dict.fromkeys(base)}, "Elsewhere", point, branch)
+    other = {path: "".join(line if drawn.random() < 0.7 else f"{drawn.random()}\n" for line in text.splitlines(True)) for path, text in base.items()}
+    number, _ = team.change("mallory", other, "Elsewhere", point, branch)
     fine, _ = team.change("bob", {"fine": "it\n"}, "Fine", f"origin/{branch}", branch)
     check(team.vote("ann", fine, 1, 2)[0] == 200, "a vote")
-    asking = [threading.Thread(target=team.ask, args=("mallory", "GET", path_of("changes", number, "revisions", "current", "mergeable"))) for _ in range(6)]
-    for thread in asking:
-        thread.start()
-    most, status = 0, None
-    while any(thread.is_alive() for thread in asking):
-        most = max(most, tries(team))
-        status = status or team.submit("bob", fine)[0]
+    team.in_repository("config", "desk.mergeContent", "true")  # Without it a merge takes no time worth speaking of.
+    try:
+        asking = [threading.Thread(target=team.ask, args=("mallory", "GET", path_of("changes", number, "revisions", "current", "mergeable"))) for _ in range(6)]
+        for thread in asking:
+            thread.start()
+        most, status = 0, None
+        while any(thread.is_alive() for thread in asking):
+            most = max(most, tries(team))
+            status = status or team.submit("bob", fine)[0]
+    finally:
+        team.in_repository("config", "--unset", "desk.mergeContent")
     check(status == 200, "others submit nothing", status)
-    check(most <= 2, "one user's merges are tried at once", most)  # One is bob's.
+    check(1 <= most <= 2, "one user's merges are tried at once", most)  # One is bob's.
 
 
 def tries(team):

@@ -4,13 +4,12 @@ import glob
 import json
 import os
 import re
-import signal
 import subprocess
 import time
 
 from attacked_team import ACCOUNTS, TEAM, check, path_of
 
-FOLLOW, SETTLE = (os.path.join(os.path.dirname(TEAM), "git", name) for name in ("follow", "settle"))
+SETTLE = os.path.join(os.path.dirname(TEAM), "git", "settle")
 TWICE = "".join(f"def {name}():\n    begin()\n    check()\n    end()\n\n\n" for name in ("first", "second"))
 
 
@@ -144,29 +143,6 @@ def votes_for_other_code(team):
         check((status == 200) == (name == "h"), "submitted with a vote for other code", name, status, told)
 
 
-def refused_bases(team):
-    """A follower whose account may not record a base is told so, and goes on once it may: no refusal is told for ever."""
-    branch = team.new_branch()
-    base, own = team.tip(branch), {**team.environment, "GIT_CONFIG_COUNT": "1", "GIT_CONFIG_KEY_0": "desk.account", "GIT_CONFIG_VALUE_0": str(ACCOUNTS["ann"])}
-    check(team.signal("git/follow", signal.SIGSTOP) == 1, "no follower")
-    try:
-        commits = []
-        for word in ("left", "right"):
-            number, commit = team.change("ann", {f"{word} {branch}": word}, word, base, branch)
-            merged_at_the_desk(team, number)
-            commits.append(commit)
-        words = [FOLLOW, "--once", "--merge-if-necessary", team.repository, branch]
-        for _ in range(2):
-            said = subprocess.run(words, env=own, capture_output=True, text=True, check=False)
-            check(said.returncode == 3 and "NOT_ADMIN" in said.stderr and not team.has(branch, commits[1]), "an account that may not", said)
-        check(team.desk_ask(1, "PUT", path_of("groups", "Administrators"), {"members": [1, ACCOUNTS["ann"]]})[0] == 200, "the group isn't put")
-        said = subprocess.run(words, env=own, capture_output=True, text=True, check=False)
-        check(said.returncode == 0 and team.has(branch, commits[1]), "a refusal is told for ever", said)
-    finally:
-        team.desk_ask(1, "PUT", path_of("groups", "Administrators"), {"members": [1]})
-        team.signal("git/follow", signal.SIGCONT)
-
-
 def tiny_pushes(team):
     """Trees within trees, some hundred bytes with ten million paths or folders: refused at once, by a hook that takes no memory for it."""
     clone = team.clone("mallory")
@@ -277,7 +253,7 @@ def who_pushes(team):
 
 
 CASES = {"only-what-was-pushed": only_what_was_pushed, "one-change-stops-nothing": one_change_stops_nothing, "conflicts-stop-nothing": conflicts_stop_nothing,
-         "votes-for-other-code": votes_for_other_code, "refused-bases": refused_bases, "tiny-pushes": tiny_pushes, "refused-objects-go": refused_objects_go,
+         "votes-for-other-code": votes_for_other_code, "tiny-pushes": tiny_pushes, "refused-objects-go": refused_objects_go,
          "what-is-pushed-is-looked-at": what_is_pushed_is_looked_at, "committers": committers, "stale-locks": stale_locks, "a-push-that-waits": a_push_that_waits,
          "names-of-refs": names_of_refs, "who-pushes": who_pushes}
 ALONE = {"who-pushes"}

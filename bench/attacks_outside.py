@@ -82,7 +82,7 @@ def folders_of_others_are_not_believed(team):
         os.symlink(precious, os.path.join(place, name))
     shutil.chown(place, "nobody")
     found = sorted(os.listdir(place))
-    for words in (["start", place, "--as-root"], ["add-user", place, "ann"], ["set-group", place, "Core"], ["remove-user", place, "ann"], ["set-project", place], ["sweep", place],
+    for words in (["start", place, "--as-root"], ["add-user", place, "ann"], ["set-group", place, "Core"], ["remove-user", place, "ann"], ["set-project", place], ["sweep", place], ["close-epochs", place],
                   ["back-up", place, os.path.join(team.top, "of-others")], ["look", place]):
         ran = subprocess.run([os.path.join(TEAM, words[0]), *words[1:]], stdout=subprocess.PIPE, stderr=subprocess.STDOUT, text=True, check=False, timeout=30)
         check(ran.returncode == 1 and "of the user nobody" in ran.stdout, "a folder of another user is believed", words, ran.returncode, ran.stdout)

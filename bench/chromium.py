@@ -7,7 +7,7 @@ import select
 import subprocess
 import time
 
-NOT_TAKEN = {"503": b")]}'\n{\"not_taken\":\"MEMORY\"}\n", "429": b"<html>Too Many Requests</html>"}
+NOT_TAKEN = {"503": b")]}'\n{\"not_taken\":\"MEMORY\"}\n", "429": b")]}'\n{\"not_taken\":\"TOO_MANY_REQUESTS\",\"retry_after\":60}\n"}
 KEYS = {"Tab": 9, "Enter": 13, " ": 32, "ArrowDown": 40, "ArrowUp": 38}
 
 

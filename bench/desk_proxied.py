@@ -66,6 +66,9 @@ class Proxied:
     def set_up(self, accounts):
         """Puts all that nginx reads into the folder."""
         conf = read(EXAMPLES, "proxy", "nginx.conf").replace("127.0.0.1:8473", f"127.0.0.1:{self.desk_port}").replace("127.0.0.1:8443", f"127.0.0.1:{self.port}")
+        conf = conf.replace("/srv/proxy", self.folder)
+        for name in ("to_asked.conf", "to_desk.conf", "administrators.conf"):
+            write(read(EXAMPLES, "proxy", name), self.folder, name)
         write(HOOK_ALONE.sub("", conf) if self.are_trusted else conf, self.folder, "nginx.conf")
         lines = "".join(f"~^{name}$ {number};\n" for name, number in accounts.items())
         write(read(EXAMPLES, "proxy", "accounts.conf") + lines, self.folder, "accounts.conf")

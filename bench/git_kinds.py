@@ -12,6 +12,7 @@ ELSEWHERE = "    pass\n".join(TWICE.rsplit("    check()\n", 1))
 CRLF, BINARY = LINES.replace("\n", "\r\n"), bytes(range(256)) * 8
 ONE, TWO, THREE = "1" * 40, "2" * 40, "3" * 40
 TRIVIAL, REWORK = "TRIVIAL_REBASE", "REWORK"
+WITHIN = "a rebase only where git may merge within files"
 
 
 def edit(text, line, to):
@@ -27,14 +28,14 @@ def cases():
     a, top = {"a": LINES}, {"top": "of all\n"}
     crlf = {"a": CRLF}
     return [
-        ("an honest rebase", a, {"a": seven}, {"a": thirty}, {"a": both}, TRIVIAL),
-        ("lines that come before it", a, {"a": seven}, {"a": "new\n" * 9 + LINES}, {"a": "new\n" * 9 + seven}, TRIVIAL),
+        ("an honest rebase", a, {"a": seven}, {"a": thirty}, {"a": both}, WITHIN),
+        ("lines that come before it", a, {"a": seven}, {"a": "new\n" * 9 + LINES}, {"a": "new\n" * 9 + seven}, WITHIN),
         ("more than the change", a, {"a": seven}, {"a": thirty}, {"a": edit(both, 20, "twenty\n")}, REWORK),
         ("less than the change", a, {"a": seven}, {"a": thirty}, {"a": thirty, "b": "b"}, REWORK),
         ("what the new parent has is taken out again", a, {"a": seven}, {"a": thirty}, {"a": seven}, REWORK),
         ("the hunk in another function", {"f": TWICE}, {"f": OPENED}, top, {"f": ELSEWHERE}, REWORK),
         ("the hunk in another function, at the same line", {"f": TWICE}, {"f": OPENED}, {"f": "x\n" + TWICE}, {"f": "x\n" + ELSEWHERE}, REWORK),
-        ("the hunk where it was", {"f": TWICE}, {"f": OPENED}, {"f": "x\n" + TWICE}, {"f": "x\n" + OPENED}, TRIVIAL),
+        ("the hunk where it was", {"f": TWICE}, {"f": OPENED}, {"f": "x\n" + TWICE}, {"f": "x\n" + OPENED}, WITHIN),
         ("what stands behind a NUL byte", {"s": "begin\n"}, {"s": "begin\necho installed\0\n"}, top, {"s": "begin\necho installed\0; echo EVIL RAN\n"}, REWORK),
         ("a NUL byte", {"s": "begin\n"}, {"s": "begin\necho installed\0\n"}, top, {"s": "begin\necho installed\0\n"}, TRIVIAL),
         ("a binary file", {"b": BINARY}, {"b": BINARY + b"1"}, top, {"b": BINARY + b"1"}, TRIVIAL),
@@ -43,8 +44,8 @@ def cases():
         ("a new name", a, {"a": None, "b": LINES}, top, {"a": None, "b": LINES}, TRIVIAL),
         ("a new name that the new parent gave", a, {"a": seven}, {"a": None, "b": LINES}, {"b": seven}, REWORK),
         ("another new name", a, {"a": None, "b": LINES}, top, {"a": None, "c": LINES}, REWORK),
-        ("a mode beside an edit", {"s": LINES}, {"s": ("100755", LINES)}, {"s": thirty}, {"s": ("100755", thirty)}, TRIVIAL),
-        ("a mode that the new parent gave", {"s": LINES}, {"s": seven}, {"s": ("100755", LINES)}, {"s": ("100755", seven)}, TRIVIAL),
+        ("a mode beside an edit", {"s": LINES}, {"s": ("100755", LINES)}, {"s": thirty}, {"s": ("100755", thirty)}, WITHIN),
+        ("a mode that the new parent gave", {"s": LINES}, {"s": seven}, {"s": ("100755", LINES)}, {"s": ("100755", seven)}, WITHIN),
         ("a mode that nobody saw", {"s": LINES}, {"s": seven}, top, {"s": ("100755", seven)}, REWORK),
         ("a link", {"l": ("120000", "a")}, {"l": ("120000", "b")}, top, {"l": ("120000", "b")}, TRIVIAL),
         ("a link to elsewhere", {"l": ("120000", "a")}, {"l": ("120000", "b")}, top, {"l": ("120000", "/etc")}, REWORK),
@@ -52,20 +53,29 @@ def cases():
         ("a submodule", {"m": ("160000", ONE)}, {"m": ("160000", TWO)}, top, {"m": ("160000", TWO)}, TRIVIAL),
         ("another commit of a submodule", {"m": ("160000", ONE)}, {"m": ("160000", TWO)}, top, {"m": ("160000", THREE)}, REWORK),
         ("a submodule of both", {"m": ("160000", ONE)}, {"m": ("160000", TWO)}, {"m": ("160000", THREE)}, {"m": ("160000", TWO)}, REWORK),
-        ("line ends", crlf, {"a": edit(CRLF, 7, "seven\r\n")}, {"a": edit(CRLF, 30, "thirty\r\n")}, {"a": edit(edit(CRLF, 7, "seven\r\n"), 30, "thirty\r\n")}, TRIVIAL),
+        ("line ends", crlf, {"a": edit(CRLF, 7, "seven\r\n")}, {"a": edit(CRLF, 30, "thirty\r\n")}, {"a": edit(edit(CRLF, 7, "seven\r\n"), 30, "thirty\r\n")}, WITHIN),
         ("another line end", a, {"a": seven}, top, {"a": edit(LINES, 7, "seven\r\n")}, REWORK),
         ("line ends that the new parent gave", {**a, ".gitattributes": "* text=auto\n"}, {"a": seven}, crlf, {"a": edit(CRLF, 7, "seven\r\n")}, REWORK),
         ("no line end", a, {"a": LINES + "end"}, top, {"a": LINES + "end\n"}, REWORK),
         ("white space", a, {"a": edit(LINES, 7, "  seven\n")}, top, {"a": edit(LINES, 7, "\tseven\n")}, REWORK),
         ("a driver that the attributes name", {**a, ".gitattributes": "* merge=union\n"}, {"a": seven}, {"a": edit(LINES, 7, "SEVEN\n")}, {"a": edit(LINES, 7, "SEVEN\nseven\n")}, REWORK),
-        ("the same beside attributes", {**a, ".gitattributes": "* merge=union\n"}, {"a": seven}, {"a": thirty}, {"a": both}, TRIVIAL),
-        ("a text that the attributes call binary", {**a, ".gitattributes": "* binary\n"}, {"a": seven}, {"a": thirty}, {"a": both}, TRIVIAL),
+        ("the same beside attributes", {**a, ".gitattributes": "* merge=union\n"}, {"a": seven}, {"a": thirty}, {"a": both}, WITHIN),
+        ("a text that the attributes call binary", {**a, ".gitattributes": "* binary\n"}, {"a": seven}, {"a": thirty}, {"a": both}, WITHIN),
         ("a folder in place of a file", {"d": LINES}, {"d": None, "d/x": "x"}, top, {"d": None, "d/x": "x"}, TRIVIAL),
         ("a folder that the new parent has in place of the file", {"d": LINES}, {"d": seven}, {"d": None, "d/x": "x"}, {"d/y": "y"}, REWORK),
         ("the same edit in the new parent", a, {"a": seven}, {"a": seven}, {"a": seven}, TRIVIAL),
         ("a file that is gone", {**a, "b": "b"}, {"b": None}, {"a": thirty}, {"b": None}, TRIVIAL),
         ("a file that is gone, and that the new parent has changed", {**a, "b": "b"}, {"b": None}, {"b": "c"}, {"b": None}, REWORK),
-        ("names of other bytes", {"é ü": LINES}, {"é ü": seven}, {"é ü": thirty}, {"é ü": both}, TRIVIAL),
+        ("an honest rebase of another file", a, {"b": "b"}, {"a": thirty}, {"b": "b"}, TRIVIAL),
+        ("a file that both changed, and one that one did", {**a, "b": "b"}, {"a": seven, "b": "c"}, {"a": thirty}, {"a": both, "b": "c"}, WITHIN),
+        ("a new file of both, of the same text", a, {"n": "n"}, {"n": "n", "a": thirty}, {"n": "n", "a": thirty}, TRIVIAL),
+        ("a new file of both", a, {"n": LINES}, {"n": thirty}, {"n": thirty}, REWORK),
+        ("a hunk in a function that moved", {"f": TWICE}, {"f": OPENED}, {"f": TWICE.replace("first", "zeroth") + TWICE}, {"f": TWICE.replace("first", "zeroth") + OPENED}, WITHIN),
+        ("an edit carried into another name", {"a": LINES}, {"a": seven}, {"a": None, "sub/a": LINES}, {"a": None, "sub/a": seven}, REWORK),
+        ("a folder that both filled", {"d/a": "a"}, {"d/b": "b"}, {"d/c": "c"}, {"d/b": "b", "d/c": "c"}, TRIVIAL),
+        ("a folder that both emptied", {"d/a": "a", "d/b": "b"}, {"d/a": None}, {"d/b": None}, {"d/a": None, "d/b": None}, TRIVIAL),
+        ("a file in place of a folder that the new parent filled", {"d/a": "a"}, {"d/a": None, "d": "d"}, {"d/b": "b"}, {"d/a": None, "d/b": None, "d": "d"}, REWORK),
+        ("names of other bytes", {"é ü": LINES}, {"é ü": seven}, {"é ü": thirty}, {"é ü": both}, WITHIN),
     ]
 
 
@@ -85,30 +95,39 @@ def commit_of(world, parent, files, message):
 
 
 def rebases(world, step):
-    """Each case, pushed: the kind that is told, and whether the vote is kept. With a step only some of them are tried."""
+    """Each case, pushed: the kind that is told, and whether the vote is kept. What both sides changed is tried again where git may merge within files. With a step only some of
+    them are tried."""
     counted = 0
-    for number, (name, before, change, beside, after, kind) in list(enumerate(cases()))[::step]:
-        base, changed, other = (Commit(f"kinds {number} {word}", {}) for word in ("base", "change", "beside"))
-
-        def with_files(*parts):
-            files = {"README": "A project.\n"}
-            for part in parts:
-                files.update(part)
-            return {path: what for path, what in files.items() if what is not None}
-
-        base_name = commit_of(world, world.base, with_files(before), base.message())
-        first = commit_of(world, base_name, with_files(before, change), changed.message())
-        world.push(first)
-        found = world.patch_sets()
-        voted = next(change for change, patch_sets in found.items() if first in patch_sets.values())
-        world.vote(voted)
-        parent = commit_of(world, base_name, with_files(before, beside), other.message())
-        second = commit_of(world, parent, with_files(before, beside, after), changed.message())
-        said = world.push(second)
-        told = re.findall(rf"change {voted}, patch set 2: .* \((\w+), votes copied: (\d), outdated: (\d)\)", said)
-        check(told == [(kind, *(("1", "0") if kind == TRIVIAL else ("0", "1")))], name, kind, said)
-        counted += 1
+    for is_within in (False, True):
+        world.git("config", "desk.mergeContent", "true" if is_within else "false", folder=world.bare)
+        for number, case in list(enumerate(cases()))[is_within * (step // 2)::step]:
+            if not is_within or case[2].keys() & case[3].keys():
+                rebase(world, f"{number} {'within' * is_within}", *case[:-1], {WITHIN: TRIVIAL if is_within else REWORK}.get(case[-1], case[-1]))
+                counted += 1
+    world.git("config", "--unset", "desk.mergeContent", folder=world.bare)
     return counted
+
+
+def rebase(world, key, name, before, change, beside, after, kind):
+    base, changed, other = (Commit(f"kinds {key} {word}", {}) for word in ("base", "change", "beside"))
+
+    def with_files(*parts):
+        files = {"README": "A project.\n"}
+        for part in parts:
+            files.update(part)
+        return {path: what for path, what in files.items() if what is not None}
+
+    base_name = commit_of(world, world.base, with_files(before), base.message())
+    first = commit_of(world, base_name, with_files(before, change), changed.message())
+    world.push(first)
+    found = world.patch_sets()
+    voted = next(change for change, patch_sets in found.items() if first in patch_sets.values())
+    world.vote(voted)
+    parent = commit_of(world, base_name, with_files(before, beside), other.message())
+    second = commit_of(world, parent, with_files(before, beside, after), changed.message())
+    said = world.push(second)
+    told = re.findall(rf"change {voted}, patch set 2: .* \((\w+), votes copied: (\d), outdated: (\d)\)", said)
+    check(told == [(kind, *(("1", "0") if kind == TRIVIAL else ("0", "1")))], key, name, kind, said)
 
 
 __all__ = ["rebases"]

@@ -56,7 +56,9 @@ def stops(world):
 
 
 def over(world, branch="main"):
-    """What the repository says is passed over."""
+    """What the repository says is passed over; without a file nothing was."""
+    if not os.path.exists(os.path.join(world.bare, "desk", "passed-over", branch + ".json")):
+        return []
     with open(os.path.join(world.bare, "desk", "passed-over", branch + ".json"), encoding="utf-8") as file:
         return json.load(file)
 
@@ -69,7 +71,7 @@ def settle(world, change, *words, status=0, program=SETTLE, **more):
 
 
 def merges(world, folder, every):
-    """With `--merge-if-necessary` it makes merge commits, which are bases, and is killed at its steps. It stops where two conflict, and where a commit isn't there."""
+    """With `--merge-if-necessary` it makes merge commits, which are no bases, and is killed at its steps. Two that conflict, and one whose commit isn't there, are passed over."""
     killed, option = write_killed(FOLLOW, os.path.join(folder, "follow")), "--merge-if-necessary"
     world.git("config", "desk.page", "https://desk/page/?change=", folder=world.bare)
     for counted, at in enumerate(itertools.count(1, every)):
@@ -77,21 +79,84 @@ def merges(world, folder, every):
         (_, one), (number, two) = beside(world, begin, f"one {at}", f"two {at}")
         count = len(world.branch()["bases"])
         said = world.follow(option, status=None, program=killed, KILL_AT=str(at))
-        with open(os.path.join(world.bare, "mails"), "w", encoding="utf-8") as file:  # What is said of who reviewed is another then; a merge that was recorded stays the one.
+        with open(os.path.join(world.bare, "mails"), "w", encoding="utf-8") as file:  # What is said of who reviewed is another then.
             file.write(f"ann ann@example\nbob bob{at}@example\n")
         world.follow(option)
         parents = world.git("log", "-1", "--format=%P", "main", folder=world.bare).split()
-        check(parents == [one, two] and tip_of(world) == world.branch()["bases"][-1], at, said, parents)
-        check(len(world.branch()["bases"]) == count + 1 and world.git("log", "-1", "--format=%s", "main", folder=world.bare) == f'Merge "two {at}"', at, world.branch())
+        check(parents == [one, two], at, said, parents)
+        check(len(world.branch()["bases"]) == count and world.git("log", "-1", "--format=%s", "main", folder=world.bare) == f'Merge "two {at}"', at, world.branch())
         footers = world.git("log", "-1", "--format=%(trailers:unfold)", "main", folder=world.bare).splitlines()
         check(footers[1:] == [f"Reviewed-on: https://desk/page/?change={number}", f"Change-Id: {Commit(f'two {at}', {}).change_id}"] and footers[0].startswith("Reviewed-by: bob"), "footers", footers)
         if "steps left" in said:
             break
     os.remove(os.path.join(world.bare, "mails"))
+    on_merges(world, option)
+    by_paths(world, option)
     passes_over(world, option)
     refused_bases(world, option)
     settled(world, folder, option, every)
     return counted
+
+
+def on_merges(world, option):
+    """A change that stands on a merge stands on the change that this brought, for the desk. The branch may be moved back below merges: they come again."""
+    begin, count = tip_of(world), len(world.branch()["bases"])
+    for at in range(2):
+        beside(world, tip_of(world), f"under {at}", f"beside {at}")
+        world.follow(option)
+    merge = tip_of(world)
+    (number, commit), = beside(world, merge, "on a merge")
+    check(world.follow(option) == f"main: change {number} has merged, {commit}\n" and len(world.branch()["bases"]) == count, "on a merge", over(world), world.branch()["bases"])
+    world.git("update-ref", "refs/heads/main", begin, folder=world.bare)
+    world.follow(option)
+    tip_of(world)
+    check(world.git("merge-base", commit, "main", folder=world.bare) == commit and world.git("diff", "--name-only", commit, "main", folder=world.bare) == "", "a branch that was moved back")
+    world.git("update-ref", "refs/heads/main", merge, folder=world.bare)
+    world.follow(option)
+    check(tip_of(world) == commit, "a branch that was moved back to a merge")
+    forged = world.git("commit-tree", f"{begin}^{{tree}}", "-p", commit, "-p", merge, "-m", "Forged", folder=world.bare)
+    world.git("update-ref", "refs/heads/main", forged, folder=world.bare)
+    check("moved by hand" in world.follow(option, status=3), "a merge that follow didn't make")
+    world.git("update-ref", "refs/heads/main", commit, folder=world.bare)
+
+
+def by_paths(world, option):
+    """A path that two changes changed is a conflict, also if git could merge within it, and so is a name that differs in case alone. A rename carries no change into another path."""
+    lines = "".join(f"line {n}\n" for n in range(40))
+    base = world.commit(tip_of(world), {"file": lines, "old": lines, "mode": lines, "both": lines}, f"By paths\n\nChange-Id: {Commit('by paths', {}).change_id}\n")
+    merged(world, base)
+    world.follow(option)
+    edit = lines.replace("line 30\n", "thirty\n")
+    first, second = {"file": lines.replace("line 7\n", "seven\n"), "new/old": lines, "lower/a": "a", "both": edit}, [("file", edit), ("old", edit), ("mode", edit), ("LOWER/b", "b"), ("both", edit), ("free", "it")]
+    world.git("checkout", "-q", "--detach", base)
+    os.remove(os.path.join(world.clone, "old"))
+    os.chmod(os.path.join(world.clone, "mode"), 0o755)
+    merged(world, world.commit(None, first, f"First\n\nChange-Id: {Commit('by paths first', {}).change_id}\n"))
+    numbers = {path: merged(world, world.commit(base, {path: text}, f"{path}\n\nChange-Id: {Commit(f'by paths {path}', {}).change_id}\n")) for path, text in second}
+    world.follow(option, status=3)
+    told = {it["change"]: it["why"] for it in over(world)}
+    wanted = {"file": "file", "old": "old", "mode": "mode", "LOWER/b": "LOWER, lower"}
+    check(told == {numbers[path]: f"it conflicts with the branch in {where}" for path, where in wanted.items()}, "by paths", told, numbers)
+    tree = [line.split("\t")[1] for line in world.git("ls-tree", "-r", "main", folder=world.bare).splitlines()]
+    check("free" in tree and "old" not in tree and not any(it.startswith("LOWER") for it in tree), "what came", tree)
+    world.git("config", "desk.mergeContent", "true", folder=world.bare)
+    world.follow(option, status=3)
+    world.git("config", "--unset", "desk.mergeContent", folder=world.bare)
+    check([it["change"] for it in over(world)] == [numbers["old"], numbers["LOWER/b"]], "within files", over(world))
+    text = world.git("show", "main:file", folder=world.bare)
+    check("seven" in text and "thirty" in text and world.git("ls-tree", "main", "mode", folder=world.bare).startswith("100755"), "within files", text)
+    for path in ("old", "LOWER/b"):
+        settle(world, numbers[path])
+    check(world.follow(option) == "" and over(world) == [], "settled", over(world))
+
+
+def merged(world, commit):
+    """Has a commit pushed, approved and submitted: the number of its change."""
+    world.push(commit)
+    number = max(world.patch_sets())
+    world.vote(number)
+    world.must("POST", path_of("changes", number, "submit"), account=2)
+    return number
 
 
 def passes_over(world, option):
@@ -105,10 +170,10 @@ def passes_over(world, option):
     for change in on_south:
         world.vote(change)
     world.must("POST", path_of("changes", on_south[1], "submit"), account=2, told={"joined": on_south})
-    elsewhere = made_at_the_desk(world, "a" * 40, base)
+    elsewhere = made_at_the_desk(world, "a" * 40, world.base)
     forged_commit = world.commit(base, {"evil": "evil"}, "Not reviewed\n")
     world.git("fetch", "-q", world.clone, forged_commit, folder=world.bare)
-    forged = made_at_the_desk(world, forged_commit, base)
+    forged = made_at_the_desk(world, forged_commit, world.base)
     on_forged_commit = world.commit(forged_commit, {"good": "good"}, f"On it\n\nChange-Id: {Commit('on forged', {}).change_id}\n")
     world.git("fetch", "-q", world.clone, on_forged_commit, folder=world.bare)
     on_forged = made_at_the_desk(world, on_forged_commit, forged_commit)
@@ -153,14 +218,19 @@ def made_at_the_desk(world, commit, parent):
 
 
 def refused_bases(world, option):
-    """A base that the desk refuses is asked for anew each time, so that it is taken once the account may."""
+    """The follower needs no administrator's account. `settle` does: a base that the desk refuses is asked for anew each time, so that it is taken once the account may."""
     begin = tip_of(world)
-    beside(world, begin, "one refused", "two refused")
     world.git("config", "desk.account", "2", folder=world.bare)
+    beside(world, begin, "one refused", "two refused")
+    check("has merged" in world.follow(option), "an account without rights")
+    (_, one), (two, _) = beside(world, tip_of(world), "left refused", "right refused", content="refused")
+    world.follow(option, status=3)
+    merge = world.git("commit-tree", f"{one}^{{tree}}", "-p", one, "-m", "By hand", folder=world.bare)
     for _ in range(2):
-        check("the desk says NOT_ADMIN" in world.follow(option, status=3), "an account that may not")
+        check("the desk says NOT_ADMIN" in settle(world, two, merge, status=1), "an account that may not")
     world.must("PUT", path_of("groups", "Administrators"), {"members": [1, 2]}, told={})
-    check("has merged" in world.follow(option) and tip_of(world) == world.branch()["bases"][-1], "an account that may, since")
+    settle(world, two, merge)
+    check(world.follow(option) == "" and tip_of(world) == world.branch()["bases"][-1] == merge, "an account that may, since")
     world.must("PUT", path_of("groups", "Administrators"), {"members": [1]}, told={})
     world.git("config", "desk.account", "1", folder=world.bare)
 

@@ -15,7 +15,7 @@ import retry  # noqa: E402
 from retry import Desk, new_id, path_of  # noqa: E402
 
 EXAMPLE = os.path.join(TOP, "examples", "git")
-HOOK, FOLLOW, SETTLE = (os.path.join(EXAMPLE, name) for name in ("proc-receive", "follow", "settle"))
+HOOK, FOLLOW, SETTLE, NOTE_CHANGES = (os.path.join(EXAMPLE, name) for name in ("proc-receive", "follow", "settle", "note-changes"))
 PROJECT = """[access]
 create = ["Core"]
 submit = ["Core"]
@@ -162,6 +162,12 @@ class World:
         words = [program, "--once", *(it for it in words if it.startswith("-")), self.bare, *branches]
         ran = subprocess.run(words, env={**self.environment("bob"), **more}, stdout=subprocess.PIPE, stderr=subprocess.STDOUT, text=True, check=False)
         check(status is None or ran.returncode == status, words, ran.returncode, ran.stdout)
+        return ran.stdout
+
+    def note_changes(self):
+        """Makes the hook's notes anew: what is said."""
+        ran = subprocess.run([NOTE_CHANGES, self.bare], env=self.environment("bob"), stdout=subprocess.PIPE, stderr=subprocess.STDOUT, text=True, check=False)
+        check(ran.returncode == 0, ran.returncode, ran.stdout)
         return ran.stdout
 
     def patch_sets(self):

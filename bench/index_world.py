@@ -104,6 +104,8 @@ class Indexed(Proxied):
 
     def proxy(self):
         user = " user www-data;" if os.geteuid() == 0 else ""
+        with contextlib.suppress(FileNotFoundError):
+            os.remove(os.path.join(self.folder, "asked.socket"))  # of one that was killed
         self.nginx = subprocess.Popen(["nginx", "-p", self.folder, "-c", "nginx.conf", "-g", f"daemon off;{user}"], stderr=subprocess.DEVNULL)
         self.wait()
 

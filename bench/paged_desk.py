@@ -72,7 +72,8 @@ class Paged(Proxied):
         super().set_up(accounts)
         for name in os.listdir(os.path.join(self.folder, "page")):
             os.chmod(os.path.join(self.folder, "page", name), 0o644)
-        for place, part, name in (("more.d", "code", "code.conf"), ("more.d", "index", "index.conf"), ("http.d", "index", "around.conf")):
+        for place, part, name in (("more.d", "code", "code.conf"), ("more.d", "index", "index.conf"), ("http.d", "index", "around.conf"), ("asked.d", "team", "asked.conf"),
+                                  ("http.d", "team", "around_asked.conf")):
             os.makedirs(os.path.join(self.folder, place), exist_ok=True)
             write(read(EXAMPLES, part, name).replace("FOLDER", self.folder), self.folder, place, name)
         write(json.dumps({"desk_port": self.desk_port, "project": "tools"}), self.folder, "settings.json")

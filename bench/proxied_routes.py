@@ -8,6 +8,7 @@ import subprocess
 import tempfile
 import time
 
+from desk_file import check
 from desk_proxied import EXAMPLES, TOP, Proxied, read, write
 
 USERS = {f"user{number}": "pear" for number in range(12)}  # all are account 2: so many requests are too many of one name
@@ -39,6 +40,11 @@ class Compared(Proxied):
 
     def set_up(self, accounts):
         super().set_up(accounts)
+        conf = read(self.folder, "nginx.conf")  # All of these are one account, which asks more in a minute than a user does in a day.
+        for usual, more in (("burst=120", "burst=12000"), ("burst=60 ", "burst=12000 ")):
+            check(usual in conf, "no limit", usual)
+            conf = conf.replace(usual, more)
+        write(conf, self.folder, "nginx.conf")
         write("".join(f"{name}:{{PLAIN}}{word}\n" for name, word in self.passwords.items()), self.folder, "users")  # which are looked at faster
 
     def add_index(self):

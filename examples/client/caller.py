@@ -14,8 +14,10 @@ from urllib3.util import Retry
 class Caller(AuthBase):
     """Who asks: an account, straight at the desk, or a user with a password, at the proxy before it."""
 
-    def __init__(self, account=None, user=None, password=None):
+    def __init__(self, account=None, user=None, password=None, epoch=None):
+        """`epoch` is a call that tells the present epoch, as `retry.this_day` does for a team's desk; without it each request is in epoch 0."""
         self.id, self.basic, self.account = None, HTTPBasicAuth(user, password) if user else None, account
+        self.present, self.epoch = epoch, None
 
     def __call__(self, request):
         if self.basic:
@@ -23,15 +25,19 @@ class Caller(AuthBase):
         else:
             request.headers["X-Account"] = str(self.account)
         if request.method != "GET":
+            if self.epoch is None and self.present:
+                self.epoch = self.present()
             self.id = self.id or secrets.token_hex(16)
             request.headers["Request-Id"] = self.id
+            if self.epoch is not None:
+                request.headers["Request-Epoch"] = str(self.epoch)
             request.register_hook("response", self.answered)
         return request
 
     def answered(self, response, **_):
-        """After an answer of the desk the next command gets an id of its own. A refusal is one; 503 is none, nor is a text without its second line's end."""
-        if response.status_code != 503 and response.content.startswith(b")]}'\n") and response.content.count(b"\n") == 2:
-            self.id = None
+        """After an answer of the desk the next command gets an id of its own. A refusal is one; 429 and 503 are none, nor is a text without its second line's end."""
+        if response.status_code not in (429, 503) and response.content.startswith(b")]}'\n") and response.content.count(b"\n") == 2:
+            self.id = self.epoch = None
 
 
 def client_for(url, caller, certificate=True):
@@ -43,6 +49,6 @@ def client_for(url, caller, certificate=True):
     client = GerritRestAPI(url, verify=certificate)
     client.session.auth = caller
     client.session.trust_env = False
-    again = Retry(total=8, backoff_factor=0.1, status_forcelist=(500, 502, 503, 504), allowed_methods=None)
+    again = Retry(total=8, backoff_factor=0.1, status_forcelist=(429, 500, 502, 503, 504), allowed_methods=None)
     client.session.mount(url, HTTPAdapter(max_retries=again))
     return client

@@ -38,12 +38,22 @@ class NotOfTheDesk(Exception):
 
 
 class Lost(Exception):
-    """One sending brought no answer of the desk."""
+    """One sending brought no answer of the desk. It may say in how many seconds to send again."""
+
+    def __init__(self, why: object, seconds: float = 0) -> None:
+        super().__init__(why)
+        self.seconds = seconds
 
 
 def new_id():
     """An id for a new request. Nobody else draws the same."""
     return secrets.token_hex(16)
+
+
+def this_day() -> int:
+    """The epoch of a team's requests: the day in UTC, as 20261201. A request keeps the one that it was made in, however often it is sent. It is the day of ten minutes ago, so that
+    a clock that is ahead by less makes no request of tomorrow, which the proxy would turn away."""
+    return int(time.strftime("%Y%m%d", time.gmtime(time.time() - 600)))
 
 
 def path_of(*segments):
@@ -73,9 +83,10 @@ class Desk:
             except ssl.SSLCertVerificationError as error:
                 raise NotOfTheDesk(error) from error
             except (OSError, http.client.HTTPException, Lost) as error:
-                if time.monotonic() + pause > end:
+                least = getattr(error, "seconds", 0)
+                if time.monotonic() + max(pause, least) > end:
                     raise NoAnswer(f"no answer from {self.url.geturl()}: {error}") from error
-            time.sleep(pause * random.uniform(0.5, 1))
+            time.sleep(least + pause * random.uniform(0.5, 1))
             pause = min(2 * pause, LONGEST_PAUSE)
 
     def send(self, method, path, text, fields, seconds):
@@ -93,10 +104,11 @@ class Desk:
         finally:
             peer.close()
         is_of_the_desk = told.startswith(b")]}'\n")
-        if is_of_the_desk and answer.status != 503:
+        if is_of_the_desk and answer.status not in (429, 503):
             return answer.status, json.loads(told[5:])
         if is_of_the_desk or answer.status >= 500 or answer.status in (408, 429):
-            raise Lost(f"{answer.status} {answer.reason} {told[5:].decode().strip() if is_of_the_desk else ''}".strip())
+            again = answer.headers.get("Retry-After", "")
+            raise Lost(f"{answer.status} {answer.reason} {told[5:].decode().strip() if is_of_the_desk else ''}".strip(), int(again) if again.isdecimal() else 0)
         raise NotOfTheDesk(f"{answer.status} {answer.reason} from what stands before the desk")
 
 

@@ -3,23 +3,29 @@
 A commit is taken from refs/changes/NN/CHANGE/PATCHSET, so who asks says numbers and nothing else. Nothing that a user wrote becomes an option, a pattern or a program of git's:
 paths stand behind `--` and are taken by the letter, and no driver that the pushed code's attributes name is run.
 """
+import collections
 import contextlib
 import datetime
 import json
+import math
 import os
 import re
+import signal
 import subprocess
 import tempfile
 import threading
+import time
 import urllib.parse
 
 MOST_BYTES, MOST_SECONDS, MOST_WORDS = 2_000_000, 20, 1_000_000
-BOUNDS = ("prlimit", f"--as={2 << 30}")  # of git's memory: files that look alike are read whole, to tell which was renamed
+# Of git: its memory, with what it maps of packs and without that, and its seconds of a processor. Files that look alike are read whole, to tell which was renamed.
+BOUNDS = ("prlimit", f"--as={2 << 30}", f"--data={512 << 20}", "--cpu=15")
+REMEMBERED, REMEMBERED_SECONDS = 1000, 600  # pairs of commits whose difference took too long, and for how long that is remembered
 EMPTY_TREE = "4b825dc642cb6eb9a060e54bf8d69288fbee4904"
 FORMAT = "%x00".join(("%H", "%P", "%an", "%ae", "%ad", "%cn", "%ce", "%cd", "%s", "%B"))
 QUIET = ("--no-color", "--no-ext-diff", "--no-textconv", "--submodule=short")
 SETTINGS = {"safe.directory": "*", "core.quotePath": "true", "core.attributesFile": os.devnull, "diff.renameLimit": "1000",
-            "core.bigFileThreshold": "16m", "core.packedGitWindowSize": "64m", "core.packedGitLimit": "512m"}
+            "core.bigFileThreshold": "8m", "attr.tree": EMPTY_TREE, "core.packedGitWindowSize": "64m", "core.packedGitLimit": "512m"}
 
 
 def environment():
@@ -54,11 +60,28 @@ def moment(raw):
     return {"date": date, "tz": int(found[1] + "1") * (60 * int(found[2]) + int(found[3])) if found else 0}
 
 
+def head_of(quoted: bytes) -> bytes:
+    """The first line of a file in git's text, by the file's name as git quotes it."""
+    first, second = (b'"%s/%s' % (side, quoted[1:]) if quoted.startswith(b'"') else b"%s/%s" % (side, quoted) for side in (b"a", b"b"))
+    return b"diff --git %s %s" % (first, second)
+
+
+def with_notes(text: bytes, notes: dict[bytes, str]) -> bytes:
+    """git's text with notes below the heads of files. A file that isn't in it gets a head of its own at the end."""
+    lines, left = [], dict(notes)
+    for line in text.split(b"\n") if notes else ():
+        lines.append(line)
+        if note := left.pop(line, None):
+            lines.append(note.encode())
+    return (b"\n".join(lines) if notes else text) + b"".join(b"%s\n%s\n" % (head, note.encode()) for head, note in left.items())
+
+
 class PatchSets:
     """Those of a bare repository that the hook of examples/git writes to."""
 
     def __init__(self, repository):
         self.repository = repository
+        self.too_much: collections.OrderedDict[tuple[str, str], tuple[float, NotShown]] = collections.OrderedDict()
 
     def git(self, *words, sent=None):
         """What a command of git prints. It is ended where it takes too long or prints too much."""
@@ -78,11 +101,27 @@ class PatchSets:
             if len(told) > MOST_BYTES:
                 raise NotShown(409, "TOO_LARGE")
             status = running.wait()
-        if late.is_set():
+        if late.is_set() or status in (-signal.SIGXCPU, -signal.SIGKILL):
             raise NotShown(503, "TOO_SLOW")
         if status:
             raise NotShown(404, "NO_COMMIT")
         return told
+
+    def compared(self, old, new, how, *paths):
+        """What `git diff-tree` prints of two commits. If that took too long, or too much memory, it is told again for a while without another try."""
+        when, why = self.too_much.get((old, new), (-math.inf, None))
+        if why and time.monotonic() - when < REMEMBERED_SECONDS:
+            raise why
+        try:
+            return self.git("diff-tree", "-r", *how, *QUIET, "--end-of-options", old, new, "--", *paths)
+        except NotShown as error:
+            # Both commits are here, so git failed for want of memory.
+            why = NotShown(409, "TOO_LARGE") if error.word == "NO_COMMIT" else error
+            if error.word in ("NO_COMMIT", "TOO_SLOW"):
+                self.too_much[old, new] = (time.monotonic(), why)
+                while len(self.too_much) > REMEMBERED:
+                    self.too_much.popitem(last=False)
+            raise why from error
 
     def of(self, change):
         """The commits of a change's patch sets, by number, as far as git has them."""
@@ -124,7 +163,7 @@ class PatchSets:
 
     def files(self, old, new):
         """The files that differ: paths, Gerrit's letter for what became of each, lines come and gone, and how many bytes more there are."""
-        told = self.git("diff-tree", "-r", "-z", "-M", "--raw", "--numstat", "--no-abbrev", *QUIET, "--end-of-options", old, new, "--").split(b"\0")
+        told = self.compared(old, new, ("-z", "-M", "--raw", "--numstat", "--no-abbrev")).split(b"\0")
         found, blobs, at = [], [], 0
         while at < len(told) and told[at].startswith(b":"):
             old_mode, new_mode, was, is_now, letter = told[at].decode()[1:].split(" ")
@@ -142,22 +181,38 @@ class PatchSets:
             file["size_delta"] = is_now - was
         return found
 
-    def paths(self, old, new):
-        told = self.git("diff-tree", "-r", "-z", "--name-only", "--no-renames", "--end-of-options", old, new, "--")
+    def paths(self, old, new, *among):
+        """The paths in which two commits differ, of all or among some."""
+        told = self.git("diff-tree", "-r", "-z", "--name-only", "--no-renames", "--end-of-options", old, new, "--", *among)
         return [path for path in told.decode(errors="surrogateescape").split("\0") if path]
 
     def difference(self, change, patch_set, base, context):
         """git's own text of what a patch set changes, beside its parent or beside another patch set: there only the paths count that one of the two touches, as in Gerrit."""
-        new = self.name(change, patch_set)
-        words = []
+        new, paths, notes = self.name(change, patch_set), [], {}
         old = self.name(change, base) if base else self.parent(new)
         if base:
-            words = sorted({path for name in (old, new) for path in self.paths(self.parent(name), name)})
-            if not words:
+            parents = [self.parent(name) for name in (old, new)]
+            touched = self.paths(parents[1], new)
+            paths = sorted({*self.paths(parents[0], old), *touched})
+            if not paths:
                 return b""
-            if sum(len(os.fsencode(word)) + 1 for word in words) > MOST_WORDS:
+            if sum(len(os.fsencode(path)) + 1 for path in paths) > MOST_WORDS:
                 raise NotShown(409, "TOO_LARGE")
-        return self.git("diff-tree", "-r", "-p", "-M", "--full-index", *QUIET, "--src-prefix=a/", "--dst-prefix=b/", f"-U{context}", "--end-of-options", old, new, "--", *words)
+            notes = self.notes(parents, (old, new), touched, (base, patch_set))
+        how = ("-p", "-M", "--full-index", "--src-prefix=a/", "--dst-prefix=b/", f"-U{context}")
+        return with_notes(self.compared(old, new, how, *paths), notes)
+
+    def notes(self, parents, commits, touched, numbers):
+        """What a comparison of two patch sets doesn't show of the paths that the newer one changes: where the branch has changed them in between. By the heads of files in git's text."""
+        moved = touched and parents[0] != parents[1] and self.paths(*parents, *touched)
+        if not moved:
+            return {}
+        first, second = sorted(numbers)
+        differ = set(self.paths(*commits, *moved))
+        quoted = self.git("diff-tree", "-r", "--name-only", "--no-renames", "--end-of-options", *parents, "--", *moved).splitlines()
+        return {head_of(name): f"note: the branch has changed this file between patch sets {first} and {second}, so both changes are shown" if path in differ
+                else f"note: patch set {second} takes back what the branch has changed here since patch set {first}: compare it with its parent"
+                for name, path in zip(quoted, moved)}
 
     def passed_over(self, branch):
         """The merged changes that `follow` has left out of a branch in git, each with its commit and why."""

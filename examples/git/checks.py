@@ -3,13 +3,14 @@ import os
 import pwd
 import re
 
-from paths import TooLarge, paths_of
-from repository import commits, git, setting, tip_of
+from paths import LooksAlike, TooLarge, paths_of
+from repository import Commit, Piped, commits, git, setting, tip_of
 
 MOST_COMMITS, MOST_PATHS, MOST_BYTES, MOST_SAID = 100, 500, 512, 65_536
 CHANGE_ID, CONTROL, NO_UTF_8 = re.compile(r"I[0-9a-f]{40}"), re.compile(r"[\x00-\x1f\x7f]"), re.compile(r"[\ud800-\udfff]")
 # Encodings in which ASCII is itself: in another one a byte of a name or a message may be a line's end, or the end of all, for git and not for other programs.
 ENCODINGS = re.compile(r"(UTF-?8|(US-)?ASCII|ISO[-_]?8859[-_]\d+|LATIN-?\d+|(CP|WINDOWS-)125\d|KOI8-[RU]|EUC-(JP|KR|TW|CN)|GB(K|2312|18030)|BIG5|S(HIFT)?[-_]?JIS)?", re.I)
+ONCE = (b"tree", b"author", b"committer", b"encoding", b"gpgsig")  # what stands in a commit's head once
 FOOTERS = "put the hook commit-msg into .git/hooks of your clone, then git commit --amend, or for a commit further down git rebase -i with reword"
 
 
@@ -93,23 +94,52 @@ def check(commit):
         paths = paths_of(commit, git("rev-parse", f"{commit.parents[0]}^{{tree}}").strip(), MOST_PATHS, MOST_BYTES)
     except TooLarge as error:
         raise Refused(f"{where(commit)} changes {error}", f"the desk takes {MOST_PATHS} paths of {MOST_BYTES} bytes: make several changes of it") from error
+    except LooksAlike as error:
+        path, other = error.args
+        raise Refused(f"{where(commit)} adds {path} beside {other}, which differs in case alone",
+                      "where upper and lower case aren't told apart one is written over the other: give it another name") from error
     if any(CONTROL.search(path) or NO_UTF_8.search(path) for path in paths):
         raise Refused(f"{where(commit)} has a path that the desk doesn't take", f"it takes UTF-8 of at most {MOST_BYTES} bytes without control characters")
     return paths
 
 
-def check_sizes(names):
-    """Refuses commits that say too much, before one of them is read: the messages of all patch sets are read where a footer is looked for."""
+def check_heads(names: str) -> None:
+    """Refuses commits that say too much, or one thing twice, before one of them is looked at: of two committers git tells the last one, and other programs the first one."""
     for name, size in zip(names.split(), git("cat-file", "--batch-check=%(objectsize)", sent=names).split()):
         if int(size) > MOST_SAID:
             raise Refused(f"commit {name[:10]} has more than {MOST_SAID >> 10} KiB, without its files", "shorten its message")
+    with Piped("cat-file", "--batch") as reading:
+        for name in names.split():
+            size = int(reading.line(name.encode() + b"\n").split()[2])
+            head = reading.told.read(size + 1).partition(b"\n\n")[0]
+            words = [line.partition(b" ")[0] for line in head.split(b"\n")]
+            for word in ONCE:
+                if words.count(word) > 1:
+                    raise Refused(f"commit {name[:10]} has more than one line {word.decode()}", "git commit --amend --no-edit makes it anew")
+
+
+LOOKED: dict[tuple[str, str, str], "list[tuple[Commit, list[str]]] | Refused"] = {}  # what was found in this push
 
 
 def pushed(tip, branch, user):
-    """The commits that a user pushes and that the branch doesn't have, parents first, each with its paths, where the desk can take each of them."""
+    """The commits that a user pushes and that the branch doesn't have, parents first, each with its paths, if the desk can take each of them. They are looked at once, however
+    many refs of a push ask for them."""
+    asked = (tip, branch, user)
+    if asked not in LOOKED:
+        try:
+            LOOKED[asked] = look_at(*asked)
+        except Refused as refused:
+            LOOKED[asked] = refused
+    found = LOOKED[asked]
+    if isinstance(found, Refused):
+        raise found
+    return found
+
+
+def look_at(tip, branch, user):
     if not tip_of(branch):
         raise Refused(f"the repository has no branch {branch}")
-    check_sizes(git("rev-list", f"--max-count={MOST_COMMITS + 1}", tip, "--not", f"refs/heads/{branch}", "--"))
+    check_heads(git("rev-list", f"--max-count={MOST_COMMITS + 1}", tip, "--not", f"refs/heads/{branch}", "--"))
     found = list(commits(f"--max-count={MOST_COMMITS + 1}", tip, "--not", f"refs/heads/{branch}", "--"))
     if not found:
         raise Refused(f"{branch} has these commits already")

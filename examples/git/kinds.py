@@ -1,99 +1,83 @@
-"""What a patch set changes of the one before it, by Gerrit's names and by Gerrit's rule. A module.
+"""What a patch set changes of the one before it, by Gerrit's names. A module.
 
-A rebase is trivial where git, given the old patch set and the new parent alone, makes the new tree of them byte for byte: the old parent is the base, the new parent one side,
-the old commit the other. So a vote that is kept was given for what this merge makes of it, and for no byte else. The merge goes path by path, as Gerrit's does: a file that
-one side has renamed isn't found under its other name, and attributes of the files have no say (repository.py). Whatever it can't do is REWORK.
+A rebase is trivial if the new tree is, byte for byte, what a merge makes of the old patch set and the new parent, with
+the old parent as the base. The merge goes path by path (merging.py). So each path is as the old patch set or as the new
+parent has it, and a vote that is kept was given for what stands at each path that the change touches. Whatever can't be
+merged so is REWORK.
+
+The author's name and address count like the message: another author is another commit.
 """
 import os
 import shutil
 import time
 
-from repository import Conflicts, GitFailed, commits, git, has, merged_tree, ran
+from merging import Conflicts, merged_tree
+from repository import Commit, GitFailed, commits, git, has, ran
 
-REGULAR, SCRATCH = ("100644", "100755"), "desk/scratch"
-FILE_SECONDS, ALL_SECONDS = 5, 10  # how long one patch set's merge may take, and those of a push, which others wait for
-PERSON = {f"GIT_{role}_{part}": value for role in ("AUTHOR", "COMMITTER") for part, value in (("NAME", "hook"), ("EMAIL", "hook@localhost"), ("DATE", "@1 +0000"))}
+SCRATCH = "desk/scratch"
+FILE_SECONDS, ALL_SECONDS = 5, 10  # of git's for merging within files; of all merges of a push, which others wait for
 SPENT = [0.0]  # seconds so far, in this push
 
 
-class NotMerged(Exception):
-    """Git can't merge this by itself."""
+def rebased_tree(before: Commit, parent: str) -> str | None:
+    """The tree of a patch set's commit once it is rebased onto a parent, or None if that takes a person.
 
-
-def merged_exactly(base, ours, theirs):
-    """The tree of three trees, path by path, or NotMerged. Nothing of it stays in the repository: what is made lies in a folder that goes. One hook at a time does this."""
-    if SPENT[0] > ALL_SECONDS:
-        raise NotMerged
-    shutil.rmtree(SCRATCH, ignore_errors=True)
+    Nothing of it stays in the repository: what is made lies in a folder that is removed. One hook at a time does this.
+    """
+    if SPENT[0] > ALL_SECONDS or len(before.parents) != 1:
+        return None
+    clean()
     os.makedirs(os.path.join(SCRATCH, "objects"))
+    here = os.path.abspath(git("rev-parse", "--git-path", "objects").rstrip("\n"))
+    own = {"GIT_OBJECT_DIRECTORY": os.path.abspath(os.path.join(SCRATCH, "objects")), "GIT_ALTERNATE_OBJECT_DIRECTORIES": here}
     begun = time.monotonic()
     try:
-        return merged_in(os.path.abspath(SCRATCH), base, ours, theirs)
+        return merged_tree(parent, before.name, before.parents[0], own, FILE_SECONDS)
+    except (Conflicts, GitFailed):
+        return None
     finally:
         SPENT[0] += time.monotonic() - begun
-        shutil.rmtree(SCRATCH, ignore_errors=True)
+        clean()
 
 
-def merged_in(folder, base, ours, theirs):
-    here = os.path.abspath(git("rev-parse", "--git-path", "objects").rstrip("\n"))
-    own = {**PERSON, "GIT_INDEX_FILE": os.path.join(folder, "index"), "GIT_OBJECT_DIRECTORY": os.path.join(folder, "objects"), "GIT_ALTERNATE_OBJECT_DIRECTORIES": here}
-    git("read-tree", "-i", "-m", "--aggressive", base, ours, theirs, environment=own)
-    stages, merged = {}, {}
-    for entry in ran("ls-files", "-u", "-z", environment=own).stdout.split(b"\0")[:-1]:
-        about, path = entry.split(b"\t", 1)
-        mode, blob, stage = about.decode().split(" ")
-        stages.setdefault(path, {})[int(stage)] = (mode, blob)
-    for path, found in list(stages.items()):
-        of_base, of_ours, of_theirs = (found.get(stage) for stage in (1, 2, 3))
-        if of_base == of_ours or of_ours == of_theirs:
-            merged[path] = of_theirs
-        elif of_base == of_theirs:
-            merged[path] = of_ours
-        elif len(found) < 3 or any(mode not in REGULAR for mode, _ in found.values()):
-            raise NotMerged
-    merged.update(merged_files({path: found for path, found in stages.items() if path not in merged}, own))
-    if stages:
-        write_index({path: None for path in stages}, own)
-        write_index({path: entry for path, entry in merged.items() if entry}, own)
-    return git("write-tree", environment=own).strip()
+def clean() -> None:
+    shutil.rmtree(SCRATCH, ignore_errors=True)
 
 
-def write_index(entries, own):
-    """Puts entries, of modes and blobs, into the index, or takes paths out of it."""
-    lines = (b"%s %s\t%s\0" % (*(word.encode() for word in entry or ("0", "0" * 40)), path) for path, entry in entries.items())
-    ran("update-index", "-z", "--index-info", sent=b"".join(lines), environment=own)
+def kind_of(commit: Commit, name_before: str) -> str:
+    """The change kind of a patch set beside the one before.
 
-
-def merged_files(stages, own):
-    """The modes and blobs of files that both sides changed. They are merged as trees of these files alone: all have them, so git looks for no new names."""
-    if not stages:
-        return {}
-    sides = []
-    for stage in (1, 2, 3):
-        aside = {**own, "GIT_INDEX_FILE": f"{own['GIT_INDEX_FILE']}.{stage}"}
-        write_index({path: found[stage] for path, found in stages.items()}, aside)
-        parent = ("-p", sides[0]) if sides else ()
-        sides.append(git("commit-tree", git("write-tree", environment=aside).strip(), *parent, "-m", "side", environment=own).strip())
-    try:
-        tree = merged_tree(sides[1], sides[2], own, FILE_SECONDS)
-    except Conflicts as error:
-        raise NotMerged from error
-    entries = (entry.split(b"\t", 1) for entry in ran("ls-tree", "-r", "-z", tree, environment=own).stdout.split(b"\0")[:-1])
-    return {path: (about.decode().split(" ")[0], about.decode().split(" ")[2]) for about, path in entries}
-
-
-def kind_of(commit, name_before):
-    """The change kind of a patch set beside the one before. Both have one parent each: the hook takes no others, so MERGE_FIRST_PARENT_UPDATE never comes of it."""
+    Both have one parent each: the hook takes no others, so MERGE_FIRST_PARENT_UPDATE never comes of it.
+    """
     if not has(name_before):
         return "REWORK"  # It never came here, so it can't be compared.
     before = next(commits("--no-walk", name_before))
-    has_message, has_parent = before.message == commit.message, before.parents == commit.parents
-    if has_parent:
-        return "REWORK" if before.tree != commit.tree else "NO_CHANGE" if has_message else "NO_CODE_CHANGE"
-    if len(before.parents) != 1:
+    says_the_same = (before.message, before.author) == (commit.message, commit.author)
+    if before.parents == commit.parents:
+        return "REWORK" if before.tree != commit.tree else "NO_CHANGE" if says_the_same else "NO_CODE_CHANGE"
+    if rebased_tree(before, commit.parents[0]) != commit.tree:
         return "REWORK"
-    try:
-        is_rebase = merged_exactly(before.parents[0], commit.parents[0], name_before) == commit.tree
-    except (NotMerged, GitFailed):
-        is_rebase = False
-    return ("TRIVIAL_REBASE" if has_message else "TRIVIAL_REBASE_WITH_MESSAGE_UPDATE") if is_rebase else "REWORK"
+    return "TRIVIAL_REBASE" if says_the_same else "TRIVIAL_REBASE_WITH_MESSAGE_UPDATE"
+
+
+def taken_back(commit: Commit, name_before: str, paths: list[str]) -> list[str]:
+    """Of the paths that a patch set changes those in which it takes back what its new parent has got meanwhile.
+
+    In these the parents of both patch sets differ, and the new patch set has what the old one or its parent had. So a
+    comparison of both patch sets doesn't show that anything was taken back.
+    """
+    if not paths or not has(name_before):
+        return []
+    before = next(commits("--no-walk", name_before))
+    if before.parents == commit.parents or len(before.parents) != 1:
+        return []
+    old, new = before.parents[0], commit.parents[0]
+    moved, from_before, from_old = (differing(*pair, paths) for pair in ((old, new), (name_before, commit.name), (old, commit.name)))
+    return [path for path in paths if path in moved and not (path in from_before and path in from_old)]
+
+
+def differing(one: str, other: str, paths: list[str]) -> set[str]:
+    """Of some paths those in which two commits differ."""
+    words = ["--literal-pathspecs", "diff-tree", "-r", "-z", "--name-only", "--no-renames", "--end-of-options", one, other, "--"]
+    told = ran(*words, *paths).stdout.decode(errors="surrogateescape")
+    return set(told.split("\0")) & set(paths)

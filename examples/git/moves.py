@@ -1,20 +1,51 @@
 """How a branch moves to what has merged in the desk: the rule of `follow`, which the gate before a submit foresees as well. A module.
 
 Nobody merges what nobody reviewed: with a commit come all its ancestors that the branch doesn't have, so each of these has to be that of a change which has joined, and stand at
-refs/changes/NN/CHANGE/PATCHSET of that very change, where only the hook puts it; or be a base, which an administrator recorded, with what the base stands on. A merged change
-for which that isn't so, or that git can't merge, is passed over, and with it what would bring it along. All others go on, in the desk's order.
+refs/changes/NN/CHANGE/PATCHSET of that very change, where only the hook puts it; or be a base, which an administrator recorded, with what the base stands on; or be a merge
+that has at each path what one of its two parents has, as `follow` makes it (merging.py). A merged change for which that isn't so, or that git can't merge, is passed over, and
+with it what would bring it along. All others go on, in the desk's order.
+
+A merge that `follow` makes isn't recorded as a base, since a desk takes so many bases and no more. It is known by who made it and by the merged commit that it brought; and a
+change that stands on it is one on that commit, for the desk.
 """
 import functools
 import re
+from typing import Any
 
-from repository import Conflicts, GitFailed, TooLong, file_of, git, is_ahead, merged_tree, noted_in, ref_of, write_whole
+from merging import Conflicts, may_merge_content, merged_tree
+from repository import GitFailed, Piped, TooLong, commits, desk_for, file_of, git, is_ahead, noted_in, ref_of
 from retry import path_of
 
 MOST_PATHS_TOLD = 10
+FOLLOWER = "follow <follow@localhost>"  # who makes the merges
 
 
-class NotRecorded(Exception):
-    """Why the desk doesn't take a base."""
+def is_known(tip: str, told: dict[str, Any]) -> bool:
+    """Whether the desk has what a branch is at: a base, a merged commit, or merges that `follow` made of merged commits upon one of these."""
+    joined = {it["commit"] for it in told["joined"]}
+    known = joined | set(told["bases"])
+    with Piped("log", "--first-parent", "--no-show-signature", "--no-mailmap", "--format=%H %P%x09%cn <%ce>", tip, "--") as log:
+        for line in log.told:
+            names, _, committer = line.decode(errors="replace").rstrip("\n").partition("\t")
+            name, *parents = names.split()
+            if name in known:
+                return True
+            if committer != FOLLOWER or len(parents) != 2 or parents[1] not in joined:
+                return False
+    return False
+
+
+def parent_at_the_desk(project: str, branch: str, parent: str, account: int) -> str:
+    """The commit that the desk is told as the parent of a patch set: of a merge that `follow` made, and that is no base, the merged commit that it brought."""
+    it = next(commits("--no-walk", parent))
+    if len(it.parents) != 2 or it.committer != FOLLOWER or parent in bases_of(project, branch, account):
+        return parent
+    return it.parents[1]
+
+
+@functools.cache
+def bases_of(project: str, branch: str, account: int) -> tuple[str, ...]:
+    return tuple(desk_for(account).ask("GET", branch_path(project, branch))[1].get("bases", ()))
 
 
 class Graph:
@@ -32,8 +63,8 @@ class Graph:
         self.came, refs = set(), self.refs()
         is_pushed = {it["commit"] for it in self.missing if (it["change"], it["commit"]) in refs and it["change"] not in self.settled}
         self.taken = is_pushed | self.below(*bases)
+        self.taken |= {name for name, parents in self.parents.items() if len(parents) == 2 and name not in self.taken and is_merge_of(name, *parents)}
         self.changes = {it["commit"]: it["change"] for it in self.missing}
-        self.merges = {tuple(self.parents[name]): name for name in bases if len(self.parents.get(name, ())) == 2}
 
     def refs(self):
         """The changes that are missing, with the commits of the patch sets that were pushed."""
@@ -66,6 +97,14 @@ class Graph:
         return None
 
 
+def is_merge_of(name: str, ours: str, theirs: str) -> bool:
+    """Whether a commit has the tree of a merge of its two parents."""
+    try:
+        return merged_tree(ours, theirs) == git("rev-parse", f"{name}^{{tree}}").strip()
+    except (Conflicts, GitFailed):
+        return False
+
+
 def settled_of(branch):
     """The changes of a branch that an administrator has settled: they don't come."""
     return {it["change"] for it in noted_in(file_of("settled", branch), [])}
@@ -75,8 +114,7 @@ def steps(tip, told, merges=True, settled=(), tried=None, footers=None):
     """What there is to do, in order, so that a branch at a tip gets what has joined it in the desk: of each change that has to come itself (the change, how, what).
 
     `told` is the desk's answer about the branch. How is "forward" or "merge" where the branch is to be moved to the commit `what`, and "over" where the change is passed over:
-    `what` says why then. A merge is a commit object; one that was recorded as a base, before a stop, is taken again. No ref is moved here. `tried` keeps what conflicted, by tip and
-    commit. `footers` has the last lines of a merge's message, by the changes that it brings. Changes that were `settled` don't come, and aren't told; nor does what stands on them.
+    `what` says why then. A merge is a commit object. No ref is moved here. `tried` keeps what conflicted, by tip, commit and whether git may merge within files. `footers` has the last lines of a merge's message, by the changes that it brings. Changes that were `settled` don't come, and aren't told; nor does what stands on them.
     """
     graph, tried, over = Graph(tip, told, settled), {} if tried is None else tried, set()
     left = [it for it in graph.missing if it["change"] not in graph.settled]
@@ -104,7 +142,7 @@ def steps(tip, told, merges=True, settled=(), tried=None, footers=None):
             found = trial(tip, top["commit"], tried)
             if not isinstance(found, str):
                 brought = [it for it in graph.missing if it["commit"] in graph.below(top["commit"])]
-                tip = graph.merges.get((tip, top["commit"])) or merge_of(tip, top["commit"], *found, footers(brought) if footers else "")
+                tip = merge_of(tip, top["commit"], *found, footers(brought) if footers else "")
                 yield top, "merge", tip
                 graph.came |= graph.below(top["commit"])
                 break
@@ -117,24 +155,25 @@ def steps(tip, told, merges=True, settled=(), tried=None, footers=None):
 
 def trial(tip, commit, tried):
     """The tree of a merge, in a list; or why there is none."""
-    if (tip, commit) not in tried:
+    asked = (tip, commit, may_merge_content())
+    if asked not in tried:
         try:
             return [merged_tree(tip, commit)]
         except Conflicts as found:
             more = len(found.paths) - MOST_PATHS_TOLD
-            tried[tip, commit] = f"it conflicts with the branch in {', '.join(found.paths[:MOST_PATHS_TOLD])}" + (f" and {more} more" if more > 0 else "")
+            tried[asked] = f"it conflicts with the branch in {', '.join(found.paths[:MOST_PATHS_TOLD])}" + (f" and {more} more" if more > 0 else "")
         except TooLong as failed:
-            tried[tip, commit] = f"git can't merge it: {failed}"
+            tried[asked] = f"git can't merge it: {failed}"
         except GitFailed as failed:
             return f"git can't merge it: {failed}"
-    return tried[tip, commit]
+    return tried[asked]
 
 
 def merge_of(tip, commit, tree, footers):
     """A merge commit, whose message ends with lines such as `Reviewed-by: ann`."""
     date = max(int(git("log", "-1", "--format=%ct", name)) for name in (tip, commit))
     subject = git("log", "-1", "--format=%s", commit).strip()
-    people = "".join(f"{role} follow <follow@localhost> {date} +0000\n" for role in ("author", "committer"))
+    people = "".join(f"{role} {FOLLOWER} {date} +0000\n" for role in ("author", "committer"))
     text = f"tree {tree}\nparent {tip}\nparent {commit}\n{people}\nMerge \"{subject}\"\n" + (f"\n{footers}" if footers else "")
     return git("hash-object", "-t", "commit", "-w", "--stdin", sent=text).strip()
 
@@ -143,17 +182,3 @@ def merge_of(tip, commit, tree, footers):
 def branch_path(project, branch):
     """The path of a branch at the desk."""
     return path_of("projects", project, "branches", branch)
-
-
-def record_base(desk, path, commit):
-    """Has the desk know a commit as a base of a branch. A refusal is one for good under its id, so the next try, which may be allowed, has another one."""
-    file = f"desk/bases/{commit}.json"
-    refused = noted_in(file, 0)
-    status, told = desk.ask("PUT", path, {"commit": commit}, f"base.{commit}" + (f".{refused}" if refused else ""))
-    if status == 200:
-        return
-    word = told.get("refused") or told.get("fault")
-    if word == "COMMIT_KNOWN" and commit in desk.ask("GET", path)[1].get("bases", ()):
-        return
-    write_whole(file, f"{refused + 1}\n")
-    raise NotRecorded(f"the desk says {word} to the base {commit}" + ("; is desk.account an administrator's?" if word in ("NOT_ADMIN", "UNKNOWN_CALLER") else ""))

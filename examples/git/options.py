@@ -6,6 +6,7 @@ anywhere can be pushed again.
 import collections
 import urllib.parse
 
+from asking import epoch, spend
 from checks import Refused, accounts, mails
 from repository import desk_for
 from retry import new_id, path_of
@@ -54,7 +55,8 @@ def split(ref):
 
 def ask(account, *path, body=None):
     """Asks the desk for what isn't so yet: nothing, or the desk's word where it refuses. Where another was faster it is so."""
-    status, told = desk_for(account).ask("POST", path_of("changes", *path), {} if body is None else body, new_id())
+    spend(account, body)
+    status, told = desk_for(account).ask("POST", path_of("changes", *path), {} if body is None else body, new_id(), epoch())
     word = None if status == 200 else told.get("refused") or told.get("fault")
     return None if word == "SAME_STATE" else word
 

@@ -3,7 +3,10 @@
 A few trees, each of which names the next one ten times, are a push of some hundred bytes with ten million paths, and `git diff-tree` gathers all of them before it says the
 first. So the trees are read here one by one, and reading ends with one path, or one folder, too many.
 """
-import subprocess
+import unicodedata
+from collections.abc import Iterable
+
+from repository import GitFailed, Piped
 
 MODES, MOST_FOLDERS, MOST_BYTES = (b"100644", b"100755", b"120000", b"160000", b"40000"), 10_000, 32 << 20  # modes as git writes them; it reads many more
 
@@ -12,41 +15,56 @@ class TooLarge(Exception):
     """A commit changes more than is read: what there is too much of."""
 
 
+class LooksAlike(Exception):
+    """A commit adds a path that differs from another one in case alone: both."""
+
+
+def folded(name: bytes) -> str:
+    """A name as a file system reads it that doesn't tell upper from lower case."""
+    text = name.decode(errors="surrogateescape")
+    return text.lower() if text.isascii() else unicodedata.normalize("NFC", unicodedata.normalize("NFD", text).casefold())
+
+
+def look_alikes(names: Iterable[bytes]) -> dict[bytes, bytes]:
+    """Of the names in a folder those that differ from another one in case alone, each with that other one."""
+    first: dict[str, bytes] = {}
+    pairs = ((name, first.setdefault(folded(name), name)) for name in sorted(names))
+    return {one: other for name, kept in pairs if name != kept for one, other in ((name, kept), (kept, name))}
+
+
 def folder_in(entry):
     """The tree of an entry that git takes for a folder, whatever else its mode says; of another one, or of none, None."""
     return entry[1] if entry and int(entry[0], 8) & 0o170000 == 0o040000 else None
 
 
 class Trees:
-    """Trees of a repository, each asked for by its name."""
+    """Trees of a repository, each asked for by its name; so many at most."""
 
-    def __init__(self):
-        self.git, self.count = subprocess.Popen(["git", "cat-file", "--batch"], stdin=subprocess.PIPE, stdout=subprocess.PIPE, stderr=subprocess.DEVNULL), 0
+    def __init__(self, most=MOST_FOLDERS, environment=None):
+        self.git, self.most, self.count = Piped("cat-file", "--batch", environment=environment), most, 0
 
     def __enter__(self):
+        self.git.__enter__()
         return self
 
     def __exit__(self, *_):
-        self.git.stdin.close()
-        self.git.kill()
-        self.git.wait()
-        self.git.stdout.close()
+        self.git.__exit__()
 
     def entries(self, name):
         """Of each entry of a tree its name, with its mode and its object; None is a tree without any."""
         if name is None:
             return {}
         self.count += 1
-        if self.count > MOST_FOLDERS:
-            raise TooLarge(f"more than {MOST_FOLDERS // 2} folders")
-        self.git.stdin.write(name + b"\n")
-        self.git.stdin.flush()
-        _, kind, size = self.git.stdout.readline().split()
+        if self.count > self.most:
+            raise TooLarge(f"more than {self.most // 2} folders")
+        _, kind, size = (self.git.line(name + b"\n") + b" 0").split()[:3]
+        if kind == b"missing":
+            raise GitFailed(f"the repository doesn't have the folder {name.decode()}")
         if kind != b"tree":
             raise TooLarge(f"a folder that is a {kind.decode()}")
         if int(size) > MOST_BYTES:
             raise TooLarge(f"a folder of more than {MOST_BYTES >> 20} MB")
-        told, found, at = self.git.stdout.read(int(size) + 1)[:-1], {}, 0
+        told, found, at = self.git.told.read(int(size) + 1)[:-1], {}, 0
         while at < len(told):
             end = told.index(b"\0", at)
             mode, path = told[at:end].split(b" ", 1)
@@ -61,6 +79,10 @@ class Trees:
         if len(before) > most_bytes:
             raise TooLarge(f"a path of more than {most_bytes} bytes")
         were, are = self.entries(old), self.entries(new)
+        added = are.keys() - were.keys()
+        alike = look_alikes(are) if added else {}
+        for name in sorted(added & alike.keys()):
+            raise LooksAlike(*((before + it).decode(errors="replace") for it in (name, alike[name])))
         for name in sorted(were.keys() | are.keys()):
             was, is_now, path = were.get(name), are.get(name), before + name
             if was == is_now:

@@ -1,6 +1,7 @@
 """What git tells of a change that a desk doesn't: message, footer, people, paths, sizes, dates and the commits of earlier patch sets. A module; git 2.39."""
 import os
 import re
+import sys
 import time
 
 from patch_sets import NotShown, PatchSets, text_of
@@ -33,7 +34,14 @@ class Commits:
             return False
 
     def of(self, it):
-        """What git has of a change as the desk tells it. All may be missing, as of a change that was made without git."""
+        """What git has of a change as the desk tells it. All may be missing, as of a change that was made without git, or of a commit that says what can't be read."""
+        try:
+            return self.found_of(it)
+        except (ValueError, OverflowError) as error:
+            print(f"change {it['change']}: git's words for {it['commit']} can't be read, and it is found by what the desk says alone: {error!r}", file=sys.stderr, flush=True)
+            return dict(NOTHING)
+
+    def found_of(self, it):
         repository, found = self.repository(it["project"]), dict(NOTHING)
         if not repository or not NAME.fullmatch(it["commit"]):
             return found
@@ -43,7 +51,7 @@ class Commits:
         except NotShown:
             return found
         _, parents, date, author, committer, footers, message, _ = text_of(said).split("\0", 7)
-        found.update(at=min(int(date or 0), int(time.time())), author=author, committer=committer, change_id=footers.split(" ")[-1], message=message, parents=parents.split())
+        found.update(at=max(0, min(int(date or 0), int(time.time()))), author=author, committer=committer, change_id=footers.split(" ")[-1], message=message, parents=parents.split())
         try:
             found.update(self.sizes(repository, found["parents"], it["commit"]))
         except NotShown:
@@ -59,7 +67,7 @@ class Commits:
             patch_set = ref.rsplit("/", 1)[1]
             if patch_set.isdigit():
                 found[patch_set] = name
-                created = min(int(date or 0), int(time.time())) if patch_set == "1" else created  # Nothing was made later than now, whatever it says.
+                created = max(0, min(int(date or 0), int(time.time()))) if patch_set == "1" else created  # Nothing was made later than now, whatever it says.
         return found, created
 
     @staticmethod

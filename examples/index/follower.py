@@ -17,6 +17,7 @@ COUNT = 10  # changes of a round that are asked for in one go
 LATE_SHARE = 0.25  # of the time, where what is known is wrong, or may be
 OPEN_SHARE = 0.05
 SECONDS = 20  # that the desk is waited for
+LONG, REST = 1.0, 20  # a look that takes so many seconds is followed by a rest of so many times as long
 UNKNOWN = [{"name": "Submit-Requirements", "status": "ERROR"}]  # the engine refuses a pattern of the project's file
 
 
@@ -26,6 +27,7 @@ class Follower:
     def __init__(self, kept, desk, git, open_every=60, closed_share=0.02):
         self.kept, self.desk, self.git, self.open_every, self.closed_share = kept, desk, git, open_every, closed_share
         self.heard, self.is_filled, self.new_due, self.last_due, self.open_due, self.closed_due = 0.0, False, 0.0, 0.0, 0.0, 0.0
+        self.rests: dict[int, float] = {}
         self.wait_for_all()
 
     def wait_for_all(self):
@@ -48,7 +50,19 @@ class Follower:
             raise NotOfTheDesk(f"the desk says {json.dumps(told)} to a question of account 1")
         return told if status == 200 else None
 
-    def look(self, number, is_hinted=False):
+    def look(self, number: int, is_hinted: bool = False) -> bool:
+        """Asks for a change, unless it took long the last time, and that was a short while ago: whether it is there. So whoever fills a change with comments, and adds to it each second,
+        doesn't have the desk tell all of them each second: the change is found as it was for a while."""
+        begun = time.monotonic()
+        if begun < self.rests.get(number, 0.0) and self.kept.execute("UPDATE changes SET asked = ? WHERE number = ? AND asked > ?", (time.time(), number, AT_ONCE)).rowcount:
+            return True
+        is_there = self.look_now(number, is_hinted)
+        self.rests.pop(number, None)
+        if (spent := time.monotonic() - begun) > LONG:
+            self.rests[number] = time.monotonic() + REST * spent
+        return is_there
+
+    def look_now(self, number, is_hinted):
         """Asks for a change, and for all of it where it is another than before: whether it is there. Behind a hint git is asked again, too."""
         it = self.question("changes", number)
         row = self.kept.execute("SELECT updated, asked, comments, change_id, told FROM changes WHERE number = ?", (number,)).fetchone()
@@ -92,7 +106,7 @@ class Follower:
     def hint(self, method, path):
         """Somebody asked something of the desk, and it was answered."""
         segments = path.partition("?")[0].strip("/").split("/")
-        if segments[0] == "changes" and len(segments) > 2 and segments[1].isdigit() and len(segments[1]) < 11:
+        if segments[0] == "changes" and len(segments) > 2 and segments[1].isdecimal() and len(segments[1]) < 11:
             number = int(segments[1])
             if number > self.last():
                 self.new_due = 0.0

@@ -3,6 +3,7 @@ import {ask, at, begin, draftsKey, draftsOf, forget, keep, keepDrafts, keptAt, k
 import {common, moved, read} from "./lines.js";
 
 const change = numberIn("change"), base = numberIn("base"), context = numberIn("context") || "5";
+const MOST_SENT = 28000;  // bytes of comments that are sent at once: the proxy takes 30,000
 const MOST_OPEN = 3000;  // so many rows are shown at once; a file beyond is opened by hand
 let patchSet = numberIn("patch_set"), isCurrent = false;
 
@@ -141,9 +142,13 @@ async function show() {
   changed();
 }
 // What is sent is kept with its id until its answer came, and sent again under the same one: so it acts once.
+function fitting(list) {
+  let size = 0;
+  return list.filter((one, place) => (size += new TextEncoder().encode(JSON.stringify(one)).length + one.path.length) <= MOST_SENT || !place);
+}
 at("send").onclick = async (event) => {
   if (!keptAt(reviewPath())) {
-    const list = draftsOf(key()), comments = Object.create(null);
+    const list = fitting(draftsOf(key())), comments = Object.create(null);
     if (event.detail > 1 || !list.length) return;
     for (const {path, ...said} of list) (comments[path] ??= []).push(said);
     keep(reviewPath(), {comments}, {drafts: key(), written: list.map((one) => JSON.stringify(one))});
@@ -155,7 +160,8 @@ at("send").onclick = async (event) => {
   if (isWaiting) { changed(); tell(why); return; }
   if (status === 200) await show();
   changed();
-  tell(status === 200 ? "Sent." : refusal(status, said));
+  const left = draftsOf(key()).length;
+  tell(status === 200 ? (left ? `Sent, but for ${left} that would have been too much at once: press the button again.` : "Sent.") : refusal(status, said));
 };
 async function main() {
   if (!await begin()) return;

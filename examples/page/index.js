@@ -31,7 +31,7 @@ async function press(event, path, body, more) {
     showKept();
     return tell(`${refusal(status, said)} `, make("a", {href: `?change=${change}`}, "Load it"));
   }
-  if (status === 200 && path === reviewPath()) at("reply").reset();
+  if (status === 200 && path === reviewPath()) { at("reply").reset(); at("vote-note").hidden = true; }
   const before = shown?.current_patch_set, isShown = await show();
   const done = said?.joined ? `Merged: ${said.joined.map((one) => `change ${one}`).join(", ")}.` : "Done.";
   tell((status === 200 ? done : refusal(status, said) + (body ? "" : ` It was: ${text}`)) + (isShown ? "" : " To see it, load the page again.")
@@ -69,6 +69,12 @@ function review(threads) {
   if (Object.keys(labels).length) body.labels = labels;
   if (Object.keys(comments).length) body.comments = comments;
   return body;
+}
+// Why the comment on a file can't be sent: without a code server (docs/proxy.md) nobody knows the files, and any path is taken.
+function pathFault() {
+  const {comment, path} = at("reply").elements, place = path.value.trim();
+  if (!comment.value.trim() || !place || PLACE.has(place) || at("code").hidden || code?.files.some((file) => file.path === place)) return "";
+  return `Nothing was sent: ${code && !code.files_not_shown ? `patch set ${shown.current_patch_set} has no file ${place}` : "the files aren't known now"}. Choose one of the files, or none for the whole patch set.`;
 }
 function threadRow({root, unresolved, comments}) {
   const first = comments[0], place = PLACE.get(first.path) ?? first.path;
@@ -125,6 +131,7 @@ async function showCode(it) {
   at("commit-message").replaceChildren(make("span", {}, said.message));
   showSubject(it, false);
   showFacts(it);
+  fill("file-names", said.files.map((file) => make("option", {value: file.path})));
   fill("files", said.files.map((file, index) => fileRow(file, address, index)), said.files_not_shown ? refusal(409, {not_shown: said.files_not_shown}) : "No file.");
   showConflict(it);
 }
@@ -140,6 +147,8 @@ async function showConflict(it) {
 async function showChange() {
   const questions = ["", "/requirements", "/threads", "/attention"].map((part) => question(`/changes/${change}${part}`));
   const [it, requirements, threads, attention] = await Promise.all(questions);
+  const ticks = [...at("reply").querySelectorAll("[type=checkbox]")].filter((box) => box.checked !== box.defaultChecked).map((box) => [box.name, box.checked]);
+  const unfolded = [...at("threads").querySelectorAll("details[open] textarea")].map((text) => text.id), isOther = shown && shown.current_patch_set !== it.current_patch_set;
   const written = new FormData(at("reply")), isOpen = it.status === "NEW", voted = [...new Set(it.votes.map((vote) => vote.label))];
   const labels = known.team.labels?.[it.project] ? Object.keys(known.team.labels[it.project]) : requirements.map((one) => one.name);
   if (shown?.commit !== it.commit) {
@@ -164,8 +173,11 @@ async function showChange() {
   fill("labels", isOpen ? [...new Set([...voted, ...labels])].sort().map((label) => labelField(label, it.votes)) : []);
   for (const [name, value] of written) {
     const field = at("reply").elements[name];
-    if (field && field.type !== "checkbox") field.value = value;
+    if (field && field.type !== "checkbox" && !(isOther && name.startsWith("vote-"))) field.value = value;  // A vote was chosen for the patch set that was read.
   }
+  for (const [name, checked] of ticks) if (at("reply").elements[name]) at("reply").elements[name].checked = checked;
+  for (const id of unfolded) if (at(id)) at(id).closest("details").open = true;
+  at("vote-note").hidden = !(isOther && [...written].some(([name, value]) => name.startsWith("vote-") && value)) && at("vote-note").hidden;
   const isReady = isOpen && !it.work_in_progress, isWip = isOpen && it.work_in_progress;
   const can = {submit: isReady, wip: isReady, ready: isWip, abandon: isOpen, restore: it.status === "ABANDONED"};
   for (const button of document.querySelectorAll("[data-do]")) button.hidden = !can[button.dataset.do];
@@ -174,7 +186,8 @@ async function showChange() {
   submitButton().disabled = !code;
   submitButton().textContent = `Submit patch set ${it.current_patch_set}`;
   at("send").onclick = (event) => {
-    const body = review(threads);
+    const body = review(threads), fault = keptAt(reviewPath()) ? "" : pathFault();
+    if (fault) return tell(fault);
     if (keptAt(reviewPath()) || Object.keys(body).length) return press(event, reviewPath(), body);
     return event.detail > 1 || tell("There is nothing to send: write a message or a comment, or choose a vote.");
   };

@@ -37,7 +37,7 @@ function note(file, line) {
   const name = /^(---|\+\+\+) (.*?)\t?$/.exec(line), moved = /^(rename|copy) (from|to) (.*)$/.exec(line);
   if (name) file[name[1] === "---" ? "old" : "path"] = /^"?[ab]\//.test(name[2]) ? unquoted(name[2]).slice(2) : name[2];
   else if (moved) file[moved[2] === "from" ? "old" : "path"] = unquoted(moved[3]);
-  if (!name && /^(new|deleted|rename|copy|similarity|Binary|old mode)/.test(line)) file.notes.push(moved ? `${moved[1]} ${moved[2]} ${unquoted(moved[3])}` : line);
+  if (!name && /^(new|deleted|rename|copy|similarity|Binary|old mode|note:)/.test(line)) file.notes.push(moved ? `${moved[1]} ${moved[2]} ${unquoted(moved[3])}` : line);
 }
 // The path of a file that git tells in its head alone, twice: a mode that changed, an empty file, bytes that are no text.
 function named(head) {

@@ -2,7 +2,7 @@
 export const at = (id) => document.getElementById(id);
 export const query = new URLSearchParams(location.search);
 export const numberIn = (name) => /^[1-9][0-9]{0,9}$/.exec(query.get(name) ?? "")?.[0] ?? "";
-export const known = {me: "", team: {}};  // who is asking; names and labels, where the proxy has them
+export const known = {me: "", team: {}, ahead: 0};  // who is asking; names and labels, where the proxy has them; by how many milliseconds this clock is ahead of the proxy's
 
 // Characters that can't be seen, or can't be told from a space: controls, those that turn the direction of the text around them, those of no width, and spaces but the usual ones.
 // Each is shown by its number. Behind a picture U+FE0F chooses its colours.
@@ -43,11 +43,22 @@ const WHY = {NOT_ALLOWED: "none of your groups has this right", CLOSED: "the cha
   NO_BRANCH: "there is no such branch", NO_CALLER: "your name has no account at the desk", CHAIN_WIP: "it stands on work in progress",
   CHAIN_OUTDATED: "it stands on a patch set that is not current any more", CHAIN_ABANDONED: "it stands on an abandoned change",
   REQUIREMENT_UNSATISFIED: "a submit requirement is unsatisfied", TOO_LARGE: "it is too large to be shown here, so fetch it",
-  TOO_SLOW: "it takes too long here, so fetch it", NO_COMMIT: "git doesn't have this patch set's commit", NO_ROUTE: "there is nothing of that name here"};
-export async function ask(method, path, more = {}) {
+  TOO_SLOW: "it takes too long here, so fetch it", TOO_MANY_REQUESTS: "you asked for too much at once",
+  REVIEWER_HAS_VOTED: "this reviewer has voted, so only the reviewer and administrators can do that",
+  EPOCH_CLOSED: "it was written weeks ago, and nobody can tell any more whether it was done. Look, and where it is still wanted, write it anew",
+  BAD_EPOCH: "the clocks differ: load the page again, and press the button again", NO_COMMIT: "git doesn't have this patch set's commit", NO_ROUTE: "there is nothing of that name here"};
+async function askOnce(method, path, more) {
   const response = await fetch(path, {method, cache: "no-store", signal: AbortSignal.timeout(60000), ...more});
   const text = await response.text();
   return {status: response.status, text, said: text.startsWith(")]}'\n") ? JSON.parse(text.slice(5)) : null};
+}
+// A question that came too soon is asked again, when the proxy says. A request isn't: whoever pressed the button does that.
+export async function ask(method, path, more = {}) {
+  for (let count = 1; ; count++) {
+    const told = await askOnce(method, path, more);
+    if (told.status !== 429 || method !== "GET" || count === 5) return told;
+    await new Promise((done) => setTimeout(done, 1000 * Math.min(told.said?.retry_after ?? 1, 5) + 500 * Math.random()));
+  }
 }
 export async function question(path) {
   const {status, said} = await ask("GET", path);
@@ -57,8 +68,9 @@ export async function question(path) {
 export function refusal(status, said) {
   if (!said) return `The proxy answered ${status}.`;
   if (said.not_submitted === "STALE_PATCH_SET") return `There is a newer patch set ${said.current_patch_set}: nothing was submitted.`;
-  if (said.not_submitted === "CONFLICT") return `Nothing was submitted: it conflicts with what the branch has${said.paths.length ? `, in ${said.paths.join(", ")}` : ""}. Rebase it, and push it again.`;
+  if (said.not_submitted === "CONFLICT") return `Nothing was submitted: it conflicts with what the branch has${said.paths.length ? `, in ${said.paths.join(", ")}` : ""}. Rebase it, push it again, and have it looked at again.`;
   if (said.not_submitted === "NOT_MERGEABLE") return `Nothing was submitted: git can't have it, since ${said.why}.`;
+  if (said.fault === "TOO_LARGE") return "Not sent: it is too large. All that is written here at once may have 30,000 bytes, so send it in parts.";
   const word = said.refused ?? said.fault ?? said.not_taken ?? said.not_submitted ?? said.not_shown;
   const before = said.not_submitted ? "Nothing was submitted" : said.not_shown ? "Not shown" : "Refused";
   return `${before}: ${word}${WHY[word] ? `, ${WHY[word]}` : ""}${said.requirement ? `: ${said.requirement}` : ""}${said.change ? ` (change ${said.change})` : ""}.`;
@@ -69,20 +81,24 @@ const keyOf = (path) => `berthoglu ${known.me} ${path}`;
 export const keptAt = (path) => JSON.parse(localStorage.getItem(keyOf(path)));
 export const forget = (path) => localStorage.removeItem(keyOf(path));
 export const keptPaths = () => Object.keys(localStorage).filter((key) => key.startsWith(keyOf(""))).map((key) => key.slice(keyOf("").length)).sort();
+// The day by the proxy's clock, as 20261201, as of ten minutes ago: the epoch of a request that is made now. It keeps that, however often and however late it is sent.
+const day = () => Number(new Date(Date.now() - known.ahead - 600000).toISOString().slice(0, 10).replaceAll("-", ""));
 export function keep(path, body, more = {}) {
   const id = "page-" + Array.from(crypto.getRandomValues(new Uint8Array(16)), (byte) => byte.toString(16).padStart(2, "0")).join("");
-  localStorage.setItem(keyOf(path), JSON.stringify({id, body: JSON.stringify(body), ...more}));
+  localStorage.setItem(keyOf(path), JSON.stringify({id, epoch: day(), body: JSON.stringify(body), ...more}));
 }
 // Sends what is kept for a path: its status and answer. Only an answer of the desk, or of the gate before it, tells what became of it. `isWaiting` where it has to be sent again; `isOver` where it was sent twice and the other one had the answer.
 export async function send(path) {
-  const {id, body, named, drafts, written} = keptAt(path), headers = {"Request-Id": id, ...(named ? {"If-Match": `"${named}"`} : {})};
+  const {id, epoch, body, named, drafts, written} = keptAt(path);
+  const headers = {"Request-Id": id, ...(epoch ? {"Request-Epoch": epoch} : {}), ...(named ? {"If-Match": `"${named}"`} : {})};
   const {status, said} = await ask("POST", path, {headers, body}).catch(() => ({status: 0}));
-  const isWaiting = status === 0 || status >= 500 || !said, isKept = keptAt(path)?.id === id;
+  const isTooSoon = status === 429, isWaiting = status === 0 || status >= 500 || isTooSoon || !said || said.fault === "BAD_EPOCH", isKept = keptAt(path)?.id === id;
   if (!isWaiting && isKept) {
     forget(path);
     if (status === 200 && drafts) keepDrafts(drafts, draftsOf(drafts).filter((one) => !written.includes(JSON.stringify(one))));
   }
-  const came = status ? `Not taken (${said?.not_taken ?? status}).` : "No answer came.", why = `${came} Press the button again: the same request is sent, and acts once.`;
+  const came = status ? `Not taken (${said?.not_taken ?? said?.fault ?? status}).` : "No answer came.", wait = said?.retry_after > 1 ? ` in ${said.retry_after} seconds` : "";
+  const why = `${isTooSoon ? "You have sent too many requests, and this one waits here." : came} Press the button again${wait}: the same request is sent, and acts once.`;
   return {status, said, body, isWaiting, isOver: !isKept, why};
 }
 // Comments that are written and not sent yet, by where they are kept.
@@ -98,6 +114,7 @@ export async function begin() {
     return false;
   }
   known.me = told.headers.get("X-Account") ?? "";
+  known.ahead = Date.now() - Date.parse(told.headers.get("Date")) || 0;
   known.team = told.ok ? await told.json().catch(() => ({})) : {};
   for (const it of document.querySelectorAll("[data-index]")) it.hidden = (it.dataset.index === "yes") !== Boolean(known.team.index);
   return true;

@@ -12,7 +12,7 @@ import subprocess
 import threading
 import time
 
-from team import fail
+from team import fail, printed
 
 # fcgiwrap leaves its own children behind when it is ended; this ends all of its group, also where `start` was killed. What stands behind & would have no standard input of its own.
 GROUP = ["sh", "-c", 'exec 3<&0; trap "trap - TERM; kill 0" TERM; "$@" <&3 3<&- & wait', "sh"]
@@ -40,6 +40,9 @@ class Child:
         with open(self.log, "ab") as log:
             words = ["setpriv", "--pdeathsig", "TERM", *self.words]
             self.process = subprocess.Popen(words, stdin=self.listening or subprocess.DEVNULL, stdout=log, stderr=log, start_new_session=True)
+        if self.name != "desk":  # Where memory runs out the system ends others before the desk, for which all wait.
+            with contextlib.suppress(OSError), open(f"/proc/{self.process.pid}/oom_score_adj", "w", encoding="ascii") as score:
+                score.write("300")
         self.begun, self.watched = time.monotonic(), os.pidfd_open(self.process.pid)
 
     def wait_until(self, is_ready):
@@ -60,13 +63,17 @@ class Child:
         if status == 0 and self.rests:
             self.due = time.monotonic() + self.rests
             return
+        if self.rests:
+            self.due = time.monotonic() + 600
+            print(f"{self.name} ended with status {status}, and is run again in ten minutes; {self.log} says:\n{self.last_words()}", flush=True)
+            return
         self.pause = 60 if self.name.startswith("follow") and status == 3 else 0 if time.monotonic() - self.begun > 10 else min(max(1, 2 * self.pause), 30)
         self.due = time.monotonic() + self.pause
         print(f"{self.name} ended with status {status}, and is started again in {self.pause} s; {self.log} says:\n{self.last_words()}", flush=True)
 
     def last_words(self):
         with open(self.log, encoding="utf-8", errors="replace") as log:
-            return "".join("  " + line for line in log.readlines()[-5:])
+            return printed("".join("  " + line for line in log.readlines()[-5:]))
 
     def end(self):
         if self.process:
@@ -143,15 +150,23 @@ def answers(port, seconds):
 
 
 class Health:
-    """Asks a desk each ten seconds, and kills it where it gave no answer for as long as the settings' hung_after says: then it hangs, and is started again.
+    """Asks a desk each ten seconds, and kills it where it gave nobody an answer for as long as the settings' hung_after says: then it hangs, and is started again.
 
-    By itself the desk gives a connection 30 seconds, and all else waits behind it; so the usual 90 seconds are three peers that do their worst, and a question waits for one."""
+    By itself the desk gives a connection 30 seconds, and all else waits behind it; so the usual 90 seconds are three peers that do their worst, and a question waits for one. A desk that
+    is busy answers others, and nginx says so at a socket with each answer: so one that has a long queue isn't taken for one that hangs."""
 
-    def __init__(self, desk, port, hung_after):
-        self.desk, self.port, self.hung_after = desk, port, hung_after
+    def __init__(self, desk, port, hung_after, answered: socket.socket | None = None) -> None:
+        self.desk, self.port, self.hung_after, self.answered, self.other_heard = desk, port, hung_after, answered, 0.0
 
     def watch(self):
         threading.Thread(target=self.look, daemon=True).start()
+        if self.answered:
+            threading.Thread(target=self.hear, daemon=True).start()
+
+    def hear(self) -> None:
+        """Notes when the desk answered somebody."""
+        while self.answered and self.answered.recv(4096):
+            self.other_heard = time.monotonic()
 
     def look(self):
         process, heard = None, 0
@@ -160,7 +175,7 @@ class Health:
                 process, heard = self.desk.process, None
             if process and answers(self.port, self.hung_after / 3):
                 heard = time.monotonic()
-            elif process and heard and process is self.desk.process and time.monotonic() - heard > self.hung_after:
+            elif process and heard and process is self.desk.process and time.monotonic() - max(heard, self.other_heard) > self.hung_after:
                 print(f"the desk gave no answer for {self.hung_after} s: it is killed, and started again", flush=True)
                 with contextlib.suppress(ProcessLookupError):
                     process.kill()

@@ -6,6 +6,7 @@ files for its own user alone, and where root starts nginx its workers get what t
 """
 import contextlib
 import fcntl
+import io
 import json
 import os
 import pwd
@@ -19,13 +20,16 @@ import time
 import tomllib
 
 os.umask(0o077)
+for stream in (sys.stdout, sys.stderr):  # A name or a path that the locale can't say ends no command.
+    if isinstance(stream, io.TextIOWrapper):
+        stream.reconfigure(errors="backslashreplace")
 
 HERE = os.path.dirname(os.path.realpath(__file__))
 EXAMPLES = os.path.dirname(HERE)
 CHECKOUT = os.path.dirname(EXAMPLES)
 sys.path[:0] = [os.path.join(EXAMPLES, "client"), os.path.join(EXAMPLES, "index")]
 import hints  # noqa: E402
-from retry import Desk, Kept, NoAnswer, NotOfTheDesk, new_id, path_of, write_whole  # noqa: E402
+from retry import Desk, Kept, NoAnswer, NotOfTheDesk, new_id, path_of, this_day, write_whole  # noqa: E402
 
 USUAL = {"port": 8443, "desk_port": 8473, "host": "", "projects": ["tools"], "branches": ["main"], "push_megabytes": 200, "hung_after": 90,
          "program": os.path.join(CHECKOUT, "crates", "review_desk", "out", "review_desk")}
@@ -47,6 +51,11 @@ def say_fault(kind, error, trace):
 
 
 sys.excepthook = say_fault
+
+
+def printed(text: str) -> str:
+    """A text for a terminal, a log or a mail: what others wrote, as a path, begins no line there, moves no cursor and turns no text around."""
+    return "".join(it if it.isprintable() or it == "\n" else "?" for it in text)
 
 
 def read(*path, otherwise=None):
@@ -182,6 +191,13 @@ class Team:
         members = sorted({*members, *([1] if group == ADMINS else [])})
         self.do(f"group {group}", "PUT", path_of("groups", group), {"members": members})
         self.write(json.dumps({**self.groups(), group: members}) + "\n", "groups.json")
+        if group == ADMINS:
+            self.write_administrators()
+            self.reload_nginx()
+
+    def write_administrators(self) -> None:
+        """The administrators' accounts, for nginx."""
+        self.write("".join(f"{number} 1;\n" for number in sorted(set(self.groups()[ADMINS]))), "administrators.conf")
 
     def stat(self, *path):
         """What changes when a file does, or nothing where there is none."""
@@ -190,13 +206,20 @@ class Team:
             return status.st_mtime_ns, status.st_ino
         return None
 
+    def labels_of(self, project: str) -> dict[str, list[int]]:
+        """The values of each label of a project. A file that the desk has taken and that can't be read here has none."""
+        try:
+            said = tomllib.loads(read(self.folder, self.project_file(project), otherwise="")).get("label", {})
+            return {label: sorted(int(value) for value in it.get("values", {})) for label, it in said.items()}
+        except (ValueError, TypeError, AttributeError) as error:
+            print(f"the labels of {self.project_file(project)} can't be read: {error}", file=sys.stderr)
+            return {}
+
     def labels(self):
         """The values of each label of each project, least first, by the projects' files as they were set last."""
         status = [self.stat(self.project_file(project)) for project in self.projects]
         if status != self.seen:
-            files = {project: tomllib.loads(read(self.folder, self.project_file(project), otherwise="")).get("label") for project in self.projects}
-            found = {project: {label: sorted(int(value) for value in said.get("values", {})) for label, said in labels.items()} for project, labels in files.items() if labels}
-            self.seen, self.labels_seen = status, found
+            self.seen, self.labels_seen = status, {project: labels for project in self.projects if (labels := self.labels_of(project))}
         return self.labels_seen
 
     def has_index(self):
@@ -217,23 +240,32 @@ class Team:
 
     # ---- what admin asks of the desk
 
-    def ask(self, method, path, body=None, id=None):
+    def ask(self, method, path, body=None, id=None, epoch=None):
         try:
-            return self.desk.ask(method, path, body, id)
+            return self.desk.ask(method, path, body, id, epoch)
         except (NoAnswer, NotOfTheDesk) as error:
             return fail(f"{error}\nIs it started? Run the same again then: nothing is done twice.")
 
     def do(self, name, method, path, body):
         """A request, kept in a file until its answer came: whoever runs the same again after a stop sends the same. Its answer, where it isn't refused."""
         kept, wanted = Kept(self.path("kept", name.replace("/", "%") + ".json")), {"method": method, "path": path, "body": body}
-        found = kept.read()
-        request = found if found and {**wanted, "id": found["id"]} == found else kept.write({**wanted, "id": new_id()})
+        request = kept_request(kept, wanted)
         status, told = self.ask(**request)
         kept.remove()  # A refusal, too, is the answer to this id alone: the same again asks under a new one.
+        if told.get("refused") == "EPOCH_CLOSED" and request.get("epoch") != this_day():
+            # It was kept for weeks, and nobody knows whether it was done then. What is asked here is always put whole, so to ask anew does no harm.
+            status, told = self.ask(**kept_request(kept, wanted))
+            kept.remove()
         hints.send(self.path("hints.socket"), method, path)
         if status != 200:
             fail(f"{name}: the desk says {json.dumps(told)}")
         return told
+
+
+def kept_request(kept: Kept, wanted: dict[str, object]) -> dict[str, object]:
+    """The request that is kept, where it asks for what is wanted; else a new one, which is kept from now on."""
+    found = kept.read()
+    return found if found and {name: found.get(name) for name in wanted} == wanted else kept.write({**wanted, "id": new_id(), "epoch": this_day()})
 
 
 def nginx_user():
@@ -252,4 +284,4 @@ def password_fault(word):
     return None
 
 
-__all__ = ["ADMINS", "CHECKOUT", "EXAMPLES", "HERE", "NAME", "Team", "check_place", "fail", "new_password", "nginx_user", "password_fault", "path_of", "read"]
+__all__ = ["ADMINS", "CHECKOUT", "EXAMPLES", "HERE", "Kept", "NAME", "Team", "check_place", "fail", "kept_request", "new_password", "nginx_user", "password_fault", "path_of", "printed", "read", "this_day"]

@@ -11,7 +11,7 @@ import subprocess
 
 from team import EXAMPLES, fail, new_password, read
 
-PARTS = ("client", "code", "git", "index", "page", "proxy", "team")
+PARTS = ("client", "code", "git", "index", "pack", "page", "proxy", "team")
 OF_THE_DESK = ("accounts", "changes", "epochs", "groups", "projects", "git", "page")  # A project of such a name has its repository at /git/PROJECT.git alone.
 
 
@@ -106,8 +106,8 @@ def make_repository(team, project, source):
     own = team.settings
     settings = {"receive.procReceiveRefs": "refs", "transfer.hideRefs": "refs/desk", "transfer.fsckObjects": "true", "core.fsync": "all",
                 "receive.maxInputSize": str(own["push_megabytes"] << 20), "desk.project": project, "desk.url": f"http://127.0.0.1:{own['desk_port']}",
-                "desk.accounts": team.path("accounts.conf"), "desk.page": f"{team.address}/page/?change=", "desk.hints": team.path("hints.socket"), "desk.mails": team.path("mails"), "desk.seconds": "20", "receive.autogc": "false", "gc.auto": "0",
-                "core.packedGitWindowSize": "64m", "core.packedGitLimit": "512m", "core.bigFileThreshold": "64m"}
+                "desk.accounts": team.path("accounts.conf"), "desk.page": f"{team.address}/page/?change=", "desk.hints": team.path("hints.socket"), "desk.mails": team.path("mails"), "desk.seconds": "20", "desk.epoch": "day", "receive.autogc": "false", "gc.auto": "0",
+                "core.packedGitWindowSize": "64m", "core.packedGitLimit": "512m", "core.bigFileThreshold": "4m", "pack.threads": "1", "pack.windowMemory": "64m"}
     for name, value in settings.items():
         git("-C", place, "config", "--replace-all", name, value)
     hook, program = os.path.join(place, "hooks", "proc-receive"), team.path("examples", "git", "proc-receive")
@@ -120,14 +120,15 @@ def make_repository(team, project, source):
 def write_nginx(team):
     """What nginx reads: the example files, with this team's addresses, and the page. Files that others put into more.d stay."""
     own, examples = team.settings, team.path("examples")
-    words = {"127.0.0.1:8473": f"127.0.0.1:{own['desk_port']}", "127.0.0.1:8443": f"{'' if own['host'] else '127.0.0.1:'}{own['port']}"}
+    words = {"127.0.0.1:8473": f"127.0.0.1:{own['desk_port']}", "127.0.0.1:8443": f"{'' if own['host'] else '127.0.0.1:'}{own['port']}", "/srv/proxy": team.folder}
     conf = read(examples, "proxy", "nginx.conf")
     for usual, word in words.items():
         conf = conf.replace(usual, word)
     team.write("# Written anew at each start: lines of your own belong into files of more.d, whose names end with .conf and stay.\n" + conf, "nginx.conf")
-    words = {"FOLDER": team.folder, "BACKEND": os.path.join(git("--exec-path"), "git-http-backend"), "MEGABYTES": str(own["push_megabytes"]),
+    words = {"FOLDER": team.folder, "MEGABYTES": str(own["push_megabytes"]),
              "REPOSITORIES": "|".join(re.escape(project + ".git") for project in team.projects if project.split("/")[0] not in OF_THE_DESK) or "(?!)"}
-    for part, name, *place in (("team", "git.params"), ("team", "git.conf", "more.d"), ("team", "people.conf", "more.d"), ("code", "code.conf", "more.d"), ("index", "index.conf", "more.d"),
+    team.write_administrators()
+    for part, name, *place in (("proxy", "to_asked.conf"), ("proxy", "to_desk.conf"), ("team", "asked.conf", "asked.d"), ("team", "around_asked.conf", "http.d"), ("team", "git.params"), ("team", "git.conf", "more.d"), ("team", "people.conf", "more.d"), ("code", "code.conf", "more.d"), ("index", "index.conf", "more.d"),
                                ("index", "around.conf", "http.d")):
         text = read(examples, part, name, otherwise="")
         for usual, word in words.items():
@@ -142,7 +143,7 @@ def set_up(team, source):
     """All of it; whatever was stopped before goes on."""
     os.chmod(team.folder, 0o700)
     team.write(json.dumps(team.settings, indent=1) + "\n", "settings.json")
-    for part in ("git", "http.d", "log", "kept", "more.d", "page"):
+    for part in ("asked.d", "git", "http.d", "log", "kept", "more.d", "page"):
         os.makedirs(team.path(part), exist_ok=True)
     if os.geteuid() == 0:
         print("started as root: so git runs as root, and whatever runs as www-data here is as good as root")
