@@ -16,7 +16,7 @@ from collections.abc import Iterable, Mapping
 from paths import Entry, TooLarge, Trees, folder_in, look_alikes
 from repository import EMPTY_TREE, GitFailed, Piped, git, ran
 
-MOST_FOLDERS = 100_000  # that a merge reads
+MOST_FOLDERS = 100_000  # that are read, three for each folder that both sides changed
 MOST_MEMORY, MOST_SECONDS = 2 << 30, 20  # of git's, where it may merge within files
 REGULAR = (b"100644", b"100755")
 KINDS = {b"40000": b"tree", b"160000": b"commit"}
@@ -171,7 +171,7 @@ def merged_from(
     resolved: dict[bytes, Entry] = {}
     three = [tree_of(it) for it in (base, ours, theirs)]
     try:
-        with Trees(MOST_FOLDERS, environment) as trees, Piped(
+        with Trees(MOST_FOLDERS, environment, 3) as trees, Piped(
             "mktree", "-z", "--batch", environment=environment
         ) as writing:
             for _ in range(2):

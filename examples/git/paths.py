@@ -40,10 +40,10 @@ def folder_in(entry: Entry | None) -> bytes | None:
 
 
 class Trees:
-    """Trees of a repository, each asked for by its name; so many at most."""
+    """Trees of a repository, each asked for by its name: at most so many, of which there are so many for each folder that is looked at."""
 
-    def __init__(self, most: int = MOST_FOLDERS, environment: Mapping[str, str] | None = None) -> None:
-        self.git, self.most, self.count = Piped("cat-file", "--batch", environment=environment), most, 0
+    def __init__(self, most: int = MOST_FOLDERS, environment: Mapping[str, str] | None = None, of_each: int = 2) -> None:
+        self.git, self.most, self.of_each, self.count = Piped("cat-file", "--batch", environment=environment), most, of_each, 0
 
     def __enter__(self) -> "Trees":
         self.git.__enter__()
@@ -58,7 +58,7 @@ class Trees:
             return {}
         self.count += 1
         if self.count > self.most:
-            raise TooLarge(f"more than {self.most // 2} folders")
+            raise TooLarge(f"more than {self.most // self.of_each} folders")
         _, kind, size = (self.git.line(name + b"\n") + b" 0").split()[:3]
         if kind == b"missing":
             raise GitFailed(f"the repository doesn't have the folder {name.decode()}")
