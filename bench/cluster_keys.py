@@ -125,7 +125,8 @@ def too_much(started):
         until(lambda: is_answered(started), "the front is up")
         told = [raw(started, 0, "/accounts", large, {"Request-Id": f"m{at}"}, port=59) for at in range(4)]
         check([status for status, _ in told].count(429) >= 1 and told[0][0] == 400, "one who writes too much", [it[0] for it in told])
-        check("send the request again in" in next(text for status, text in told if status == 429), told)
+        refused = next(text for status, text in told if status == 429)
+        check(refused["not_taken"] == "TOO_MANY_REQUESTS" and 0 < refused["retry_after"] < 60, told)
         other = raw(started, 0, "/accounts", {"name": "n"}, {"Request-Id": "m9", "X-Account": "2"}, port=59)
         check(other[0] in (200, 403, 404, 409), "another account", other)
         until(lambda: raw(started, 0, "/accounts", {"name": "later"}, {"Request-Id": "m8"}, port=59)[0] == 200, "and later", seconds=60)

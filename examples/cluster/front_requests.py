@@ -74,8 +74,9 @@ def read(peer: socket.socket) -> bytes:
 
 
 def said(status: str, text: str, *fields: str) -> bytes:
-    """Returns an answer of the front's own, in words that are none of a desk's."""
-    head = [f"HTTP/1.1 {status}", "Content-Type: text/plain", f"Content-Length: {len(text)}"]
+    """Returns an answer of the front's own."""
+    kind = "application/json; charset=UTF-8" if text.startswith(")]}'") else "text/plain"
+    head = [f"HTTP/1.1 {status}", f"Content-Type: {kind}", f"Content-Length: {len(text)}"]
     return "\r\n".join([*head, *fields, "Connection: close", "", text]).encode()
 
 
