@@ -100,7 +100,8 @@ class Progress:
         had = {name: self.clock() - since for name, since in self.at_work.items()}
         minutes = round(self.guess.minutes(had))
         left = f"about {minutes} minute{'s' * (minutes != 1)} left" if minutes else "nearly done"
-        return f"{self.done} of {self.whole} crates, {left}"
+        kept = f" ({len(self.kept)} kept)" if self.kept else ""
+        return f"{self.done} of {self.whole} crates{kept}, {left}"
 
     def write(self, text: str, end: str = "\n") -> None:
         minutes, seconds = divmod(int(self.clock() - self.begun), 60)
@@ -124,5 +125,6 @@ class Progress:
                 self.guess.keep(name)
             else:
                 self.guess.end(name, took)
-            how = f"proved in {took:.0f} s" if is_proved else "NOT PROVED"
-            self.write(f"{name} {'kept' if name in self.kept else how}; {self.standing()}")
+            if name not in self.kept:
+                how = f"proved in {took:.0f} s" if is_proved else "NOT PROVED"
+                self.write(f"{name} {how}; {self.standing()}")
