@@ -53,7 +53,7 @@ def begin(world, n, session, numbers):
         told = subprocess.run([world.program, "apply", f"{n}.desk"], input=given, capture_output=True, text=True, check=False).stdout
         check(told == "".join(answer + "\n" for _, answer in session.lines), session.name, told)
     world.node(n, is_made=True)
-    until(lambda: is_served(world.port(f"front{n}")), "a front")
+    until(lambda: is_served(world.port(f"front{n}")) and is_served(world.port(f"desk{n}")), "a front and a desk")
 
 
 # What http.txt doesn't send: lines that end without a carriage return, words of an UPGRADE, and a position that a client makes up.

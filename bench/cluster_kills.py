@@ -1,6 +1,6 @@
 """Kills of fronts, feeders, desks and nodes of etcd at random, one cut off from the others, a full disk, a desk that says MEMORY, and a copy put in, while clients ask. A module of bench/cluster.
 
-At the end the tables of all desks are equal, also of one that was made of a copy and of one that was fed the whole log; each request acted once, and was told the same each time.
+Whole, also an older file under a desk's position, etcd put back under nodes that run, and two nodes that differ while the others are away: each is found out before anybody is told two things. At the end the tables of all desks are equal, also of one that was made of a copy and of one that was fed the whole log; each request acted once, and was told the same each time.
 """
 import collections
 import json
@@ -12,6 +12,7 @@ import threading
 import time
 
 from cluster_clients import Client, Told
+from cluster_faults import Faults
 from cluster_links import Links
 from cluster_world import BASE, LONG, MANAGE, PROJECT, Log, World, check, exchange, run, until
 from losing import NOT_TAKEN
@@ -63,7 +64,7 @@ class Kills:
 
     def __init__(self, world, links, said, seconds):
         self.world, self.links, self.random, self.counts, self.told, self.seconds = world, links, random.Random(said.seed), collections.Counter(), Told(), seconds
-        self.short = Between(world.port("desk2"), said.seed)
+        self.short, self.is_whole = Between(world.port("desk2"), said.seed), not said.smallest
         self.fronts, self.pause = [1, 2, 3], 0.6 if said.smallest else 1
         for n in self.fronts:
             world.node(n)
@@ -150,7 +151,14 @@ class Kills:
         for it in others:
             it.join()
         check(self.links.cut is None and self.counts["cut off"] and self.counts["MEMORY"] and self.counts["full disk"], "each was done", self.counts)
-        self.kill(2 * part)
+        faults = Faults(self)
+        if self.is_whole:
+            faults.prepare()
+        self.kill(part)
+        for fault in (faults.file_is_exchanged, faults.log_is_put_back, faults.two_differ) if self.is_whole else ():
+            fault()
+            self.kill(part / 6)
+        self.kill(part / 2)
 
     def end(self):
         """Lets all be answered."""

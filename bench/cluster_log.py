@@ -70,12 +70,13 @@ def ambiguous(address):
     """An append whose answer is lost is made again: then it stands there twice, and the place that is told is one of the two."""
     losing = Losing(address)
     log, head = Log([losing.address, address]), Log([address]).head()
-    log.tail, losing.loses = head, 1
+    log.name, log.tail, losing.loses = "", head, 1
     place = log.append([b"lost"])
     check(place == (head + 2, 1) and log.head() == head + 2, "an append that is made again", place, head)
     check([it.request for it in some_of(log, head, 2)] == [b"lost", b"lost"], "both are there")
     losing.is_silent = True
     read = Log([losing.address, address])
+    read.name = ""
     entries, found = read.read(head), []
     while len(found) < 3:
         found.append(next(entries))

@@ -1,5 +1,6 @@
 """The feeder's table of answers, each row with a stand-in that says just that: what it goes on after, what it tells again, and where it stands still. A module of bench/cluster."""
 import contextlib
+import hashlib
 import json
 import os
 import signal
@@ -8,8 +9,9 @@ import subprocess
 import sys
 
 from cluster_world import FRONT, SOON, Log, World, check, exchange, free_port, until
-from desk_answers import NEW, kept_in, subscribe, told
+from desk_answers import subscribe, told
 from etcd_log import key_of
+from position import NEW, kept_in
 
 STAND_IN = os.path.join(os.path.dirname(os.path.realpath(__file__)), "cluster_stand_in.py")
 
@@ -23,6 +25,7 @@ class Fed:
         self.desk = world.add("desk", sys.executable, STAND_IN, self.port, "says", "told", pause=0.1)
         self.words = [*SOON, "d.desk", "--port", self.port, "--name", "one", "--log", *world.addresses]
         self.feeder = world.add("feeder", *self.words)
+        until(lambda: self.log.get("name"), "the log's name")
 
     def script(self, name, *words):
         """What the stand-in says to a request from now on."""
@@ -33,7 +36,7 @@ class Fed:
 
     def append(self, *names):
         """The position of the last of these requests in the log."""
-        self.log.tail = self.log.head()
+        self.log.tail = 0
         first, some = self.log.append([f"POST /{name} HTTP/1.1\r\n\r\n{name}".encode() for name in names])
         return first + some - 1
 
@@ -151,16 +154,16 @@ def refuses_to_start(fed):
         write_kept({**good, **wrong})
         status = fed.feeder.status()
         check(status == (4 if "version" in wrong else 3) and word in fed.feeder.said().splitlines()[-1], wrong, status, fed.feeder.said()[-300:])
-    write_kept({**good, "position": last - 1, "sum": "other"})
+    write_kept(bare(last - 1, "other", good["log"]))
     fed.log.put(f"{key_of('check', last)}/other", good["sum"])
     fed.log.put("node/other", str(last))
     check(fed.feeder.status() == 3 and "differ from those of other" in fed.feeder.said().splitlines()[-1], fed.feeder.said()[-300:])
     fed.log.delete("node/other")
     fed.log.delete_to(last - 1)
     fed.log.delete("check/", "check0")
-    write_kept({**good, "position": 1})
+    write_kept(bare(1, "other", good["log"]))
     check(fed.feeder.status() == 3 and "put a copy of another node's desk here" in fed.feeder.said().splitlines()[-1], fed.feeder.said()[-300:])
-    write_kept(good)
+    write_kept(bare(last, good["sum"], good["log"]))
     fed.feeder.is_wanted = True
     fed.reaches(fed.append("y"))
 
@@ -184,6 +187,11 @@ def odd_positions(fed):
     write_kept(good)
     fed.feeder.is_wanted = True
     fed.reaches(fed.append("behind odd ones"))
+
+
+def bare(position, total, log):
+    """What a feeder of an earlier version kept: no entries to tell again."""
+    return {"position": position, "sum": total, "log": log, "version": 0, "since": 0}
 
 
 def write_kept(kept):
@@ -219,17 +227,32 @@ def gone_back(fed):
     front = fed.world.add("front", FRONT, "d.desk", "--port", fed.world.port("front"), "--desk", fed.port, "--log", *fed.log.addresses)
     until(lambda: exchange(fed.world.port("front"), "GET", "/", {"Log-Position": "0"}), "a front")
     fed.feeder.kill(signal.SIGSTOP)
+    before = {key: fed.log.get(key) for key in (key_of("log", last), key_of("log", last + 1), "last")}
     fed.log.delete(key_of("log", last), key_of("log", last + 2))
     fed.log.put("tail", str(last - 1))
-    check(exchange(fed.world.port("front"), "POST", "/", {}, b"z5") is None and "has lost what it had" in front.said(), "a front tells nothing", front.said())
-    front.end()
+    fed.log.put("last", sum_of(fed.log.get(key_of("log", last - 1))))
+    asked = {"X-Account": "1", "Request-Id": "z5"}
+    check(exchange(fed.world.port("front"), "POST", "/", asked, b"z5") is None and "has lost what it had" in front.said(), "a front tells nothing", front.said())
+    check(fed.log.head() == last - 1 and fed.log.first(last - 1) is None, "and appends nothing")
     fed.feeder.kill(signal.SIGCONT)
     for word in ("running", "started"):
         check(fed.feeder.status() == 3 and "has lost what it had" in fed.feeder.said().splitlines()[-1], word, fed.feeder.said()[-300:])
-    fed.log.tail = fed.log.head()
-    fed.log.append([b"lost"])
+    # Others append where it goes on, past what this desk has: the next entry tells of it.
+    fed.append("y1", "y2", "y3")
+    for word in ("started", "started again"):
+        check(fed.feeder.status() == 3 and "isn't the one" in fed.feeder.said().splitlines()[-1], word, fed.feeder.said()[-300:])
+    check(not fed.told("y3"), "told what doesn't follow", fed.told("y3"))
+    fed.log.delete(key_of("log", last), key_of("log", last + 9))
+    for key, text in before.items():
+        fed.log.put(key, text)
+    fed.log.put("tail", str(last + 1))
+    front.end()
     fed.feeder.is_wanted = True
     fed.reaches(fed.append("z4"))
+
+
+def sum_of(text):
+    return hashlib.sha256(text.encode()).hexdigest()
 
 
 def made_anew(fed):

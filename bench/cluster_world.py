@@ -24,6 +24,8 @@ FEEDER, FRONT, MANAGE = (os.path.join(EXAMPLE, name) for name in ("feeder", "fro
 # A feeder that looks about after a second without an entry, and not after five.
 SOON = [sys.executable, "-c", "import runpy, sys\nsys.path.insert(0, sys.argv[1])\nimport etcd_log\netcd_log.SILENCE = 1\ndel sys.argv[:2]\nrunpy.run_path(sys.argv[0], run_name='__main__')\n", EXAMPLE, FEEDER]
 LONG, ROOM = 240, 3 << 30
+# What clients of a test may write.
+ROOMY = ("--bytes", 10**12, "--bytes-a-second", 10**12)
 PROJECT = """[access]
 create = ["Registered-Users"]
 submit = ["Registered-Users"]
@@ -164,7 +166,7 @@ class World:
         self.add(f"desk{n}", self.program, "serve", f"{n}.desk", "--port", self.port(f"desk{n}"), "--count", 4294967295)
         self.feeder(n, **feeder)
         if has_front:
-            self.add(f"front{n}", FRONT, f"{n}.desk", "--port", self.port(f"front{n}"), "--desk", self.port(f"desk{n}"), "--log", *self.log_of(n))
+            self.add(f"front{n}", FRONT, f"{n}.desk", "--port", self.port(f"front{n}"), "--desk", self.port(f"desk{n}"), *ROOMY, "--log", *self.log_of(n))
 
     def feeder(self, n, *more):
         return self.add(f"feeder{n}", *self.feeder_words, f"{n}.desk", "--port", self.port(f"desk{n}"), "--name", f"node{n}", *more, "--log", *self.log_of(n))

@@ -4,6 +4,7 @@ import re
 import sys
 import threading
 import time
+from collections.abc import Callable
 
 TOP = os.path.dirname(os.path.dirname(os.path.realpath(__file__)))
 SECONDS = f"{TOP}/tools/crate_seconds.txt"
@@ -14,6 +15,8 @@ UNKNOWN, AT_LEAST = 180.0, 10.0
 
 def seconds_elsewhere(file: str = SECONDS) -> dict[str, float]:
     """Returns the seconds that each crate took on the machine where the table was made."""
+    if not os.path.exists(file):
+        return {}
     with open(file, encoding="utf-8") as lines:
         found = re.findall(r"^(\w+) +([0-9.]+)$", lines.read(), re.M)
     return {name: float(seconds) for name, seconds in found}
@@ -68,7 +71,7 @@ class Guess:
 class Progress:
     """Tells on standard error where a build is: a line a crate, and on a terminal a last line."""
 
-    def __init__(self, guess: Guess, clock: object = time.monotonic) -> None:
+    def __init__(self, guess: Guess, clock: Callable[[], float] = time.monotonic) -> None:
         self.guess, self.clock, self.begun = guess, clock, clock()
         self.at_work: dict[str, float] = {}
         self.kept: set[str] = set()
@@ -89,13 +92,16 @@ class Progress:
     def tick(self) -> None:
         while not self.ended.wait(1):
             with self.lock:
-                self.write(f"{self.standing()}; at work: {', '.join(sorted(self.at_work))}"[:140], "")
+                self.write(
+                    f"{self.standing()}; at work: {', '.join(sorted(self.at_work))}"[:140], ""
+                )
 
     def standing(self) -> str:
         had = {name: self.clock() - since for name, since in self.at_work.items()}
         minutes = round(self.guess.minutes(had))
         left = f"about {minutes} minute{'s' * (minutes != 1)} left" if minutes else "nearly done"
-        return f"{self.done} of {self.whole} crates, {left}"
+        kept = f" ({len(self.kept)} kept)" if self.kept else ""
+        return f"{self.done} of {self.whole} crates{kept}, {left}"
 
     def write(self, text: str, end: str = "\n") -> None:
         minutes, seconds = divmod(int(self.clock() - self.begun), 60)
@@ -119,5 +125,6 @@ class Progress:
                 self.guess.keep(name)
             else:
                 self.guess.end(name, took)
-            how = "kept" if name in self.kept else "proved" if is_proved else "NOT PROVED"
-            self.write(f"{name} {how}; {self.standing()}")
+            if name not in self.kept:
+                how = f"proved in {took:.0f} s" if is_proved else "NOT PROVED"
+                self.write(f"{name} {how}; {self.standing()}")

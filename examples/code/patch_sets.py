@@ -210,8 +210,8 @@ class PatchSets:
         first, second = sorted(numbers)
         differ = set(self.paths(*commits, *moved))
         quoted = self.git("diff-tree", "-r", "--name-only", "--no-renames", "--end-of-options", *parents, "--", *moved).splitlines()
-        return {head_of(name): f"note: the branch has changed this file between patch sets {first} and {second}, so both changes are shown" if path in differ
-                else f"note: patch set {second} takes back what the branch has changed here since patch set {first}: compare it with its parent"
+        return {head_of(name): f"note: the parents of patch sets {first} and {second} differ in this file as well, so both changes are shown" if path in differ
+                else f"note: patch set {second} takes back what its parent has got here since patch set {first}: compare it with its parent"
                 for name, path in zip(quoted, moved)}
 
     def passed_over(self, branch):

@@ -110,8 +110,8 @@ def check_heads(names: str) -> None:
             raise Refused(f"commit {name[:10]} has more than {MOST_SAID >> 10} KiB, without its files", "shorten its message")
     with Piped("cat-file", "--batch") as reading:
         for name in names.split():
-            size = int(reading.line(name.encode() + b"\n").split()[2])
-            head = reading.told.read(size + 1).partition(b"\n\n")[0]
+            bytes_told = int(reading.line(name.encode() + b"\n").split()[2])
+            head = reading.told.read(bytes_told + 1).partition(b"\n\n")[0]
             words = [line.partition(b" ")[0] for line in head.split(b"\n")]
             for word in ONCE:
                 if words.count(word) > 1:

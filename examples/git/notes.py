@@ -1,4 +1,8 @@
-"""What the hook notes of each Change-Id footer in a branch, in the folder desk/changes of the repository. A module."""
+"""What the hook notes of each Change-Id footer in a branch, in the folder desk/changes of the
+repository.
+
+A module.
+"""
 import json
 import os
 import urllib.parse
@@ -17,7 +21,7 @@ def file_of(branch: str, change_id: str) -> str:
 
 def noted(branch: str, change_id: str) -> dict[str, Any]:
     """What is noted of a footer: its `change`, and how many of its requests were `refused`."""
-    return noted_in(file_of(branch, change_id), {})
+    return dict(noted_in(file_of(branch, change_id), {}))
 
 
 def note(branch: str, change_id: str, **what: int) -> None:
@@ -25,6 +29,12 @@ def note(branch: str, change_id: str, **what: int) -> None:
 
 
 def check_notes() -> None:
-    """Refuses a push where the notes are lost: it would make changes anew that are there. Who calls it holds the lock."""
+    """Refuses a push where the notes are lost: it would make changes anew that are there.
+
+    Who calls it holds the lock.
+    """
     if not os.path.isdir(PLACE) and git("for-each-ref", "--count=1", "refs/changes"):
-        raise Refused("the repository's folder desk/changes is lost, which says which change a commit is of", "an administrator makes it anew by examples/git/note-changes")
+        raise Refused(
+            "the repository's folder desk/changes is lost, which says which change a commit is of",
+            "an administrator makes it anew by examples/git/note-changes",
+        )

@@ -4,11 +4,13 @@ A few trees, each of which names the next one ten times, are a push of some hund
 first. So the trees are read here one by one, and reading ends with one path, or one folder, too many.
 """
 import unicodedata
-from collections.abc import Iterable
+from collections.abc import Iterable, Iterator, Mapping
 
-from repository import GitFailed, Piped
+from repository import Commit, GitFailed, Piped
 
 MODES, MOST_FOLDERS, MOST_BYTES = (b"100644", b"100755", b"120000", b"160000", b"40000"), 10_000, 32 << 20  # modes as git writes them; it reads many more
+
+Entry = tuple[bytes, bytes]  # the mode and the object of an entry of a folder
 
 
 class TooLarge(Exception):
@@ -32,31 +34,31 @@ def look_alikes(names: Iterable[bytes]) -> dict[bytes, bytes]:
     return {one: other for name, kept in pairs if name != kept for one, other in ((name, kept), (kept, name))}
 
 
-def folder_in(entry):
+def folder_in(entry: Entry | None) -> bytes | None:
     """The tree of an entry that git takes for a folder, whatever else its mode says; of another one, or of none, None."""
     return entry[1] if entry and int(entry[0], 8) & 0o170000 == 0o040000 else None
 
 
 class Trees:
-    """Trees of a repository, each asked for by its name; so many at most."""
+    """Trees of a repository, each asked for by its name: at most so many, of which there are so many for each folder that is looked at."""
 
-    def __init__(self, most=MOST_FOLDERS, environment=None):
-        self.git, self.most, self.count = Piped("cat-file", "--batch", environment=environment), most, 0
+    def __init__(self, most: int = MOST_FOLDERS, environment: Mapping[str, str] | None = None, of_each: int = 2) -> None:
+        self.git, self.most, self.of_each, self.count = Piped("cat-file", "--batch", environment=environment), most, of_each, 0
 
-    def __enter__(self):
+    def __enter__(self) -> "Trees":
         self.git.__enter__()
         return self
 
-    def __exit__(self, *_):
+    def __exit__(self, *_: object) -> None:
         self.git.__exit__()
 
-    def entries(self, name):
+    def entries(self, name: bytes | None) -> dict[bytes, Entry]:
         """Of each entry of a tree its name, with its mode and its object; None is a tree without any."""
         if name is None:
             return {}
         self.count += 1
         if self.count > self.most:
-            raise TooLarge(f"more than {self.most // 2} folders")
+            raise TooLarge(f"more than {self.most // self.of_each} folders")
         _, kind, size = (self.git.line(name + b"\n") + b" 0").split()[:3]
         if kind == b"missing":
             raise GitFailed(f"the repository doesn't have the folder {name.decode()}")
@@ -64,7 +66,8 @@ class Trees:
             raise TooLarge(f"a folder that is a {kind.decode()}")
         if int(size) > MOST_BYTES:
             raise TooLarge(f"a folder of more than {MOST_BYTES >> 20} MB")
-        told, found, at = self.git.told.read(int(size) + 1)[:-1], {}, 0
+        found: dict[bytes, Entry] = {}
+        told, at = self.git.told.read(int(size) + 1)[:-1], 0
         while at < len(told):
             end = told.index(b"\0", at)
             mode, path = told[at:end].split(b" ", 1)
@@ -74,7 +77,7 @@ class Trees:
             at = end + 21
         return found
 
-    def paths(self, old, new, most_bytes, before=b""):
+    def paths(self, old: bytes | None, new: bytes | None, most_bytes: int, before: bytes = b"") -> Iterator[bytes]:
         """The paths that differ between two trees, of which either may be none."""
         if len(before) > most_bytes:
             raise TooLarge(f"a path of more than {most_bytes} bytes")
@@ -93,10 +96,10 @@ class Trees:
             if any(it and not folder for it, folder in zip((was, is_now), below)):
                 yield path
             if any(below):
-                yield from self.paths(*below, most_bytes, path + b"/")
+                yield from self.paths(below[0], below[1], most_bytes, path + b"/")
 
 
-def paths_of(commit, parent_tree, most_paths, most_bytes):
+def paths_of(commit: Commit, parent_tree: str, most_paths: int, most_bytes: int) -> list[str]:
     """The paths that a commit changes beside its parent, sorted. Raises TooLarge where there are too many, or one has too many bytes."""
     found = []
     with Trees() as trees:

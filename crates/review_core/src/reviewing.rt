@@ -4,7 +4,8 @@ ghost use Rattle.std.specs.Prelude.{◌≡◌, ◌==◌, ◌&&◌, ◌||◌, not
 ghost use Rattle.review_names.specs.Forms.{is_within, most_patches};
 ghost use Rattle.review_words.specs.declared.command.ChangeCommand.TheVariants.{Review as ReviewOf};
 ghost use Rattle.review_core_rules.specs.Change.{after_plain, is_open, kept_or, why_commented, why_replied};
-ghost use Rattle.review_core_rules.specs.{EditedChanges.Makes, EditedRows.edited_account, Seen.seen, Sound.fits};
+ghost use Rattle.review_core_rules.specs.EditedChanges.{Makes, after_edits};
+ghost use Rattle.review_core_rules.specs.{EditedRows.edited_account, Seen.seen, Sound.fits};
 
 use crate::file::ChangeFile;
 use crate::roles::{current_patch, who_for};
@@ -81,8 +82,31 @@ impl<'r> ChangeFile<'r> {
         requires { fits (ReviewOf review.now) (seen self.now.rows.now) ≡ true }
         ensures { IfOk result (Makes self.now.rows.now (after_plain (ReviewOf review.now) caller request (seen self.now.rows.now))) }
     {
-        stays_sound();
         let mut edited = begin_edits(alloc, self.rows, self.rows.header.state, request)?;
+        match self.add_review(alloc, &mut edited, review, caller, request) {
+            Ok(()) => Ok(edited),
+            Err(error) => {
+                drop(edited);
+                Err(error)
+            }
+        }
+    }
+
+    // Adds a review to a change that is begun.
+    fn add_review(
+        &self,
+        alloc: Global,
+        edited: &mut EditedChange<'r>,
+        review: &Review,
+        caller: AccountNo,
+        request: u64,
+    ) -> Result<(), AllocError>
+        requires fitting { fits (ReviewOf review.now) (seen self.now.rows.now) ≡ true }
+        requires over { edited.old.rows ≡ self.now.rows }
+        requires same { after_edits edited.old ≡ record (seen self.now.rows.now) { updated = request } }
+        ensures { OnOk result (Makes self.now.rows.now (after_plain (ReviewOf review.now) caller request (seen self.now.rows.now)) edited.new) }
+    {
+        stays_sound();
         let who = who_for(&self.rows.header, &self.rows.patches, caller);
         let patch = reviewed_patch(&self.rows.patches, review);
         let labels = review.labels.as_slice();
@@ -109,6 +133,6 @@ impl<'r> ChangeFile<'r> {
             request,
         )?;
         edited.comments = new;
-        Ok(edited)
+        Ok(())
     }
 }

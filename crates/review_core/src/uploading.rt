@@ -1,10 +1,11 @@
 //! A new patch set: its votes, and who is called.
 ghost use Rattle.std.specs.Cmp.Lexicographic.{pointwise};
-ghost use Rattle.std.specs.Prelude.{◌≡◌, ◌+◌, ◌==◌, [], pos, true, length, IfOk};
+ghost use Rattle.std.specs.Prelude.{◌≡◌, ◌+◌, ◌==◌, [], pos, true, length, IfOk, OnOk};
 ghost use Rattle.review_names.specs.Forms.{is_within, most_patches};
 ghost use Rattle.review_words.specs.declared.command.ChangeCommand.TheVariants.{Upload};
 ghost use Rattle.review_core_rules.specs.Change.{after, carried, copying, is_lost, last_paths};
-ghost use Rattle.review_core_rules.specs.{EditedChanges.Makes, Seen.seen, Sound.fits, Votes.voted};
+ghost use Rattle.review_core_rules.specs.EditedChanges.{IsUnedited, Makes, after_edits};
+ghost use Rattle.review_core_rules.specs.{Seen.seen, Sound.fits, Votes.voted};
 ghost use Rattle.review_core_tables.specs.Copies.{AreMany, GroupTable, group_list, with_groups};
 
 use crate::file::ChangeFile;
@@ -107,6 +108,35 @@ impl<'r> ChangeFile<'r> {
         ensures copied { IfOk result (λ r. AreMany (λ l u. voted (carried (copying (record { file = file.now; groups = group_list groups.now }) (Upload patch) caller (seen self.now.rows.now)) (seen self.now.rows.now) l u)) r.1.copied) }
         ensures outdated { IfOk result (λ r. AreMany (λ l u. is_lost (copying (record { file = file.now; groups = group_list groups.now }) (Upload patch) caller (seen self.now.rows.now)) (seen self.now.rows.now) u l) r.1.outdated) }
     {
+        let mut edited = begin_edits(alloc, self.rows, self.rows.header.state, request)?;
+        match self.add_patch_set(alloc, &mut edited, patch, caller, file, groups, request) {
+            Ok(counts) => Ok((edited, counts)),
+            Err(error) => {
+                drop(edited);
+                Err(error)
+            }
+        }
+    }
+
+    // Adds a patch set to a change that is begun.
+    fn add_patch_set(
+        &self,
+        alloc: Global,
+        edited: &mut EditedChange<'r>,
+        patch: NewPatch,
+        caller: AccountNo,
+        file: &ProjectFile,
+        groups: &GroupTables,
+        request: u64,
+    ) -> Result<Copied, AllocError>
+        requires fitting { fits (Upload patch) (seen self.now.rows.now) ≡ true }
+        requires over { edited.old.rows ≡ self.now.rows }
+        requires unedited { IsUnedited self.now.rows.now edited.old }
+        requires same { after_edits edited.old ≡ record (seen self.now.rows.now) { updated = request } }
+        ensures change { OnOk result (Makes self.now.rows.now (after (record { file = file.now; groups = group_list groups.now }) (Upload patch) caller request (seen self.now.rows.now)) edited.new) }
+        ensures copied { IfOk result (λ r. AreMany (λ l u. voted (carried (copying (record { file = file.now; groups = group_list groups.now }) (Upload patch) caller (seen self.now.rows.now)) (seen self.now.rows.now) l u)) r.copied) }
+        ensures outdated { IfOk result (λ r. AreMany (λ l u. is_lost (copying (record { file = file.now; groups = group_list groups.now }) (Upload patch) caller (seen self.now.rows.now)) (seen self.now.rows.now) u l) r.outdated) }
+    {
         stays_sound();
         let now = current_patch(&self.rows.patches);
         let next = next_patch(now);
@@ -118,7 +148,6 @@ impl<'r> ChangeFile<'r> {
             copied: copied.len(),
             outdated: lost.len(),
         };
-        let mut edited = begin_edits(alloc, self.rows, self.rows.header.state, request)?;
         put_all(&mut edited.votes, copied)?;
         edited.patches.push(sent_by(patch, caller))?;
         let who = Who {
@@ -135,6 +164,6 @@ impl<'r> ChangeFile<'r> {
         };
         let accounts = callable(alloc, &edited.roles, &who)?;
         call_all(alloc, &mut edited.attention, &accounts, &rule, request)?;
-        Ok((edited, counts))
+        Ok(counts)
     }
 }

@@ -89,22 +89,27 @@ struct Conditions<'f> {
     ghost compiled: { ∥ AreConditions file.now.labels list.items ∥₁ },
 }
 
-fn all_compiled(alloc: Global, labels: &[Label]) -> Result<Vec<Condition<'_>>, AllocError>
-    ensures { IfOk result (λ v. AreConditions labels.now v.items) }
+fn compile_all<'f>(
+    alloc: Global,
+    list: &mut Vec<Condition<'f>>,
+    labels: &'f [Label],
+) -> Result<(), AllocError>
+    requires { list.old.items ≡ [] }
+    ensures { OnOk result (AreConditions labels.now list.new.items) }
 {
-    let mut list = Vec::new(alloc);
     for label in labels {
         let condition = compiled(alloc, label)?;
         list.push(condition)?;
     }
-    Ok(list)
+    Ok(())
 }
 
 fn conditions_of(alloc: Global, file: &ProjectFile) -> Result<Conditions<'_>, AllocError>
     ensures file { IfOk result (λ c. c.file.now ≡ file.now) }
     ensures list { IfOk result (λ c. AreConditions file.now.labels c.list.items) }
 {
-    let list = all_compiled(alloc, file.labels())?;
+    let mut list = Vec::new(alloc);
+    compile_all(alloc, &mut list, file.labels())?;
     Ok(Conditions { file, list })
 }
 
@@ -187,16 +192,34 @@ fn part_one(
         return Ok(());
     }
     if is_copied(alloc, conditions, facts, groups, key, vote.get())? {
-        let label = key.label.copy()?;
-        let copy = VoteKey {
-            patch: next,
-            label,
-            account: key.account,
-        };
-        parted.copied.push((copy, vote))?;
-        return Ok(());
+        push_copied(&mut parted.copied, key, vote, next)
+    } else {
+        push_lost(&mut parted.lost, key)
     }
-    parted.lost.push(Key::copy(key)?)?;
+}
+
+fn push_copied(
+    copied: &mut Vec<(VoteKey, Vote)>,
+    key: &VoteKey,
+    vote: Vote,
+    next: PatchNo,
+) -> Result<(), AllocError>
+    ensures { OnOk result (copied.new.items ≡ copied.old.items ++ (record { patch = next; label = key.now.label; account = key.now.account }, vote) ∷ []) }
+{
+    let copy = VoteKey {
+        patch: next,
+        label: key.label.copy()?,
+        account: key.account,
+    };
+    copied.push((copy, vote))?;
+    Ok(())
+}
+
+fn push_lost(lost: &mut Vec<VoteKey>, key: &VoteKey) -> Result<(), AllocError>
+    ensures { OnOk result (lost.new.items ≡ lost.old.items ++ key.now ∷ []) }
+{
+    let key = Key::copy(key)?;
+    lost.push(key)?;
     Ok(())
 }
 
@@ -248,5 +271,8 @@ pub fn part_votes(
     let rows = votes.rows(alloc)?;
     let conditions = conditions_of(alloc, file)?;
     let mut facts = facts;
-    part(alloc, &conditions, &mut facts, groups, &rows, patch, next)
+    let parted = part(alloc, &conditions, &mut facts, groups, &rows, patch, next);
+    drop(conditions);
+    drop(facts);
+    parted
 }

@@ -206,7 +206,9 @@ fn do_task<R: Read, W: Write, C: Connections, N: Notices, S: Shelf, O: Origin, D
         Task::Serve { count } => match PathTable::new(alloc) {
             Ok(paths) => {
                 let connections = &mut ends.connections;
-                serve_outcome(serve_connections(alloc, &paths, connections, *count, shelf, rules))
+                let served = serve_connections(alloc, &paths, connections, *count, shelf, rules);
+                drop(paths);
+                serve_outcome(served)
             }
             Err(_) => Err(ProgramFault::Memory),
         },

@@ -85,6 +85,7 @@ pub fn serve_request<R: Read, W: Write, S: Shelf, D: Rules>(
     match read_request(alloc, paths, reader) {
         Ok(delivery) => {
             let reply = deliver(alloc, shelf, rules, &delivery);
+            drop(delivery);
             tell(alloc, writer, Ok(reply))
         }
         Err(RequestFault::Http(fault)) => tell(alloc, writer, Err(fault)),

@@ -115,7 +115,9 @@ fn answer<S: Shelf, D: Rules>(
         }
         Asked::Asks(delivery) => {
             let reply = deliver(alloc, shelf, rules, delivery);
-            tell(alloc, output, &reply)
+            let told = tell(alloc, output, &reply);
+            drop(reply);
+            told
         }
     }
 }
@@ -133,7 +135,9 @@ fn answer_owned<S: Shelf, D: Rules>(
         × IfOk result (λ outcome. (output.new.waiting.items ≡ output.old.waiting.items ++ answered asked replies (answers [])) × (is_complete outcome ≡ is_done asked replies (all_done []))) }
     ensures kept { OnErr result (output.new.waiting.items ≡ output.old.waiting.items) }
 {
-    answer(alloc, shelf, rules, output, &asked)
+    let outcome = answer(alloc, shelf, rules, output, &asked);
+    drop(asked);
+    outcome
 }
 
 /// What the next line asks for, or none where the input has ended.

@@ -10,10 +10,12 @@ ghost use Rattle.review_machine_rows.specs.declared.rows.Want.TheVariants as wan
 
 use review_file::ProjectFile;
 use review_file_lines::FileMemo;
-use review_machine_accounts::{close_epoch, create_account, put_group, record_base, refused};
+use review_machine_accounts::{
+    close_epoch, create_account, is_account, put_group, record_base, refused,
+};
 use review_machine_changes::{create_change, on_change};
 use review_machine_needs::put_project;
-use review_machine_rows::{Delta, Rows, Want};
+use review_machine_rows::{Delta, Rows};
 use review_machine_submits::submit;
 use review_words::{AccountNo, Command, Epoch, NotTaken, Refusal, Reply};
 use std::alloc::Global;
@@ -42,7 +44,7 @@ pub fn decide(
     ensures raises { IfOk result (λ r. is_above r.0.least_epoch (number_of (known rows.now want.LeastEpoch)) ≡ true) }
     ensures once { IfOk result (λ r. NamesEachOnce r.0) }
 {
-    if !rows.is_there(&Want::Account(caller)) {
+    if !is_account(rows, caller) {
         return Ok(refused(alloc, Refusal::UnknownCaller));
     }
     match command {

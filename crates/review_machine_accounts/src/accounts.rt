@@ -7,14 +7,14 @@ ghost use Rattle.review_words.specs.declared.command.Command.TheVariants.{Create
 ghost use Rattle.review_words.specs.declared.reply.NotTaken.TheVariants.{Memory};
 ghost use Rattle.review_machine_rows.specs.Answer.{checks, first_refusal};
 ghost use Rattle.review_machine_rows.specs.{Changes.Reading, Decisions.NamesEachOnce, Desks.facts_in, Files.File};
-ghost use Rattle.review_machine_rows.specs.Known.{known, is_there, members_of};
+ghost use Rattle.review_machine_rows.specs.Known.{known, holder_of, is_there, members_of, number_of};
 ghost use Rattle.review_machine_rows.specs.{Limits.most_accounts, Rows.HasNoEffect, Rows.member_cmp, Steps.OfCommand};
 ghost use Rattle.review_machine_rows.specs.View.{AreEnough, IsDecided};
 ghost use Rattle.review_machine_accounts.specs.Decisions.{IsDelta, no_edits};
 ghost use Rattle.review_machine_accounts.specs.inner.Words.{added, dropped, member_of};
 ghost use Rattle.review_machine_rows.specs.declared.rows.Want.TheVariants as want;
 
-use crate::callers::is_admin;
+use crate::callers::{is_account, is_admin};
 use crate::deltas::{nothing, refused};
 use review_machine_rows::{Delta, MemberKey, Rows, Want};
 use review_table::{Key, RowEdit, Table};
@@ -40,7 +40,7 @@ pub fn create_account(
     if let Some(refusal) = refusal {
         return Ok(refused(alloc, refusal));
     }
-    let number = next_account(rows.number(&Want::LastAccount));
+    let number = next_account(last_account(rows));
     let delta = account_delta(alloc, number, name)?;
     Ok((delta, Reply::Done(Answer::Account(number))))
 }
@@ -57,13 +57,33 @@ fn account_refusal(
     if !is_admin(alloc, rows, caller)? {
         return Ok(Some(Refusal::NotAdmin));
     }
-    if rows.has_holder(&Want::AccountNamed(name.copy()?)) {
+    if is_taken(rows, name)? {
         return Ok(Some(Refusal::NameTaken));
     }
-    if rows.number(&Want::LastAccount) >= 1_000_000 {
+    if last_account(rows) >= 1_000_000 {
         return Ok(Some(Refusal::Limit));
     }
     Ok(None)
+}
+
+// Whether an account has a name.
+fn is_taken(rows: &Rows, name: &AccountName) -> Result<bool, AllocError>
+    ensures { IfOk result (λ b. b ≡ is_some (holder_of (known rows.now (want.AccountNamed name.now)))) }
+{
+    let want = Want::AccountNamed(name.copy()?);
+    let is = rows.has_holder(&want);
+    drop(want);
+    Ok(is)
+}
+
+// The greatest number of an account.
+fn last_account(rows: &Rows) -> u64
+    ensures { result ≡ number_of (known rows.now want.LastAccount) }
+{
+    let want = Want::LastAccount;
+    let last = rows.number(&want);
+    drop(want);
+    last
 }
 
 // The account after the last one.
@@ -86,11 +106,14 @@ fn account_delta(alloc: Global, number: AccountNo, name: &AccountName) -> Result
     ensures once { IfOk result NamesEachOnce }
 {
     let name = name.copy()?;
+    let accounts = vec![in alloc;
+        RowEdit {
+            key: number,
+            row: Some(name),
+        },
+    ]?;
     let mut delta = nothing(alloc);
-    delta.accounts.push(RowEdit {
-        key: number,
-        row: Some(name),
-    })?;
+    delta.accounts = accounts;
     Ok(delta)
 }
 
@@ -114,8 +137,9 @@ pub fn put_group(
     if let Some(refusal) = refusal {
         return Ok(refused(alloc, refusal));
     }
+    let changes = member_changes(alloc, rows, group, members)?;
     let mut delta = nothing(alloc);
-    delta.members = member_changes(alloc, rows, group, members)?;
+    delta.members = changes;
     Ok((delta, Reply::Done(Answer::Nothing)))
 }
 
@@ -147,7 +171,7 @@ fn have_accounts(rows: &Rows, members: &Members) -> bool
     members
         .as_slice()
         .iter()
-        .all(|number| rows.is_there(&Want::Account(*number)))
+        .all(|number| is_account(rows, *number))
 }
 
 // The rows that make these the members of a group: those that aren't there yet are put, those that are to leave taken away.

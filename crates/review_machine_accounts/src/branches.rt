@@ -39,7 +39,9 @@ pub fn record_base(
     if let Some(refusal) = refusal {
         return Ok(refused(alloc, refusal));
     }
-    let last = rows.number(&Want::LastPlace(branch_of(project, branch)?));
+    let want = Want::LastPlace(branch_of(project, branch)?);
+    let last = rows.number(&want);
+    drop(want);
     let place = last.saturating_add(1);
     let base = base_of(project, branch, commit)?;
     let mut delta = nothing(alloc);

@@ -15,11 +15,23 @@ use std::alloc::{AllocError, Global};
 pub fn is_admin(alloc: Global, rows: &Rows, caller: AccountNo) -> Result<bool, AllocError>
     ensures { IfOk result (λ b. b ≡ is_so (known rows.now (Member (record { group = administrators; account = caller })))) }
 {
-    let key = MemberKey {
+    let want = Want::Member(MemberKey {
         group: administrators(alloc)?,
         account: caller,
-    };
-    Ok(rows.is_so(&Want::Member(key)))
+    });
+    let is = rows.is_so(&want);
+    drop(want);
+    Ok(is)
+}
+
+/// Whether an account is known to be there.
+pub fn is_account(rows: &Rows, account: AccountNo) -> bool
+    ensures { result ≡ is_there (known rows.now (Account account)) }
+{
+    let want = Want::Account(account);
+    let is = rows.is_there(&want);
+    drop(want);
+    is
 }
 
 /// Whether who asks a question is an account. Where it is none, the question is refused for an unknown caller, whatever it asks.
@@ -28,5 +40,5 @@ pub fn is_asker(rows: &Rows, caller: AccountNo) -> bool
     ensures told { (reading : Reading) (file : Option File) (h : List Entry) (query : Query) → AreEnough reading h caller (OfQuery query) file rows.now → result ≡ is_account h caller }
     ensures refused { result ≡ false → (reading : Reading) (file : Option File) (h : List Entry) (query : Query) → AreEnough reading h caller (OfQuery query) file rows.now → IsQueryAnswerBy reading h caller query (Refused UnknownCaller) }
 {
-    rows.is_there(&Want::Account(caller))
+    is_account(rows, caller)
 }

@@ -4,7 +4,6 @@ ghost use Rattle.review_machine_rows.specs.Desks.{known_in};
 
 use crate::keys::base_of;
 use review_machine_rows::{Rows, Want};
-use review_table::Key;
 use review_words::{BranchName, CommitName, ProjectName};
 use std::alloc::AllocError;
 
@@ -17,7 +16,14 @@ pub fn is_known(
 ) -> Result<bool, AllocError>
     ensures { IfOk result (λ b. b ≡ known_in rows.now project.now branch.now commit.now) }
 {
-    let key = base_of(project, branch, commit)?;
-    let same = key.copy()?;
-    Ok(rows.is_so(&Want::Base(key)) || rows.has_holder(&Want::ChangeOf(same)))
+    let base = Want::Base(base_of(project, branch, commit)?);
+    let is_base = rows.is_so(&base);
+    drop(base);
+    if is_base {
+        return Ok(true);
+    }
+    let sent = Want::ChangeOf(base_of(project, branch, commit)?);
+    let is_sent = rows.has_holder(&sent);
+    drop(sent);
+    Ok(is_sent)
 }

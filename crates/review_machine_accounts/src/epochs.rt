@@ -40,7 +40,10 @@ pub fn close_epoch(
     if least.get() > epoch.get() {
         return Ok(refused(alloc, Refusal::EpochAhead));
     }
-    if u64::from(least.get()) <= rows.number(&Want::LeastEpoch) {
+    let want = Want::LeastEpoch;
+    let open = rows.number(&want);
+    drop(want);
+    if u64::from(least.get()) <= open {
         return Ok(refused(alloc, Refusal::SameState));
     }
     let mut delta = nothing(alloc);

@@ -21,7 +21,7 @@ pub mod projects;
 
 pub use accounts::{create_account, put_group};
 pub use branches::record_base;
-pub use callers::{is_admin, is_asker};
+pub use callers::{is_account, is_admin, is_asker};
 pub use commits::is_known;
 pub use deltas::{nothing, refused};
 pub use epochs::close_epoch;

@@ -12,16 +12,20 @@ use std::alloc::AllocError;
 pub fn is_project(rows: &Rows, project: &ProjectName) -> Result<bool, AllocError>
     ensures { IfOk result (λ b. b ≡ is_so (known rows.now (want.Project project.now))) }
 {
-    let project = project.copy()?;
-    Ok(rows.is_so(&Want::Project(project)))
+    let want = Want::Project(project.copy()?);
+    let is = rows.is_so(&want);
+    drop(want);
+    Ok(is)
 }
 
 /// Whether there is known to be room for one more base of a project.
 pub fn has_room(rows: &Rows, project: &ProjectName) -> Result<bool, AllocError>
     ensures { IfOk result (λ b. b ≡ is_so (known rows.now (want.Room (counted.BasesOf project.now)))) }
 {
-    let project = project.copy()?;
-    Ok(rows.is_so(&Want::Room(Counted::BasesOf(project))))
+    let want = Want::Room(Counted::BasesOf(project.copy()?));
+    let is = rows.is_so(&want);
+    drop(want);
+    Ok(is)
 }
 
 /// Whether a request on a change is judged by the file of its project.

@@ -1,6 +1,6 @@
 //! Changes and patch sets that are copied.
 ghost use Rattle.std.specs.{List.Sorted.IsStrictlySortedBy, Map.keys_of, Ordering.nat_cmp};
-ghost use Rattle.std.specs.Prelude.{◌≡◌, ℕ, IfOk};
+ghost use Rattle.std.specs.Prelude.{◌≡◌, ◌++◌, ◌∷◌, [], ℕ, IfOk, OnOk};
 ghost use Rattle.review_table.specs.Rows.{row_in, rows_of};
 ghost use Rattle.review_core_rules.specs.{Seen.vote_cmp, declared.rows.VoteKey.VoteKey};
 
@@ -129,14 +129,21 @@ fn copied_rows<K: Key, V: Copied>(
     let rows = table.rows(alloc)?;
     let mut copies = Vec::with_capacity(alloc, rows.len())?;
     for (key, row) in rows {
-        let copy = copied_row(alloc, key, row)?;
-        copies.push(copy)?;
+        push_copy(alloc, &mut copies, key, row)?;
     }
     Ok(copies)
 }
 
-fn copied_row<K: Key, V: Copied>(alloc: Global, key: &K, row: &V) -> Result<(K, V), AllocError>
-    ensures { IfOk result (λ copy. copy ≡ (key.now, row.now)) }
+fn push_copy<K: Key, V: Copied>(
+    alloc: Global,
+    copies: &mut Vec<(K, V)>,
+    key: &K,
+    row: &V,
+) -> Result<(), AllocError>
+    ensures { OnOk result (copies.new.items ≡ copies.old.items ++ (key.now, row.now) ∷ []) }
 {
-    Ok((key.copy()?, row.copied(alloc)?))
+    let key = key.copy()?;
+    let row = row.copied(alloc)?;
+    copies.push((key, row))?;
+    Ok(())
 }

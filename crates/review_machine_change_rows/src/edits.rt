@@ -1,16 +1,19 @@
 //! What turns one change into another, row by row.
-ghost use Rattle.std.specs.Prelude.{◌≡◌, ◌+◌, ◌≤◌, IfOk, None, length};
+ghost use Rattle.std.specs.Ordering.{nat_cmp};
+ghost use Rattle.std.specs.Prelude.{◌≡◌, ◌+◌, ◌≤◌, ℕ, IfOk, None, length};
 ghost use Rattle.review_names.specs.Forms.{most_comments, most_patches};
-ghost use Rattle.review_table.specs.Rows.{after_row_edit};
-ghost use Rattle.review_core_rules.specs.EditedChanges.{IsBare, after_edits};
-ghost use Rattle.review_core_rules.specs.{Parts.Part, Parts.part_row, Seen.seen, Sound.IsSound};
+ghost use Rattle.review_table.specs.Rows.{NamesOnce, after_row_edit, place_at, row_edit_of};
+ghost use Rattle.review_core_rules.specs.{EditedChanges.IsBare, EditedChanges.after_edits, Parts.Part, Parts.part_row};
+ghost use Rattle.review_core_rules.specs.{Seen.seen, Seen.vote_cmp, Sound.IsSound, declared.rows.VoteKey.VoteKey};
 ghost use Rattle.review_machine_rows.specs.{Decisions.NamesRowsOnce, Rows.part_change};
 ghost use Rattle.review_machine_change_rows.specs.Edits.{HasNoted, puts_after};
 
-use review_core_rules::{ChangeRows, Comment, EditedChange, PatchRow};
+use review_core_rules::{
+    AttentionEntry, ChangeRows, Comment, EditedChange, PatchRow, Vote, VoteKey,
+};
 use review_machine_rows::ChangeEdit;
-use review_table::RowEdit;
-use review_words::{ChangeNo, CommentNo, PatchNo};
+use review_table::{Edited, RowEdit};
+use review_words::{AccountNo, ChangeNo, CommentNo, PatchNo, Role};
 use std::alloc::{AllocError, Global};
 
 /// What turns the rows of a change in the making into that change: what was noted beside them.
@@ -35,18 +38,47 @@ pub fn edit_of(
         attention,
         ..
     } = edited;
+    let marks = mark_edits(alloc, votes, roles, attention)?;
     let patches = more_patches(alloc, rows.patches.len(), patches)?;
-    let votes = votes.into_edits(alloc)?;
-    let roles = roles.into_edits(alloc)?;
     let comments = more_comments(alloc, rows.comments.len(), comments)?;
-    let attention = attention.into_edits(alloc)?;
     Ok(ChangeEdit {
         change,
         header,
         patches,
+        votes: marks.votes,
+        roles: marks.roles,
+        comments,
+        attention: marks.attention,
+    })
+}
+
+// What was noted of the rows of a change that are kept by accounts.
+#[derive(Drop)]
+struct MarkEdits {
+    votes: Vec<RowEdit<VoteKey, Vote>>,
+    roles: Vec<RowEdit<AccountNo, Role>>,
+    attention: Vec<RowEdit<AccountNo, AttentionEntry>>,
+}
+
+fn mark_edits(
+    alloc: Global,
+    votes: Edited<'_, VoteKey, Vote>,
+    roles: Edited<'_, AccountNo, Role>,
+    attention: Edited<'_, AccountNo, AttentionEntry>,
+) -> Result<MarkEdits, AllocError>
+    ensures votes { IfOk result (λ e. (q : VoteKey) → row_edit_of vote_cmp e.votes.items q ≡ place_at vote_cmp votes.entry.edits.entries q) }
+    ensures roles { IfOk result (λ e. (u : ℕ) → row_edit_of nat_cmp e.roles.items u ≡ place_at nat_cmp roles.entry.edits.entries u) }
+    ensures attention { IfOk result (λ e. (u : ℕ) → row_edit_of nat_cmp e.attention.items u ≡ place_at nat_cmp attention.entry.edits.entries u) }
+    ensures votes_once { IfOk result (λ e. NamesOnce vote_cmp e.votes.items) }
+    ensures roles_once { IfOk result (λ e. NamesOnce nat_cmp e.roles.items) }
+    ensures attention_once { IfOk result (λ e. NamesOnce nat_cmp e.attention.items) }
+{
+    let votes = votes.into_edits(alloc)?;
+    let roles = roles.into_edits(alloc)?;
+    let attention = attention.into_edits(alloc)?;
+    Ok(MarkEdits {
         votes,
         roles,
-        comments,
         attention,
     })
 }

@@ -28,8 +28,10 @@ use std::alloc::{AllocError, Global};
 fn has_branch(rows: &Rows, project: &ProjectName, branch: &BranchName) -> Result<bool, AllocError>
     ensures { IfOk result (λ b. b ≡ nat_le 1 (number_of (known rows.now (want.LastPlace (record { project = project.now; branch = branch.now }))))) }
 {
-    let key = branch_of(project, branch)?;
-    Ok(rows.number(&Want::LastPlace(key)) > 0)
+    let want = Want::LastPlace(branch_of(project, branch)?);
+    let last = rows.number(&want);
+    drop(want);
+    Ok(last > 0)
 }
 
 /// The first check of a new change that fails, where one does.
@@ -56,10 +58,20 @@ fn create_refusal(
     if !is_known(rows, &new.project, &new.branch, &new.parent)? {
         return Ok(Some(Refusal::UnknownParent));
     }
-    if rows.number(&Want::LastChange) >= 1_000_000_000 {
+    if last_change(rows) >= 1_000_000_000 {
         return Ok(Some(Refusal::Limit));
     }
     Ok(None)
+}
+
+/// The greatest number of a change.
+fn last_change(rows: &Rows) -> u64
+    ensures { result ≡ number_of (known rows.now want.LastChange) }
+{
+    let want = Want::LastChange;
+    let last = rows.number(&want);
+    drop(want);
+    last
 }
 
 /// The number after that of the last change.
@@ -123,7 +135,7 @@ pub fn create_change(
     if let Some(refusal) = refusal {
         return Ok(refused(alloc, refusal));
     }
-    let change = next_change(rows.number(&Want::LastChange));
+    let change = next_change(last_change(rows));
     let request = next_request(rows);
     let edit = begun_edit(alloc, change, new, caller, request)?;
     let delta = delta_of(alloc, edit)?;

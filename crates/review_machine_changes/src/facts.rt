@@ -16,11 +16,13 @@ pub fn is_in(rows: &Rows, account: AccountNo, group: &GroupName) -> Result<bool,
     if group.as_str() == "Registered-Users" {
         return Ok(true);
     }
-    let key = MemberKey {
+    let want = Want::Member(MemberKey {
         group: group.copy()?,
         account,
-    };
-    Ok(rows.is_so(&Want::Member(key)))
+    });
+    let is = rows.is_so(&want);
+    drop(want);
+    Ok(is)
 }
 
 fn is_in_any(rows: &Rows, account: AccountNo, groups: &[GroupName]) -> Result<bool, AllocError>
@@ -50,7 +52,10 @@ pub fn has_right(
 pub fn next_request(rows: &Rows) -> u64
     ensures { result ≡ next_request rows.now }
 {
-    rows.number(&Want::Requests).saturating_add(1)
+    let want = Want::Requests;
+    let requests = rows.number(&want);
+    drop(want);
+    requests.saturating_add(1)
 }
 
 /// Whether a state is open.

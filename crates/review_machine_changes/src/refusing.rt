@@ -13,8 +13,8 @@ use crate::uploading::upload_refusal;
 use review_core::ChangeFile;
 use review_core_rules::{ChangeRows, Header};
 use review_file::{ProjectFile, Right};
-use review_machine_accounts::is_admin;
-use review_machine_rows::{Rows, Want};
+use review_machine_accounts::{is_account, is_admin};
+use review_machine_rows::Rows;
 use review_words::{AccountNo, ChangeCommand, Refusal, Role, State};
 use std::alloc::{AllocError, Global};
 
@@ -83,7 +83,7 @@ fn is_merged(state: State) -> bool
 fn role_refusal(rows: &Rows, change: &ChangeRows, account: AccountNo, role: Role) -> Option<Refusal>
     ensures { result ≡ first_refusal (role_checks (facts_in rows.now) account role (seen change.now)) }
 {
-    if !rows.is_there(&Want::Account(account)) {
+    if !is_account(rows, account) {
         return Some(Refusal::NoAccount);
     }
     if has_role(role, change.roles.get(&account)) {
@@ -101,7 +101,7 @@ fn removal_refusal(
 ) -> Result<Option<Refusal>, AllocError>
     ensures { IfOk result (λ r. r ≡ first_refusal (removal_checks (facts_in rows.now) caller account (seen change.now))) }
 {
-    if !rows.is_there(&Want::Account(account)) {
+    if !is_account(rows, account) {
         return Ok(Some(Refusal::NoAccount));
     }
     if caller != account && !runs(alloc, rows, caller, change)? {
@@ -186,7 +186,7 @@ fn restore_refusal(
 fn call_refusal(rows: &Rows, file: &ChangeFile, account: AccountNo) -> Option<Refusal>
     ensures { result ≡ first_refusal (call_checks (facts_in rows.now) account (seen file.now.rows.now)) }
 {
-    if !rows.is_there(&Want::Account(account)) {
+    if !is_account(rows, account) {
         return Some(Refusal::NoAccount);
     }
     let change = file.rows();
@@ -205,7 +205,7 @@ fn call_refusal(rows: &Rows, file: &ChangeFile, account: AccountNo) -> Option<Re
 fn leave_refusal(rows: &Rows, change: &ChangeRows, account: AccountNo) -> Option<Refusal>
     ensures { result ≡ first_refusal (leave_checks (facts_in rows.now) account (seen change.now)) }
 {
-    if !rows.is_there(&Want::Account(account)) {
+    if !is_account(rows, account) {
         return Some(Refusal::NoAccount);
     }
     if !is_open(change.header.state) {

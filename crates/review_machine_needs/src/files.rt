@@ -111,10 +111,20 @@ fn push_requirement(
     ensures { OnOk result (wants.new.items ≡ wants.old.items ++ map want.Group (groups_of_requirement requirement.now)) }
 {
     let mut groups = Vec::new(alloc);
-    push_if_there(&mut groups, requirement.applicable_if())?;
-    push_if_there(&mut groups, requirement.override_if())?;
-    push_groups(&mut groups, requirement.submittable_if())?;
+    push_named(&mut groups, requirement)?;
     push_group_names(wants, &groups)
+}
+
+// Adds the groups that a submit requirement names.
+fn push_named<'e>(
+    groups: &mut Vec<&'e GroupName>,
+    requirement: &'e Requirement,
+) -> Result<(), AllocError>
+    ensures { OnOk result (map (λ g. g.now) groups.new.items ≡ map (λ g. g.now) groups.old.items ++ groups_of_requirement requirement.now) }
+{
+    push_if_there(groups, requirement.applicable_if())?;
+    push_if_there(groups, requirement.override_if())?;
+    push_groups(groups, requirement.submittable_if())
 }
 
 fn push_if_there<'e>(

@@ -83,6 +83,14 @@ fn command_wants(
     ensures { IfOk result (λ wants. wants.items ≡ caller_wants caller command.now ++ command_wants command.now) }
 {
     let mut wants = caller_wants(alloc, caller, command)?;
+    push_command(&mut wants, command)?;
+    Ok(wants)
+}
+
+// Adds what a command asks beside its caller.
+fn push_command(wants: &mut Vec<Want>, command: &Command) -> Result<(), AllocError>
+    ensures { OnOk result (wants.new.items ≡ wants.old.items ++ command_wants command.now) }
+{
     match command {
         Command::CreateAccount { name } => {
             wants.push(Want::AccountNamed(name.copy()?))?;
@@ -90,7 +98,7 @@ fn command_wants(
         }
         Command::PutGroup { group, members } => {
             wants.push(Want::Group(group.copy()?))?;
-            push_accounts(&mut wants, members.as_slice())?;
+            push_accounts(wants, members.as_slice())?;
         }
         Command::PutProject { project, file: _ } => {
             wants.push(Want::File(project.copy()?))?;
@@ -100,16 +108,16 @@ fn command_wants(
             project,
             branch,
             commit,
-        } => push_base(&mut wants, project, branch, commit)?,
-        Command::CreateChange(new) => push_new(&mut wants, new)?,
+        } => push_base(wants, project, branch, commit)?,
+        Command::CreateChange(new) => push_new(wants, new)?,
         Command::OnChange { change, command } => {
             wants.push(Want::Change(*change))?;
-            push_named(&mut wants, command)?;
+            push_named(wants, command)?;
         }
         Command::Submit { change } => wants.push(Want::Change(*change))?,
         Command::CloseEpoch { epoch: _ } => wants.push(Want::LeastEpoch)?,
     }
-    Ok(wants)
+    Ok(())
 }
 
 /// Adds whether the account that a request on a change names is there.

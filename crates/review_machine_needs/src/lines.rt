@@ -53,7 +53,9 @@ pub fn own_file<'r>(
     ensures { IfOk result (λ file. option_copied file ≡ own_in rows.now project.now) }
 {
     let want = Want::File(project.copy()?);
-    Ok(rows.file(&want))
+    let file = rows.file(&want);
+    drop(want);
+    Ok(file)
 }
 
 // The parent that a file names, where there is a file.

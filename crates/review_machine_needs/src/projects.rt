@@ -87,6 +87,8 @@ fn put_file(
     let put = row_put(project, &new)?;
     let keeps = keeps_parent(rows, &put)?;
     if !keeps {
+        drop(put);
+        drop(new);
         return Ok(refused(alloc, Refusal::ParentFixed));
     }
     put_below(alloc, memo, effective, rows, put, new)
@@ -146,14 +148,21 @@ fn put_below(
     let above = read_line(alloc, memo, rows, put.row.parent.as_ref())?;
     let depth = depth_of(above.as_ref());
     if let Some(refusal) = parent_refused(put.row.parent.is_some(), depth) {
+        drop(above);
+        drop(put);
+        drop(new);
         return Ok(refused(alloc, refusal));
     }
     match line_put(alloc, above, new) {
         Ok(line) => put_line(alloc, memo, effective, rows, put, line),
         Err(InheritFault::UnknownLabel) => {
+            drop(put);
             Ok(refused(alloc, Refusal::BadFile(FileFault::UnknownLabel)))
         }
-        Err(InheritFault::Memory) => Err(NotTaken::Memory),
+        Err(InheritFault::Memory) => {
+            drop(put);
+            Err(NotTaken::Memory)
+        }
     }
 }
 
@@ -209,7 +218,9 @@ fn put_line(
     ensures epoch { IfOk result (λ r. r.0.least_epoch ≡ None) }
     ensures once { IfOk result (λ r. NamesEachOnce r.0) }
 {
-    let has_room = rows.is_so(&Want::Room(Counted::Projects));
+    let want = Want::Room(Counted::Projects);
+    let has_room = rows.is_so(&want);
+    drop(want);
     if let Some(refusal) = kept_refused(effective, has_room, line.file()) {
         return Ok(refused(alloc, refusal));
     }

@@ -156,7 +156,10 @@ impl Rows {
     pub fn change(&self, number: ChangeNo) -> Option<&ChangeRows>
         ensures { option_map (λ c. seen c) (option_copied result) ≡ change_in (known self.now (want.Change number)) }
     {
-        match self.found(&Want::Change(number)) {
+        let want = Want::Change(number);
+        let found = self.found(&want);
+        drop(want);
+        match found {
             Some(Found::AChange(Some(rows))) => Some(&**rows),
             _ => None,
         }

@@ -39,8 +39,10 @@ impl Links for RowLinks<'_> {
     }
 
     fn standing(&self, commit: &CommitName) -> Result<Option<Standing>, AllocError> {
-        let base = base_of(self.project, self.branch, commit)?;
-        Ok(self.rows.standing(&Want::Standing(base)))
+        let want = Want::Standing(base_of(self.project, self.branch, commit)?);
+        let standing = self.rows.standing(&want);
+        drop(want);
+        Ok(standing)
     }
 }
 

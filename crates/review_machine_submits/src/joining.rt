@@ -78,8 +78,9 @@ fn join_edits(
 fn last_joined(rows: &Rows, found: &ChangeRows) -> Result<u32, AllocError>
     ensures { IfOk result (λ last. last ≡ min (last_in rows.now (seen found.now)) (2 ^ 32 - 1)) }
 {
-    let branch = branch_of(&found.header.project, &found.header.branch)?;
-    let last = rows.number(&Want::LastJoined(branch));
+    let want = Want::LastJoined(branch_of(&found.header.project, &found.header.branch)?);
+    let last = rows.number(&want);
+    drop(want);
     Ok(u32::try_from(last).unwrap_or(u32::MAX))
 }
 

@@ -126,6 +126,28 @@ pub fn names_held(
     Ok(names)
 }
 
+/// The names that accounts have before their changes, and those that they get.
+#[derive(Drop)]
+pub struct Names {
+    pub held: Vec<NameKey>,
+    pub given: Vec<NameKey>,
+}
+
+/// Those of the changes of these accounts.
+pub fn names_of(
+    alloc: Global,
+    accounts: &Table<AccountNo, AccountName>,
+    changes: &[RowEdit<AccountNo, AccountName>],
+) -> Result<Names, AllocError>
+    ensures held { IfOk result (λ names. All (IsHeld (rows_of accounts.now) names.held.items) changes.now) }
+    ensures all { IfOk result (λ names. All (IsGiven names.given.items) changes.now) }
+    ensures only { IfOk result (λ names. All (IsNameOf changes.now) names.given.items) }
+{
+    let held = names_held(alloc, accounts, changes)?;
+    let given = names_given(alloc, changes)?;
+    Ok(Names { held, given })
+}
+
 /// The names that accounts get, each with its account.
 pub fn names_given(
     alloc: Global,

@@ -115,6 +115,8 @@ impl<T: Shelf> Shelf for FaultyShelf<T> {
         ensures in_turn { FailsInTurn T.state self.old result self.new }
     {
         if self.fails() {
+            drop(delta);
+            drop(kept);
             return Err(ShelfFault::Store);
         }
         self.inner.commit(alloc, delta, kept)

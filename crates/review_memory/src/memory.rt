@@ -62,6 +62,8 @@ impl Shelf for MemoryShelf {
     fn commit(&mut self, alloc: Global, delta: Delta, kept: Kept) -> Result<(), ShelfFault> {
         // No history is that long.
         if self.tables.requests == u64::MAX {
+            drop(delta);
+            drop(kept);
             return Err(ShelfFault::Damaged);
         }
         match self.tables.commit(alloc, delta, kept) {

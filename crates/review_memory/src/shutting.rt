@@ -111,6 +111,8 @@ impl<T: Shelf> Shelf for ShuttingShelf<T> {
     {
         match self.turn {
             Turn::Past => {
+                drop(delta);
+                drop(kept);
                 self.refuse();
                 Err(ShelfFault::Store)
             }

@@ -12,7 +12,7 @@ ghost use Rattle.review_memory.specs.Desk.{tables_of, desk_of, desk_with, row_of
 ghost use Rattle.review_memory.specs.First.{HasAccount, HasName, HasMember};
 ghost use Rattle.review_memory.specs.declared.changes.Changes.{Changes};
 
-use crate::changes::{Changes, names_given, names_held, stored};
+use crate::changes::{Changes, names_of, stored};
 use crate::keys::NameKey;
 use review_machine_rows::{Delta, Kept, MemberKey, PlaceKey, Put, Recalled, StoredFile};
 use review_memory_rows::{AnswerKey, Branches, KeptChanges, StoredAnswer, lower_keys, remove_keys};
@@ -103,7 +103,14 @@ impl MemoryTables {
         ensures done { OnOk result (IsCommitted (tables_of (desk_of self.old)) delta (kept_row kept) (tables_of (desk_of self.new))) }
         ensures same { OnErr result (tables_of (desk_of self.new) ≡ tables_of (desk_of self.old)) }
     {
-        let lower = lower_keys(alloc, &self.answers, delta.least_epoch, &kept)?;
+        let lower = match lower_keys(alloc, &self.answers, delta.least_epoch, &kept) {
+            Ok(lower) => lower,
+            Err(error) => {
+                drop(delta);
+                drop(kept);
+                return Err(error);
+            }
+        };
         let least = delta.least_epoch;
         self.commit_beside(alloc, delta, kept)?;
         self.give_up(least, &lower);
@@ -130,6 +137,14 @@ impl MemoryTables {
         ensures done { OnOk result (IsCommitted (tables_of (desk_of self.old)) (beside_epoch delta) (kept_row kept) (tables_of (desk_of self.new))) }
         ensures same { OnErr result (tables_of (desk_of self.new) ≡ tables_of (desk_of self.old)) }
     {
+        let names = match names_of(alloc, &self.accounts, &delta.accounts) {
+            Ok(names) => names,
+            Err(error) => {
+                drop(delta);
+                drop(kept);
+                return Err(error);
+            }
+        };
         let Delta {
             accounts,
             members,
@@ -138,16 +153,29 @@ impl MemoryTables {
             changes,
             ..
         } = delta;
-        let held = names_held(alloc, &self.accounts, &accounts)?;
-        let given = names_given(alloc, &accounts)?;
         let projects = self.projects_with(&file);
         let answer = stored(kept);
-        let changes = Changes::new(alloc, &accounts, &members, file, changes, &self.changes)?;
-        self.make(alloc, &given, changes, projects, &base, answer)?;
-        self.release_removed(&accounts, &members);
-        self.drop_given(&accounts, &given);
-        self.drop_names(&held);
-        Ok(())
+        let changes = match Changes::new(alloc, &accounts, &members, file, changes, &self.changes) {
+            Ok(changes) => changes,
+            Err(error) => {
+                drop(answer);
+                drop(base);
+                return Err(error);
+            }
+        };
+        match self.make(alloc, &names.given, changes, projects, &base, answer) {
+            Ok(()) => {
+                drop(base);
+                self.release_removed(&accounts, &members);
+                self.drop_given(&accounts, &names.given);
+                self.drop_names(&names.held);
+                Ok(())
+            }
+            Err(error) => {
+                drop(base);
+                Err(error)
+            }
+        }
     }
 
     /// How many projects there are once one gets a file.

@@ -1,6 +1,6 @@
 //! The bases of branches in memory.
 ghost use Rattle.std.specs.{BTreeMap.is_at, Cmp.Lexicographic.slice_cmp, Ordering.nat_cmp};
-ghost use Rattle.std.specs.Prelude.{◌≡◌, ◌∷◌, ◌-◌, ◌^◌, ◌<◌, ◌↔◌, ◌&&◌, [], List, Option, ℕ, Some, None, IsTrue, IfOk, IfErr, OnOk, OnErr, not, option_map, if◌then◌else◌};
+ghost use Rattle.std.specs.Prelude.{◌≡◌, ◌++◌, ◌∷◌, ◌-◌, ◌^◌, ◌<◌, ◌↔◌, ◌&&◌, [], List, Option, ℕ, Some, None, IsTrue, IfOk, IfErr, OnOk, OnErr, not, option_map, if◌then◌else◌};
 ghost use Rattle.review_table.specs.Rows.{rows_of, row_in, HasNoEmptyPlace, HavePlaces};
 ghost use Rattle.review_machine_rows.specs.{Rows.branch_cmp, Rows.place_cmp, declared.rows.PlaceKey.PlaceKey};
 ghost use Rattle.review_memory_rows.specs.Bases.{commit_cmp, base_at, total_in, IsLastPlace, IsPut, commit_at, has_commit, is_stale, AreBases, IsCommitThere, IsUnlisted, PutsBase, HasNoSpare, HasSpareOnly};
@@ -74,10 +74,10 @@ impl Branches {
         let mut bases = Bases::new(alloc);
         for before in 0..self.last_place(branch) {
             key.place = before + 1;
-            let Some(commit) = self.bases.get(&key) else {
-                return Err(ChangeFault::Gap);
-            };
-            bases.push(commit.copy()?)?;
+            match push_base(&self.bases, &mut bases, &key) {
+                Ok(()) => {}
+                Err(fault) => return Err(fault),
+            }
         }
         Ok(bases)
     }
@@ -130,7 +130,6 @@ impl Branches {
         let known = before.is_some();
         let last = ended.max(base.key.place);
         let total = self.total(&base.key.project) + u64::from(!known);
-        let placed = placed_base(base)?;
         let is_listed = has_commit(&before, &base.row);
         let changes = changes_of(alloc, base, is_listed, branch, last, total)?;
         let begun = begin(
@@ -139,17 +138,20 @@ impl Branches {
             &mut self.lasts,
             &mut self.totals,
             &changes,
-            placed,
+            base,
         );
         match begun {
             Ok(()) => {
                 drop_stale(&mut self.commits, &before, base);
+                drop(before);
                 self.lasts.apply(changes.ended);
                 self.totals.apply(changes.counted);
                 Ok(())
             }
             Err(error) => {
                 release(&mut self.lasts, &mut self.totals, &changes);
+                drop(changes);
+                drop(before);
                 Err(error)
             }
         }
@@ -179,6 +181,23 @@ impl Branches {
             place: key.place,
         }))
     }
+}
+
+// Adds the base at a place to those before it, or tells that none stands there.
+fn push_base(
+    table: &Table<PlaceKey, CommitName>,
+    bases: &mut Bases,
+    key: &PlaceKey,
+) -> Result<(), ChangeFault>
+    ensures added { OnOk result ((commit : List ℕ) × (row_in place_cmp (rows_of table.now) key.now ≡ Some commit) × (bases.new ≡ bases.old ++ commit ∷ [])) }
+    ensures gap { IfErr result (λ fault. fault ≡ ChangeFault.Gap → row_in place_cmp (rows_of table.now) key.now ≡ None) }
+{
+    let Some(commit) = table.get(key) else {
+        return Err(ChangeFault::Gap);
+    };
+    let commit = commit.copy()?;
+    bases.push(commit)?;
+    Ok(())
 }
 
 // Takes the base that stood at a place before out of the index, where one with another commit stands there now.
@@ -298,11 +317,11 @@ fn begin(
     lasts: &mut Table<BranchKey, u64>,
     totals: &mut Table<ProjectName, u64>,
     changes: &BaseChanges,
-    base: Put<PlaceKey, CommitName>,
+    base: &Put<PlaceKey, CommitName>,
 ) -> Result<(), AllocError>
     requires { row_in commit_cmp (rows_of commits.old) changes.now.listed ≡ (if changes.now.is_listed then Some tt else None) }
     ensures bases { OnErr result (rows_of bases.new ≡ rows_of bases.old) }
-    ensures placed { OnOk result ((q : PlaceKey) → row_in place_cmp (rows_of bases.new) q ≡ (if is_at (place_cmp base.key) q then Some base.row else row_in place_cmp (rows_of bases.old) q)) }
+    ensures placed { OnOk result ((q : PlaceKey) → row_in place_cmp (rows_of bases.new) q ≡ (if is_at (place_cmp base.now.key) q then Some base.now.row else row_in place_cmp (rows_of bases.old) q)) }
     ensures listed { OnOk result ((q : CommitKey) → row_in commit_cmp (rows_of commits.new) q ≡ (if is_at (commit_cmp changes.now.listed) q then Some tt else row_in commit_cmp (rows_of commits.old) q)) }
     ensures unlisted { OnErr result ((q : CommitKey) → row_in commit_cmp (rows_of commits.new) q ≡ row_in commit_cmp (rows_of commits.old) q) }
     ensures lasts { rows_of lasts.new ≡ rows_of lasts.old }
@@ -312,7 +331,8 @@ fn begin(
     ensures spare { HasNoSpare bases.old commits.old lasts.old totals.old → HasSpareOnly changes.now bases.new commits.new lasts.new totals.new }
 {
     reserve(lasts, totals, changes)?;
-    place(bases, commits, changes, base)
+    let placed = placed_base(base)?;
+    place(bases, commits, changes, placed)
 }
 
 // Puts a base at its place and into the index, by one walk over each. Where there is no memory for it no row changes.

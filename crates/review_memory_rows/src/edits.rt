@@ -2,6 +2,7 @@
 ghost use Rattle.std.specs.{BTreeMap.is_at, Ordering.nat_cmp};
 ghost use Rattle.std.specs.Prelude.{◌≡◌, ℕ, [], ◌∷◌, ◌++◌, IfOk, OnOk, None, is_some, unwrap_or, if◌then◌else◌};
 ghost use Rattle.review_table.specs.Rows.{changed, row_in, rows_of, HasNoEmptyPlace};
+ghost use Rattle.review_core_rules.specs.{Seen.vote_cmp, declared.rows.VoteKey.VoteKey};
 ghost use Rattle.review_machine_change_rows.specs.Tables.{part_in};
 ghost use Rattle.review_memory_rows.specs.Kept.{AreEdited, renewed, renewed_at};
 
@@ -27,17 +28,53 @@ pub struct NewTables {
 pub fn edited(alloc: Global, old: &ChangeTables, edit: ChangeEdit) -> Result<NewTables, AllocError>
     ensures { IfOk result (λ new. AreEdited (part_in old.now) edit (renewed old.now new)) }
 {
-    let patches = changed_table(alloc, &old.patches, edit.patches)?;
-    let votes = changed_table(alloc, &old.votes, edit.votes)?;
-    let roles = changed_table(alloc, &old.roles, edit.roles)?;
-    let comments = changed_table(alloc, &old.comments, edit.comments)?;
-    let attention = changed_table(alloc, &old.attention, edit.attention)?;
-    Ok(NewTables {
-        header: edit.header,
+    let ChangeEdit {
+        header,
         patches,
         votes,
         roles,
         comments,
+        attention,
+        ..
+    } = edit;
+    let marks = edited_marks(alloc, old, votes, roles, attention)?;
+    let patches = changed_table(alloc, &old.patches, patches)?;
+    let comments = changed_table(alloc, &old.comments, comments)?;
+    Ok(NewTables {
+        header,
+        patches,
+        votes: marks.votes,
+        roles: marks.roles,
+        comments,
+        attention: marks.attention,
+    })
+}
+
+// What an edit makes of the tables of a change that are kept by accounts.
+#[derive(Drop)]
+struct NewMarks {
+    votes: Option<Table<VoteKey, Vote>>,
+    roles: Option<Table<AccountNo, Role>>,
+    attention: Option<Table<AccountNo, AttentionEntry>>,
+}
+
+fn edited_marks(
+    alloc: Global,
+    old: &ChangeTables,
+    votes: Vec<RowEdit<VoteKey, Vote>>,
+    roles: Vec<RowEdit<AccountNo, Role>>,
+    attention: Vec<RowEdit<AccountNo, AttentionEntry>>,
+) -> Result<NewMarks, AllocError>
+    ensures votes { IfOk result (λ new. (q : VoteKey) → row_in vote_cmp (rows_of (unwrap_or new.votes old.now.votes)) q ≡ changed vote_cmp votes.items q (row_in vote_cmp (rows_of old.now.votes) q)) }
+    ensures roles { IfOk result (λ new. (u : ℕ) → row_in nat_cmp (rows_of (unwrap_or new.roles old.now.roles)) u ≡ changed nat_cmp roles.items u (row_in nat_cmp (rows_of old.now.roles) u)) }
+    ensures attention { IfOk result (λ new. (u : ℕ) → row_in nat_cmp (rows_of (unwrap_or new.attention old.now.attention)) u ≡ changed nat_cmp attention.items u (row_in nat_cmp (rows_of old.now.attention) u)) }
+{
+    let votes = changed_table(alloc, &old.votes, votes)?;
+    let roles = changed_table(alloc, &old.roles, roles)?;
+    let attention = changed_table(alloc, &old.attention, attention)?;
+    Ok(NewMarks {
+        votes,
+        roles,
         attention,
     })
 }

@@ -333,17 +333,25 @@ impl<S: Alter, O: Origin> Shelf for SqlShelf<S, O> {
     fn commit(&mut self, alloc: Global, delta: Delta, kept: Kept) -> Result<(), ShelfFault> {
         let numbers = self.numbers;
         let Some(more) = numbers.with_request(delta.least_epoch) else {
+            drop(delta);
+            drop(kept);
             return Err(refuse(&mut self.faults));
         };
         let _live = self.conn.schema();
-        match transact(&mut self.conn, alloc, &delta, &kept, &numbers) {
+        let written = transact(&mut self.conn, alloc, &delta, &kept, &numbers);
+        drop(kept);
+        match written {
             Ok(()) => {
                 let _settled = self.conn.is_autocommit();
                 self.numbers = more;
                 self.counts.note(&delta);
+                drop(delta);
                 Ok(())
             }
-            Err(error) => Err(fault_for(&mut self.conn, &mut self.faults, error)),
+            Err(error) => {
+                drop(delta);
+                Err(fault_for(&mut self.conn, &mut self.faults, error))
+            }
         }
     }
 

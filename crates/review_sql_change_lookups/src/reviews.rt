@@ -139,21 +139,13 @@ fn tables_of(found: FoundRows) -> Result<Option<ChangeTables>, Sight>
         comments,
         attention,
     } = talk;
-    let Some(patches) = patches else {
+    let sets = patches.zip(votes);
+    let talk = roles.zip(comments).zip(attention);
+    let Some(all) = sets.zip(talk) else {
+        drop(header);
         return Err(Sight::Damaged);
     };
-    let Some(votes) = votes else {
-        return Err(Sight::Damaged);
-    };
-    let Some(roles) = roles else {
-        return Err(Sight::Damaged);
-    };
-    let Some(comments) = comments else {
-        return Err(Sight::Damaged);
-    };
-    let Some(attention) = attention else {
-        return Err(Sight::Damaged);
-    };
+    let ((patches, votes), ((roles, comments), attention)) = all;
     match whole(header) {
         Ok(Some(header)) => Ok(Some(ChangeTables {
             header,

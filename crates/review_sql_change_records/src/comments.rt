@@ -35,12 +35,6 @@ impl Lookup for Comments {
     }
 
     fn read(alloc: Global, row: &Row) -> Result<Option<(CommentNo, Comment)>, AllocError> {
-        let Some(path) = name_at(alloc, row, 2)? else {
-            return Ok(None);
-        };
-        let Some(message) = name_at(alloc, row, 5)? else {
-            return Ok(None);
-        };
         let (Some(number), Some(patch), Some(line)) = (
             numbered_at(row, 0),
             numbered_at(row, 1),
@@ -52,6 +46,12 @@ impl Lookup for Comments {
             return Ok(None);
         };
         let (Some(answers), Some(request)) = (answers_at(row, 7), number_at(row, 8)) else {
+            return Ok(None);
+        };
+        let Some(path) = name_at(alloc, row, 2)? else {
+            return Ok(None);
+        };
+        let Some(message) = name_at(alloc, row, 5)? else {
             return Ok(None);
         };
         let comment = CommentRow {

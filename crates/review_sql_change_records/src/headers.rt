@@ -38,15 +38,6 @@ impl Lookup for Headers {
     }
 
     fn read(alloc: Global, row: &Row) -> Result<Option<Header>, AllocError> {
-        let Some(project) = name_at(alloc, row, 0)? else {
-            return Ok(None);
-        };
-        let Some(branch) = name_at(alloc, row, 1)? else {
-            return Ok(None);
-        };
-        let Some(subject) = name_at(alloc, row, 2)? else {
-            return Ok(None);
-        };
         let (Some(owner), Some(state), Some(wip)) = (
             numbered_at(row, 3),
             state_at(row, 4),
@@ -55,6 +46,15 @@ impl Lookup for Headers {
             return Ok(None);
         };
         let (Some(place), Some(updated)) = (small_at(row, 6), number_at(row, 7)) else {
+            return Ok(None);
+        };
+        let Some(project) = name_at(alloc, row, 0)? else {
+            return Ok(None);
+        };
+        let Some(branch) = name_at(alloc, row, 1)? else {
+            return Ok(None);
+        };
+        let Some(subject) = name_at(alloc, row, 2)? else {
             return Ok(None);
         };
         Ok(Some(Header {

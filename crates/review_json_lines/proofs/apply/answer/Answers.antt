@@ -22,6 +22,6 @@ returns-in_ok-add-in-Unreadable-clause-answered g c =
 
 pub returns-in-Asks-clause-answered : goal.returns-in-Asks-clause-answered
 returns-in-Asks-clause-answered g c =
-    did_one _ _ _ _ _ _ (sym c.in-Asks.is) (ran_one _ _ _ _ c.deliver-reply.ensures) (if_told c.tell.result _ _ _ _ c.tell.ensures.added c.tell.ensures.taken
+    did_one _ _ _ _ _ _ (sym c.in-Asks.is) (ran_one _ _ _ _ c.deliver-reply.ensures) (if_told c.tell-told.result _ _ _ _ c.tell-told.ensures.added c.tell-told.ensures.taken
     (λ added. added ∙ ap (λ l. c.args.output.now.waiting.items ++ l) (sym (told_reply c.args.asked.now c.in-Asks.delivery c.deliver-reply.result _ c.in-Asks.is refl)))
     (λ o taken. taken ∙ sym (done_reply c.args.asked.now c.in-Asks.delivery c.deliver-reply.result c.in-Asks.is)))

@@ -58,52 +58,52 @@ pub returns-in-CreateAccount-clause-decided : goal.returns-in-CreateAccount-clau
 returns-in-CreateAccount-clause-decided c =
     let a = c.args in
     subst (λ k. IfOk c.create_account.result (Decides a.caller a.epoch (option_copied a.effective) a.rows.now k)) (sym c.in-CreateAccount.is)
-    (of_any_file c.create_account.result a.caller a.epoch (option_copied a.effective) a.rows.now (CreateAccount c.in-CreateAccount.name) (λ reading h caller epoch reply is. is) (sym c.is_there.ensures ∙ c.if-not-is_there.false) c.create_account.ensures.decided)
+    (of_any_file c.create_account.result a.caller a.epoch (option_copied a.effective) a.rows.now (CreateAccount c.in-CreateAccount.name) (λ reading h caller epoch reply is. is) (sym c.is_account.ensures ∙ c.if-not-is_account.false) c.create_account.ensures.decided)
 
 pub returns-in-PutGroup-clause-decided : goal.returns-in-PutGroup-clause-decided
 returns-in-PutGroup-clause-decided c =
     let a = c.args in
     subst (λ k. IfOk c.put_group.result (Decides a.caller a.epoch (option_copied a.effective) a.rows.now k)) (sym c.in-PutGroup.is)
-    (of_any_file c.put_group.result a.caller a.epoch (option_copied a.effective) a.rows.now (PutGroup c.in-PutGroup.group c.in-PutGroup.members) (λ reading h caller epoch reply is. is) (sym c.is_there.ensures ∙ c.if-not-is_there.false) c.put_group.ensures.decided)
+    (of_any_file c.put_group.result a.caller a.epoch (option_copied a.effective) a.rows.now (PutGroup c.in-PutGroup.group c.in-PutGroup.members) (λ reading h caller epoch reply is. is) (sym c.is_account.ensures ∙ c.if-not-is_account.false) c.put_group.ensures.decided)
 
 pub returns-in-PutProject-clause-decided : goal.returns-in-PutProject-clause-decided
 returns-in-PutProject-clause-decided c =
     let a = c.args in
     subst (λ k. IfOk c.put_project.result (Decides a.caller a.epoch (option_copied a.effective) a.rows.now k)) (sym c.in-PutProject.is)
-    (of_history c.put_project.result a.caller a.epoch (option_copied a.effective) a.rows.now (PutProject c.in-PutProject.project c.in-PutProject.file) (λ reading h caller epoch reply is. is) (sym c.is_there.ensures ∙ c.if-not-is_there.false) c.put_project.ensures.decided)
+    (of_history c.put_project.result a.caller a.epoch (option_copied a.effective) a.rows.now (PutProject c.in-PutProject.project c.in-PutProject.file) (λ reading h caller epoch reply is. is) (sym c.is_account.ensures ∙ c.if-not-is_account.false) c.put_project.ensures.decided)
 
 pub returns-in-RecordBase-clause-decided : goal.returns-in-RecordBase-clause-decided
 returns-in-RecordBase-clause-decided c =
     let a = c.args in
     subst (λ k. IfOk c.record_base.result (Decides a.caller a.epoch (option_copied a.effective) a.rows.now k)) (sym c.in-RecordBase.is)
-    (of_any_file c.record_base.result a.caller a.epoch (option_copied a.effective) a.rows.now (RecordBase c.in-RecordBase.project c.in-RecordBase.branch c.in-RecordBase.commit) (λ reading h caller epoch reply is. is) (sym c.is_there.ensures ∙ c.if-not-is_there.false) c.record_base.ensures.decided)
+    (of_any_file c.record_base.result a.caller a.epoch (option_copied a.effective) a.rows.now (RecordBase c.in-RecordBase.project c.in-RecordBase.branch c.in-RecordBase.commit) (λ reading h caller epoch reply is. is) (sym c.is_account.ensures ∙ c.if-not-is_account.false) c.record_base.ensures.decided)
 
 pub returns-in-CreateChange-clause-decided : goal.returns-in-CreateChange-clause-decided
 returns-in-CreateChange-clause-decided c =
     let a = c.args in
     subst (λ k. IfOk c.create_change.result (Decides a.caller a.epoch (option_copied a.effective) a.rows.now k)) (sym c.in-CreateChange.is)
-    (of_room c.create_change.result a.caller a.epoch (option_copied a.effective) a.rows.now (CreateChange c.in-CreateChange.new) (λ reading h caller epoch reply is. is) (sym c.is_there.ensures ∙ c.if-not-is_there.false) c.create_change.ensures.decided)
+    (of_room c.create_change.result a.caller a.epoch (option_copied a.effective) a.rows.now (CreateChange c.in-CreateChange.new) (λ reading h caller epoch reply is. is) (sym c.is_account.ensures ∙ c.if-not-is_account.false) c.create_change.ensures.decided)
 
 pub returns-in-OnChange-clause-decided : goal.returns-in-OnChange-clause-decided
 returns-in-OnChange-clause-decided c =
     let a = c.args in
     subst (λ k. IfOk c.on_change.result (Decides a.caller a.epoch (option_copied a.effective) a.rows.now k)) (sym c.in-OnChange.is)
-    (of_room c.on_change.result a.caller a.epoch (option_copied a.effective) a.rows.now (OnChange c.in-OnChange.change c.in-OnChange.command) (λ reading h caller epoch reply is. is) (sym c.is_there.ensures ∙ c.if-not-is_there.false) c.on_change.ensures.decided)
+    (of_room c.on_change.result a.caller a.epoch (option_copied a.effective) a.rows.now (OnChange c.in-OnChange.change c.in-OnChange.command) (λ reading h caller epoch reply is. is) (sym c.is_account.ensures ∙ c.if-not-is_account.false) c.on_change.ensures.decided)
 
 pub returns-in-Submit-clause-decided : goal.returns-in-Submit-clause-decided
 returns-in-Submit-clause-decided c =
     let a = c.args in
     subst (λ k. IfOk c.submit.result (Decides a.caller a.epoch (option_copied a.effective) a.rows.now k)) (sym c.in-Submit.is)
-    (of_all c.submit.result a.caller a.epoch (option_copied a.effective) a.rows.now (Submit c.in-Submit.change) (λ reading h caller epoch reply is. is) (sym c.is_there.ensures ∙ c.if-not-is_there.false) c.submit.ensures.decided)
+    (of_all c.submit.result a.caller a.epoch (option_copied a.effective) a.rows.now (Submit c.in-Submit.change) (λ reading h caller epoch reply is. is) (sym c.is_account.ensures ∙ c.if-not-is_account.false) c.submit.ensures.decided)
 
 pub returns-in-CloseEpoch-clause-decided : goal.returns-in-CloseEpoch-clause-decided
 returns-in-CloseEpoch-clause-decided c =
     let a = c.args in
     subst (λ k. IfOk c.close_epoch.result (Decides a.caller a.epoch (option_copied a.effective) a.rows.now k)) (sym c.in-CloseEpoch.is)
-    (of_epoch c.close_epoch.result a.caller a.epoch (option_copied a.effective) a.rows.now (CloseEpoch c.in-CloseEpoch.least) (sym c.is_there.ensures ∙ c.if-not-is_there.false) c.close_epoch.ensures.decided)
+    (of_epoch c.close_epoch.result a.caller a.epoch (option_copied a.effective) a.rows.now (CloseEpoch c.in-CloseEpoch.least) (sym c.is_account.ensures ∙ c.if-not-is_account.false) c.close_epoch.ensures.decided)
 
-pub returns-then-not-is_there-clause-decided : goal.returns-then-not-is_there-clause-decided
-returns-then-not-is_there-clause-decided c = λ reading h room history l.
+pub returns-then-not-is_account-clause-decided : goal.returns-then-not-is_account-clause-decided
+returns-then-not-is_account-clause-decided c = λ reading h room history l.
     let a = c.args in
     refused_pair_in h a.caller a.epoch a.command.now c.refused.result UnknownCaller c.refused.ensures.empty c.refused.ensures.reply
-    (unknown_refused reading h a.caller a.command.now (sym (caller_is h a.caller a.command.now a.rows.now l) ∙ (sym c.is_there.ensures ∙ c.if-not-is_there.true)))
+    (unknown_refused reading h a.caller a.command.now (sym (caller_is h a.caller a.command.now a.rows.now l) ∙ (sym c.is_account.ensures ∙ c.if-not-is_account.true)))

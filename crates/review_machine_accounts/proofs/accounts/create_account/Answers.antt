@@ -14,12 +14,12 @@ returns-in-Some-clause-decided c = λ reading effective h account l.
 pub next_account-number-requires : goal.next_account-number-requires
 next_account-number-requires c =
     let all = all_pass (checks (facts_in c.args.rows.now) c.args.caller (CreateAccount c.args.name.now)) (sym c.in_ok-refusal.ensures ∙ c.in_default.is) in
-    ltb-true c.number.result 1000000 (ap (λ n. nat_lt n 1000000) c.number.ensures ∙ all.1.1.0)
+    ltb-true c.last_account.result 1000000 (ap (λ n. nat_lt n 1000000) c.last_account.ensures ∙ all.1.1.0)
 
 pub returns-clause-decided : goal.returns-clause-decided
 returns-clause-decided c = λ reading effective h account l.
     let a = c.args in
     create_decided h a.caller a.name.now c.in_ok-delta.delta c.next_account-number.result
     (create_account_told reading h a.caller effective a.rows.now a.name.now account l ∙ (sym c.in_ok-refusal.ensures ∙ c.in_default.is))
-    (c.next_account-number.ensures ∙ ap (λ k. k + 1) (c.number.ensures ∙ last_told reading h a.rows.now l.agree (asked_beside h a.caller (CreateAccount a.name.now) a.rows.now l).1.0))
+    (c.next_account-number.ensures ∙ ap (λ k. k + 1) (c.last_account.ensures ∙ last_told reading h a.rows.now l.agree (asked_beside h a.caller (CreateAccount a.name.now) a.rows.now l).1.0))
     c.in_ok-delta.ensures.delta

@@ -15,4 +15,4 @@ returns-clause-decided c = λ reading effective h account l.
     let empty = c.nothing-delta.ensures in
     put_decided h a.caller a.group.now a.members.now a.rows.now _ l
     (put_group_told reading h a.caller effective a.rows.now a.group.now a.members.now account l ∙ (sym c.in_ok-refusal.ensures ∙ c.in_default.is))
-    (record { accounts = empty.accounts; members = c.in_ok-delta.ensures.changes; file = empty.file; base = empty.base; changes = empty.changes; epoch = empty.epoch })
+    (record { accounts = empty.accounts; members = c.in_ok-changes.ensures.changes; file = empty.file; base = empty.base; changes = empty.changes; epoch = empty.epoch })

@@ -28,30 +28,30 @@ more_comments-requires c =
 pub returns-clause-becomes : goal.returns-clause-becomes
 returns-clause-becomes c =
     let d = c.args.edited in
-    turned (record { change = c.args.change; header = d.header; patches = c.in_ok-patches.patches; votes = c.in_ok-votes.votes; roles = c.in_ok-roles.roles; comments = c.in_ok-comments.comments; attention = c.in_ok-attention.attention }) d (record {
+    turned (record { change = c.args.change; header = d.header; patches = c.in_ok-patches.patches; votes = c.in_ok-marks.marks.votes; roles = c.in_ok-marks.marks.roles; comments = c.in_ok-comments.comments; attention = c.in_ok-marks.marks.attention }) d (record {
       header = refl;
       patches = added c.in_ok-patches.patches.items c.len.result d.rows.now.patches.items d.patches.items (c.len.ensures ∙ d.rows.now.patches.ok.0) c.in_ok-patches.ensures;
-      votes = noted vote_cmp c.in_ok-votes.votes.items d.votes d.rows.now.votes c.in_ok-votes.ensures.edits d.over.votes_are;
-      roles = noted nat_cmp c.in_ok-roles.roles.items d.roles d.rows.now.roles c.in_ok-roles.ensures.edits d.over.roles_are;
+      votes = noted vote_cmp c.in_ok-marks.marks.votes.items d.votes d.rows.now.votes c.in_ok-marks.ensures.votes d.over.votes_are;
+      roles = noted nat_cmp c.in_ok-marks.marks.roles.items d.roles d.rows.now.roles c.in_ok-marks.ensures.roles d.over.roles_are;
       comments = added c.in_ok-comments.comments.items c.len-2.result d.rows.now.comments.items d.comments.items (c.len-2.ensures ∙ d.rows.now.comments.ok.0) c.in_ok-comments.ensures;
-      attention = noted nat_cmp c.in_ok-attention.attention.items d.attention d.rows.now.attention c.in_ok-attention.ensures.edits d.over.attention_is;
+      attention = noted nat_cmp c.in_ok-marks.marks.attention.items d.attention d.rows.now.attention c.in_ok-marks.ensures.attention d.over.attention_is;
     })
 
 pub returns-clause-noted : goal.returns-clause-noted
 returns-clause-noted c =
     let d = c.args.edited in record {
       patches = c.in_ok-patches.ensures ∙ ap (λ n. puts_after n d.patches.items) (c.len.ensures ∙ d.rows.now.patches.ok.0);
-      votes = c.in_ok-votes.ensures.edits;
-      roles = c.in_ok-roles.ensures.edits;
+      votes = c.in_ok-marks.ensures.votes;
+      roles = c.in_ok-marks.ensures.roles;
       comments = c.in_ok-comments.ensures ∙ ap (λ n. puts_after n d.comments.items) (c.len-2.ensures ∙ d.rows.now.comments.ok.0);
-      attention = c.in_ok-attention.ensures.edits;
+      attention = c.in_ok-marks.ensures.attention;
     }
 
 pub returns-clause-once : goal.returns-clause-once
 returns-clause-once c = record {
   patches = subst (NamesOnce nat_cmp) (sym c.in_ok-patches.ensures) (numbers_once c.len.result c.args.edited.patches.items);
-  votes = c.in_ok-votes.ensures.once;
-  roles = c.in_ok-roles.ensures.once;
+  votes = c.in_ok-marks.ensures.votes_once;
+  roles = c.in_ok-marks.ensures.roles_once;
   comments = subst (NamesOnce nat_cmp) (sym c.in_ok-comments.ensures) (numbers_once c.len-2.result c.args.edited.comments.items);
-  attention = c.in_ok-attention.ensures.once;
+  attention = c.in_ok-marks.ensures.attention_once;
 }

@@ -16,7 +16,7 @@ returns-in-Some-clause-decided c = λ reading h room known l.
 pub next_change-change-requires : goal.next_change-change-requires
 next_change-change-requires c =
     let a = c.args in
-    subst (λ n. is_within most_changes (n + 1) ≡ true) (sym c.number.ensures)
+    subst (λ n. is_within most_changes (n + 1) ≡ true) (sym c.last_change.ensures)
     (change_within _ (number_left (option_copied a.effective) a.rows.now a.caller a.new.now (sym c.in_ok-refusal.ensures ∙ c.in_default.is)))
 
 pub returns-clause-decided : goal.returns-clause-decided
@@ -24,7 +24,7 @@ returns-clause-decided c = λ reading h room known l.
     let a = c.args in
     let command = CreateChange a.new.now in
     let passes = create_change_told reading h a.caller (option_copied a.effective) a.rows.now c.one_effective_file.ensures a.new.now known l ∙ (sym c.in_ok-refusal.ensures ∙ c.in_default.is) in
-    let number = c.next_change-change.ensures ∙ ap (λ k. k + 1) (c.number.ensures ∙ last_change_told reading h a.rows.now l.agree (asked_beside h a.caller command a.rows.now l).1.0) in
+    let number = c.next_change-change.ensures ∙ ap (λ k. k + 1) (c.last_change.ensures ∙ last_change_told reading h a.rows.now l.agree (asked_beside h a.caller command a.rows.now l).1.0) in
     let request : c.next_request-request.result ≡ length h + 1 = c.next_request-request.ensures ∙ request_is reading h a.caller command (option_copied a.effective) a.rows.now room l in
     create_decided reading h a.caller a.new.now c.next_change-change.result c.patch_of-patch.result (begun a.new.now a.caller c.next_request-request.result) c.in_ok-edit.edit c.in_ok-delta.delta
     passes number c.patch_of-patch.ensures (λ i. begun a.new.now a.caller (request i)) c.in_ok-edit.ensures.change c.in_ok-edit.ensures.becomes
@@ -36,8 +36,8 @@ returns-clause-once c = c.in_ok-delta.ensures.once c.in_ok-edit.ensures.once
 pub returns-clause-stored : goal.returns-clause-stored
 returns-clause-stored c =
     let a = c.args in
-    stored_numbers c.next_change-change.result c.number.result c.patch_of-patch.result c.next_change-change.ensures
-    (subst (λ n. is_within most_changes (n + 1) ≡ true) (sym c.number.ensures)
+    stored_numbers c.next_change-change.result c.last_change.result c.patch_of-patch.result c.next_change-change.ensures
+    (subst (λ n. is_within most_changes (n + 1) ≡ true) (sym c.last_change.ensures)
     (change_within _ (number_left (option_copied a.effective) a.rows.now a.caller a.new.now (sym c.in_ok-refusal.ensures ∙ c.in_default.is))))
     c.patch_of-patch.ensures
 

@@ -8,8 +8,8 @@ returns-in_default c =
     c.new.ensures.items ∙ (sym (no_line c.args.rows.now c.loop-left.left)
     ∙ (ap (λ p. next_of c.args.rows.now (line_steps c.args.rows.now c.loop-left.left (option_copied p))) (sym c.in_default.is) ∙ c.loop-left.invariant))
 
-pub loop-left-preserved-else-not-knows-4 : goal.loop-left-preserved-else-not-knows-4
-loop-left-preserved-else-not-knows-4 c =
+pub loop-left-preserved : goal.loop-left-preserved
+loop-left-preserved c =
     let rows = c.args.rows.now in
     let left = c.loop-left.left in
     let parent = option_copied c.parent_in-project.result in

@@ -5,11 +5,11 @@ pub returns : goal.returns
 returns c =
     let a = c.args in
     let old = a.old.now in
-    turned a.edit old (renewed old (record { header = a.edit.header; patches = c.in_ok-patches.patches; votes = c.in_ok-votes.votes; roles = c.in_ok-roles.roles; comments = c.in_ok-comments.comments; attention = c.in_ok-attention.attention })) (record {
+    turned a.edit old (renewed old (record { header = a.edit.header; patches = c.in_ok-patches.patches; votes = c.in_ok-marks.marks.votes; roles = c.in_ok-marks.marks.roles; comments = c.in_ok-comments.comments; attention = c.in_ok-marks.marks.attention })) (record {
       header = refl;
       patches = c.in_ok-patches.ensures;
-      votes = c.in_ok-votes.ensures;
-      roles = c.in_ok-roles.ensures;
+      votes = c.in_ok-marks.ensures.votes;
+      roles = c.in_ok-marks.ensures.roles;
       comments = c.in_ok-comments.ensures;
-      attention = c.in_ok-attention.ensures;
+      attention = c.in_ok-marks.ensures.attention;
     })

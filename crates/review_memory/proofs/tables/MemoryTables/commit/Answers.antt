@@ -10,9 +10,9 @@ returns-clause-sound c = sound_beside c.commit_beside.new.self c.give_up.new.sel
 
 pub returns-clause-done : goal.returns-clause-done
 returns-clause-done c =
-    all_committed c.args.delta c.args.kept c.in_ok-lower.lower.items c.args.self.now c.commit_beside.new.self c.give_up.new.self c.in_ok-lower.ensures c.in_ok-commit_beside.ensures.done c.give_up.ensures.rest
+    all_committed c.args.delta c.args.kept c.in-Ok.lower.items c.args.self.now c.commit_beside.new.self c.give_up.new.self c.in-Ok.ensures c.in_ok-commit_beside.ensures.done c.give_up.ensures.rest
     (λ q. c.give_up.ensures.answers q ∙ ap (λ (ks : List AnswerKey). cond (is_among ks q) None (row_in answer_cmp (rows_of c.commit_beside.new.self.answers) q)) c.deref.ensures.value)
 
 pub returns-in_err-commit_beside-clause-same : goal.returns-in_err-commit_beside-clause-same
 returns-in_err-commit_beside-clause-same c =
-    on_err c.from_residual-in_err-commit_beside.result (tables_of (desk_of c.commit_beside.new.self) ≡ tables_of (desk_of c.args.self.now)) c.in_err-commit_beside.ensures.same
+    on_err c.from_residual.result (tables_of (desk_of c.commit_beside.new.self) ≡ tables_of (desk_of c.args.self.now)) c.in_err-commit_beside.ensures.same

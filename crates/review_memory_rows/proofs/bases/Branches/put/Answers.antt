@@ -17,26 +17,17 @@ begin-begun-requires c =
     let known : c.in_ok-changes.changes.is_listed ≡ has_commit c.in_ok-before.before base.row = c.in_ok-changes.ensures.stood ∙ c.has_commit-is_listed.ensures in
     ap (row_in commit_cmp (rows_of c.self.inside.commits)) c.in_ok-changes.ensures.listed ∙ (stands ∙ ap (λ b. cond b (Some tt) None) (sym known))
 
--- the base stands at its place
-put_there : (c : goal.Joined-before-3) → WithRow place_cmp (rows_of c.self.inside.bases) c.args.base.now.key c.args.base.now.row (rows_of c.begin-begun.new.bases)
-put_there c =
-    subst (λ (p : Put PlaceKey (List ℕ)). WithRow place_cmp (rows_of c.self.inside.bases) p.key p.row (rows_of c.begin-begun.new.bases)) c.in_ok-placed.ensures c.in-Ok.ensures.placed
-
--- the last place is the greater of what it was and that of the base
-greater : (c : goal.Joined-before-3) → IsGreater (last_in (rows_of c.self.inside.lasts) c.args.base.now.key.project c.args.base.now.key.branch) c.args.base.now.key.place c.max-last.result
-greater c =
-    let base = c.args.base.now in
-    let was = c.last_place-ended.result in
-    let same : last_in (rows_of c.self.inside.lasts) base.key.project base.key.branch ≡ was =
-    last_unique (rows_of c.self.inside.bases) base.key.project base.key.branch (last_in (rows_of c.self.inside.lasts) base.key.project base.key.branch) was (c.self.invariant.1 base.key.project base.key.branch)
-    (subst (λ (v : BranchesView). IsLastPlace v.bases base.key.project base.key.branch was) (sym c.self.view_is)
-    (subst (λ (k : BranchKey). IsLastPlace c.args.self.now.bases k.project k.branch was) c.in_ok-branch.ensures c.last_place-ended.ensures)) in
-    subst (λ n. IsGreater n base.key.place c.max-last.result) (sym same) (greater_of was base.key.place c.max-last.result c.max-last.ensures)
-
 pub invariant_of-self : goal.invariant_of-self
 invariant_of-self c =
     let base = c.args.base.now in
     let last = c.max-last.result in
+    let ended_at = c.last_place-ended.result in
+    let same : last_in (rows_of c.self.inside.lasts) base.key.project base.key.branch ≡ ended_at =
+    last_unique (rows_of c.self.inside.bases) base.key.project base.key.branch (last_in (rows_of c.self.inside.lasts) base.key.project base.key.branch) ended_at (c.self.invariant.1 base.key.project base.key.branch)
+    (subst (λ (v : BranchesView). IsLastPlace v.bases base.key.project base.key.branch ended_at) (sym c.self.view_is)
+    (subst (λ (k : BranchKey). IsLastPlace c.args.self.now.bases k.project k.branch ended_at) c.in_ok-branch.ensures c.last_place-ended.ensures)) in
+    let greater : IsGreater (last_in (rows_of c.self.inside.lasts) base.key.project base.key.branch) base.key.place last =
+    subst (λ n. IsGreater n base.key.place last) (sym same) (greater_of ended_at base.key.place last c.max-last.ensures) in
     let listed : WithRow commit_cmp (rows_of c.self.inside.commits) (commit_at base.key base.row) tt (rows_of c.begin-begun.new.commits) =
     subst (λ (k : CommitKey). WithRow commit_cmp (rows_of c.self.inside.commits) k tt (rows_of c.begin-begun.new.commits)) c.in_ok-changes.ensures.listed c.in-Ok.ensures.listed in
     let ended : WithRow branch_cmp (rows_of c.self.inside.lasts) (record { project = base.key.project; branch = base.key.branch }) last (rows_of c.apply.new.self) =
@@ -48,14 +39,14 @@ invariant_of-self c =
     let spare = c.begin-begun.ensures.spare c.self.invariant.2 in (
       listed_more base c.in_ok-before.before (rows_of c.self.inside.commits) (rows_of c.begin-begun.new.commits) (rows_of c.drop_stale.new.commits) (rows_of c.self.inside.bases) (rows_of c.begin-begun.new.bases)
           (record {
-            fits = let g = greater c in let h = g.1 in omega arith;
+            fits = let h = greater.1 in omega arith;
             all = c.self.invariant.0;
             was = c.in_ok-before.ensures ∙ ap (λ (v : BranchesView). option_map (commit_at base.key) (row_in place_cmp v.bases base.key)) (sym c.self.view_is);
             listed = listed;
             dropped = c.drop_stale.ensures.rows;
-            put = put_there c;
+            put = c.in-Ok.ensures.placed;
           }),
-      last_more base last (rows_of c.self.inside.lasts) (rows_of c.apply.new.self) (rows_of c.self.inside.bases) (rows_of c.begin-begun.new.bases) c.self.invariant.1 (greater c) ended (put_there c),
+      last_more base last (rows_of c.self.inside.lasts) (rows_of c.apply.new.self) (rows_of c.self.inside.bases) (rows_of c.begin-begun.new.bases) c.self.invariant.1 greater ended c.in-Ok.ensures.placed,
       record {
         bases_full = spare.bases_full;
         commits_full = c.drop_stale.ensures.full spare.commits_full;
@@ -83,7 +74,7 @@ returns-in-Ok-clause-put c =
     (λ q. c.apply-in-Ok.ensures.all c.in-Ok.ensures.counted q ∙ (λ i. changed (slice_cmp nat_cmp) (c.in_ok-changes.ensures.counted i) q (row_in (slice_cmp nat_cmp) (c.begin-begun.ensures.totals i) q))) in
     subst (λ (v : BranchesView). IsPut base v (record { bases = rows_of c.begin-begun.new.bases; totals = after })) c.self.view_is
     (record {
-      bases = put_there c;
+      bases = c.in-Ok.ensures.placed;
       totals = total_more base known total totals after
           (total_is known c.is_some-known.result c.total.result c.from.result (total_in totals base.key.project)
           (c.is_some-known.ensures ∙ ap is_some c.in_ok-before.ensures ∙ some_mapped (commit_at base.key) (row_in place_cmp c.args.self.now.bases base.key)

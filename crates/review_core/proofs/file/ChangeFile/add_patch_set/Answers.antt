@@ -11,7 +11,7 @@ use Rattle.review_core_tables.proofs.Copied.{votes_carried, lost_is, many_copied
 use Rattle.review_core_tables.specs.Copies.{copies_by, group_list, has_lost, with_groups}
 use Rattle.review_core_tables.specs.{Tables.put_in, declared.attention.Who.Who}
 use Rattle.review_core.proofs.Fitting.{next_free}
-use Rattle.review_core.proofs.file.ChangeFile.with_patch_set.Goals as goal
+use Rattle.review_core.proofs.file.ChangeFile.add_patch_set.Goals as goal
 
 -- who sent the last patch set is who sent the one that was added
 last_pushed : (before : ℕ) (ps : List PatchRow) (p : PatchRow) → last_uploader before (ps ++ p ∷ []) ≡ p.uploader
@@ -25,7 +25,7 @@ pub next_patch-next-requires : goal.next_patch-next-requires
 next_patch-next-requires c =
     let ps = c.args.self.now.rows.now.patches.items in
     let n : c.current_patch-now.result ≡ length ps = c.current_patch-now.ensures ∙ ap length c.deref.ensures.value in
-    subst (λ k. is_within most_patches (k + 1) ≡ true) (sym n) (within_next (length ps) most_patches c.requires)
+    subst (λ k. is_within most_patches (k + 1) ≡ true) (sym n) (within_next (length ps) most_patches c.requires.fitting)
 
 pub returns : goal.returns
 returns c =
@@ -53,17 +53,17 @@ returns c =
     let parted = c.in_ok-parted.ensures.parted in
     let former : c.last_uploader-former.result ≡ last_uploader owner ps = c.last_uploader-former.ensures ∙ ap (last_uploader owner) c.deref-2.ensures.value in
     let row : PatchRow = record { commit = p.commit; parent = p.parent; kind = p.kind; uploader = caller; paths = p.paths } in
-    let unedited = c.in_ok-edited.ensures.unedited in
-    let same = c.in_ok-edited.ensures.same in
+    let unedited = c.requires.unedited in
+    let same = c.requires.same in
     let pushed = c.in_ok-push.ensures.items ∙ (λ i. unedited.patches i ++ c.sent_by.ensures i ∷ []) in
     let whole : Who = record { owner = owner; uploader = last_uploader owner (ps ++ row ∷ []); caller = caller; wip = rows.header.wip } in
     let told : Who = record { owner = owner; uploader = caller; caller = caller; wip = rows.header.wip } in
     let who : told ≡ whole = λ i. record whole { uploader = sym (last_pushed owner ps row) i } in
     record {
       change = record {
-        over = ap (λ b. b.now) c.in_ok-edited.ensures.rows;
+        over = ap (λ b. b.now) c.requires.over;
         made = λ i. record (same i) {
-          patches = (c.in_ok-edited.ensures.rows i).now.patches.items ++ pushed i;
+          patches = (c.requires.over i).now.patches.items ++ pushed i;
           vote = λ k l u. (votes_carried F c.current_patch-now.result c.next_patch-next.result rows.votes (edited_row vote_cmp c.put_all.new.votes) sorted (λ l2 u2. ap (λ x. vote_in rows.votes x l2 u2) next ∙ next_free (seen rows) c.args.self.now.sound l2 u2)
               (λ q. c.in_ok-put_all.ensures.votes q ∙ (λ j. put_in vote_cmp (parted.copied j) q (unedited.votes q j))) k l u
               ∙ (λ j. if next j == k then (if copies_by file (facts j) l u (vote_in rows.votes (n j) l u) then vote_in rows.votes (n j) l u else pos 0) else vote_in rows.votes k l u)) i;
@@ -80,7 +80,7 @@ returns c =
               else None)
               c.args.request)) i;
         };
-        sound = c.stays_sound.ensures (copying s (Upload p) caller (seen rows)) (Upload p) caller c.args.request (seen rows) c.args.self.now.sound c.requires;
+        sound = c.stays_sound.ensures (copying s (Upload p) caller (seen rows)) (Upload p) caller c.args.request (seen rows) c.args.self.now.sound c.requires.fitting;
       };
       copied =
           many_copied F c.current_patch-now.result c.next_patch-next.result rows.votes sorted _

@@ -1,7 +1,7 @@
 use Rattle.std.proofs.Common.{◌∷◌, [], sym, subst, arith}
 use Rattle.std.{proofs.lemmas.List.Elements.All-append, proofs.lemmas.List.Elements.All-cons, specs.List.All}
 use Rattle.review_core_tables.{proofs.Compiled.next_label, specs.Conditions.IsCompiled}
-use Rattle.review_core_tables.proofs.copying.all_compiled.Goals as goal
+use Rattle.review_core_tables.proofs.copying.compile_all.Goals as goal
 
 pub loop-label-preserved : goal.loop-label-preserved
 loop-label-preserved c = (
