@@ -7,7 +7,6 @@ from __future__ import annotations
 import contextlib
 import json
 import os
-import resource
 import sqlite3
 import subprocess
 import sys
@@ -207,9 +206,11 @@ def a_desk_that_cannot_be_opened_comes_back(team: AttackedTeam) -> None:
         "--closing",
         "20261201",
     ]
-    ran = subprocess.run(pack, capture_output=True, text=True, check=False)
-    most = resource.getrusage(resource.RUSAGE_CHILDREN).ru_maxrss >> 10
-    check(ran.returncode == 0, "it doesn't come back", ran.stdout, ran.stderr)
+    with subprocess.Popen(pack, stdout=subprocess.PIPE, stderr=subprocess.STDOUT, text=True) as ran:
+        said = ran.stdout.read() if ran.stdout else ""
+        _, status, usage = os.wait4(ran.pid, 0)
+        ran.returncode, most = os.waitstatus_to_exitcode(status), usage.ru_maxrss >> 10
+    check(ran.returncode == 0, "it doesn't come back", said)
     check(needed(new) < 20 << 20, "what was kept isn't given back", needed(new))
     check(most < 120, "it takes as much memory as an opening", most)
     close = (
@@ -245,7 +246,7 @@ def a_desk_that_cannot_be_opened_comes_back(team: AttackedTeam) -> None:
     check(told(new) == told(small), "it isn't what CloseEpoch makes", told(new), told(small))
     print(
         f"a_desk_that_cannot_be_opened_comes_back: {size >> 20} MB kept, given back with at most "
-        f"{most} MB by any program of this script"
+        f"{most} MB of memory"
     )
 
 
