@@ -78,6 +78,7 @@ class Paged(Proxied):
             write(read(EXAMPLES, part, name).replace("FOLDER", self.folder), self.folder, place, name)
         write(json.dumps({"desk_port": self.desk_port, "project": "tools"}), self.folder, "settings.json")
         subprocess.run(["git", "init", "--quiet", "--bare", "--initial-branch=main", self.repository], check=True)
+        subprocess.run(["git", "-C", self.repository, "config", "desk.mergeContent", "true"], check=True)  # Changes 1 and 4 are of one file, and 5 conflicts in its lines.
         self.serve_code()
 
     def serve_code(self):
