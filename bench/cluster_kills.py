@@ -194,7 +194,7 @@ def compare(kills):
     at = world.settled([1, 2, 3, 4])
     world.node(5)
     world.settled([1, 2, 3, 4, 5], patience(at["position"]))
-    until(lambda: world.once(1, None, "POST", "/accounts", b"{}"), "a fault, behind which the tails end")
+    until(lambda: world.once(1, "end", "POST", "/accounts", b"{}"), "a fault, behind which the tails end")
     world.settled([1, 2, 3, 4, 5])
     accepted, taken = told.accepted(), told.taken()
     same_events(world, at["position"], len(accepted))
