@@ -11,6 +11,7 @@ import time
 
 from attacked_team import check, path_of
 
+FOOTERS = b"%(contents:trailers"  # what reads messages, in the words of git for-each-ref
 LONG = "w\n" * 29_000  # nearly as long as a message may be, with many lines
 
 
@@ -58,9 +59,7 @@ def many_refs(team):
 
 def long_messages(team):
     """Thousands of patch sets with long messages make no push slower: nobody reads them all."""
-    before, _ = min(
-        timed(team.change, "ann", {"before": f"{at}\n"}, f"Before {at}") for at in range(3)
-    )
+    team.change("ann", {"before": "it\n"}, "Before")
     tip, lines = team.tip(), []
     for number in range(100_001, 103_001):
         message = f"Long {number}\n\n{LONG}\nChange-Id: I{number:040x}\n"
@@ -69,21 +68,11 @@ def long_messages(team):
             f"committer m <m@localhost> 1700000000 +0000\n"
             f"data {len(message)}\n{message}from {tip}\n\n"
         )
-    team.git(
-        "admin",
-        "-C",
-        team.repository,
-        "-c",
-        "fastimport.unpackLimit=1",
-        "fast-import",
-        "--quiet",
-        "--force",
-        sent="".join(lines),
-    )
-    after, _ = min(
-        timed(team.change, "ann", {"after": f"{at}\n"}, f"After {at}") for at in range(3)
-    )
-    check(after < 2 * before + 1, "long messages make a push slower", before, after)
+    words = ["-C", team.repository, "-c", "fastimport.unpackLimit=1", "fast-import", "--quiet"]
+    team.git("admin", *words, sent="".join(lines))
+    for at in range(3):
+        most, *_ = watched(team, FOOTERS, team.change, "ann", {"after": f"{at}\n"}, f"After {at}")
+        check(most == 0, "a push reads the messages of all patch sets", at)
 
 
 def processes(team, word):
@@ -96,7 +85,7 @@ def processes(team, word):
                 words = file.read().split(b"\0")
             if (
                 words[0].endswith(b"git")
-                and word in words
+                and any(it == word or word == FOOTERS and FOOTERS in it for it in words)
                 and os.readlink(os.path.join(place, "cwd")).startswith(
                     os.path.realpath(team.repository)
                 )
