@@ -16,6 +16,14 @@ from attacks_kept import REFUSED, said_at_length
 from attacked_team import TEAM, AttackedTeam, check, new_id
 from desk_proxied import EXAMPLES
 
+# Runs a program from a small process, since what a large one had counts as its child's memory.
+MEASURED = """
+import resource, subprocess, sys
+status = subprocess.call(sys.argv[1:])
+print(resource.getrusage(resource.RUSAGE_CHILDREN).ru_maxrss >> 10, file=sys.stderr)
+sys.exit(status)
+"""
+
 
 def days_are_closed(team: AttackedTeam) -> None:
     """Closed epochs give back what was kept; hook, page, commands and follower go on across it,
@@ -206,11 +214,9 @@ def a_desk_that_cannot_be_opened_comes_back(team: AttackedTeam) -> None:
         "--closing",
         "20261201",
     ]
-    with subprocess.Popen(pack, stdout=subprocess.PIPE, stderr=subprocess.STDOUT, text=True) as ran:
-        said = ran.stdout.read() if ran.stdout else ""
-        _, status, usage = os.wait4(ran.pid, 0)
-        ran.returncode, most = os.waitstatus_to_exitcode(status), usage.ru_maxrss >> 10
-    check(ran.returncode == 0, "it doesn't come back", said)
+    ran = subprocess.run([sys.executable, "-c", MEASURED, *pack], capture_output=True, text=True)
+    check(ran.returncode == 0, "it doesn't come back", ran.stdout, ran.stderr)
+    most = int(ran.stderr.split()[-1])
     check(needed(new) < 20 << 20, "what was kept isn't given back", needed(new))
     check(most < 120, "it takes as much memory as an opening", most)
     close = (
